@@ -1,5 +1,5 @@
 #!/usr/bin/env bash
-# Plays the check of sheets and declarations against ballots, by the program that needs no office.
+# Plays the check of sheets and declarations against ballots, and the count of ballots, by the program that needs no office.
 # shellcheck source=examples/play.bash
 source "$(dirname "$(readlink -f "${BASH_SOURCE[0]}")")/play.bash"
 
@@ -27,6 +27,14 @@ play_ballots() {
     echo "changed ballots: $*"
     sed "$@" "$folder/ballots.txt" >"$folder/changed.txt"
     play - check changed.txt sheet.txt
+}
+
+# Plays an order whose standard input is a file.
+play_input() {
+    local file=$1
+    shift
+    echo "standard input: $file"
+    play "$@" <"$folder/$file"
 }
 
 {
@@ -78,9 +86,43 @@ play_ballots() {
     play - check missing.txt sheet.txt
     play - check ballots.txt "$folder"
 
+    # ballots counted: each text, a lot that is needed, and lots that are added
+    play - count --help
+    play - count ballots.txt
+    play - count ballots.txt --declaration
+    play - count --table ballots.txt
+    play - count ballots.txt --ballots
+    play - count tied.txt
+    play - count tied.txt --declaration
+    play - count tied.txt --lot 2:3
+    play - count tied.txt --lot 2:3 --declaration
+    play - count tied.txt --lot 2:3 --ballots
+    (cd "$folder" && "$office" - count tied.txt --lot 2:3 --page --title 'Spring <1>' | grep -e '<title>' -e '"title"' -e Declared -e '<li>')
+    play_input tied.txt - count - --lot 2:2 --declaration
+    play_input sheet.txt - check ballots.txt -
+
+    # what can't be counted
+    play - count tied.txt --lot 2:1
+    play - count tied.txt --lot 2:3 --lot 3:2
+    play - count tied.txt --lot 2:3 --lot 2:3
+    sed '3s/1 3/1 1/' "$folder/ballots.txt" >"$folder/changed.txt"
+    play - count changed.txt
+    play - count sheet.txt
+    play - count missing.txt
+    play - count
+    play - count tied.txt sheet.txt
+    play - count tied.txt --lots
+    play - count tied.txt --page --table
+    play - count tied.txt --lot
+    play - count tied.txt --lot 2
+    play - count tied.txt --lot 2:256
+    play - count tied.txt --title Spring
+
     # an output that fails
     play_full - check ballots.txt sheet.txt
     play_full - check --help
+    play_full - count ballots.txt
+    play_full - count tied.txt
 } >"$folder/played"
 sed -i "s|$folder|FOLDER|" "$folder/played"
 

@@ -1,5 +1,6 @@
 #!/usr/bin/env bash
-# Plays clerks' codes: a new file of them, files that aren't taken, and who is let in over HTTP, beside wrong codes too.
+# Plays clerks' codes, and the office's: a new file of them, files that aren't taken, and who is let in over HTTP, beside wrong codes
+# too; and orders of the officer's console.
 # shellcheck source=examples/play.bash
 source "$(dirname "$(readlink -f "${BASH_SOURCE[0]}")")/play.bash"
 
@@ -24,9 +25,9 @@ look() {
     echo
 }
 
-# Serves with codes, until the commands of a function have been played.
+# Serves with codes, until the commands of these functions have been played.
 serve() {
-    local server tries=0
+    local server tries=0 played
     (cd "$folder" && exec "$office" town.db serve "$port" --codes codes.txt) &
     server=$!
     until (exec 3<>"/dev/tcp/127.0.0.1/$port") 2>/dev/null; do
@@ -34,7 +35,7 @@ serve() {
         [[ $tries -lt 200 ]] || { echo "no office answers on port $port"; return 1; }
         sleep 0.05
     done
-    "$1"
+    for played in "$@"; do "$played"; done
     kill -KILL "$server"
     wait "$server" 2>/dev/null || true
 }
@@ -57,6 +58,8 @@ let_in() {
     ask /clerks/4/work -u 4:KF7M-2WXT
     ask /clerks/4/work -u 9:w3hd-4psn
     ask /clerks/9/work -u 4:kf7m-2wxt
+    ask /clerks/4/work -u office:h4dn-p3cs-kf7m-2wxt
+    ask /clerks/4/work -u 4:h4dn-p3cs-kf7m-2wxt
     ask /clerks/4/batches/12/candidates -u 4:kf7m-2wxt
     ask /clerks/4/batches/13/candidates -u 4:kf7m-2wxt
     ask /clerks/4/batches/12/keying -d "$keyed"
@@ -74,6 +77,37 @@ let_in() {
     for try in {1..40}; do curl --silent -u "9:wrong-$try-code" "http://127.0.0.1:$port/clerks/9/work" >/dev/null; done
     # the right one is accepted all the same
     ask /clerks/9/work -u 9:w3hd-4psn
+}
+
+# Has the office do an order, as its console does.
+order() {
+    ask /office/orders -u office:h4dn-p3cs-kf7m-2wxt -d "$1"
+}
+
+at_console() {
+    ask /office/orders -d '{"files":{},"words":["wards"]}'
+    ask /office/orders -u 4:kf7m-2wxt -d '{"files":{},"words":["wards"]}'
+    order '{"files":{},"words":["batch","13","7","2","4","9","--id","b2"]}'
+    # the same request, repeated, and another under its id
+    order '{"files":{},"words":["batch","13","7","2","4","9","--id","b2"]}'
+    order '{"files":{},"words":["batch","13","7","3","4","9","--id","b2"]}'
+    order '{"files":{},"words":["candidate","7","4","Di","--id","c4"]}'
+    # a script is read from what came with it, and from nothing else
+    order '{"files":{"evening.txt":"batch 14 7 2 4 9 --id b3\nbatch 15 7 2 4 9 --id b4\n"},"words":["replay","evening.txt"]}'
+    order '{"files":{},"words":["replay","codes.txt"]}'
+    order '{"files":{},"words":["no","such","order"]}' | sed 's/"errors":".*","output"/"errors":"..","output"/'
+    order '{"files":{},"words":["codes","more.txt","1-40"]}'
+    # a copy is made next to the database, under a name of its own
+    order '{"files":{},"words":["copy","evening.db"]}'
+    order '{"files":{},"words":["copy","evening.db"]}'
+    order '{"files":{},"words":["copy","../evening.db"]}'
+    order '{"words":["wards"]}'
+    ask /office/orders -u office:h4dn-p3cs-kf7m-2wxt
+    ask /office/nothing -u office:h4dn-p3cs-kf7m-2wxt
+    look /office/
+    look /office/ -u 4:kf7m-2wxt
+    look /office/ -u office:h4dn-p3cs-kf7m-2wxt
+    look /office/leave -u office:h4dn-p3cs-kf7m-2wxt
 }
 
 {
@@ -95,6 +129,10 @@ let_in() {
     sed 's/.* //' "$folder/made.txt" "$folder/second.txt" | sort | uniq -d | wc -l
     # what is there is left
     play town.db codes made.txt 1-40
+    # with a code for the office, which is longer, in a last line
+    play town.db codes office.txt 4-5 --office
+    sed 's/\(-\{0,1\}[a-z2-7]\{4\}\)\{4\}$/LONG CODE/; s/\(-\{0,1\}[a-z2-7]\{4\}\)\{3\}$/CODE/' "$folder/office.txt"
+    stat --format '%a' "$folder/office.txt"
     # it needs no database
     play nothing.db codes other.txt 4-4
     play town.db codes more.txt 40-1
@@ -110,11 +148,16 @@ let_in() {
     refuse 600 '4 kf7m-2wxt\r\n9 short\r\n'
     refuse 600 '4 kf7m-2wxt\n4 w3hd-4psn\n'
     refuse 600 '4 kf7m-2wxt\n9 kf7m-2wxt\n'
+    refuse 600 'office h4dn-p3cs-kf7m-2wxt\n4 kf7m-2wxt\noffice w3hd-4psn-kf7m-2wxt\n'
+    refuse 600 '4 kf7m-2wxt\noffice w3hd-4psn-h4dn\n'
+    refuse 600 '4 h4dn-p3cs-kf7m-2wxt\noffice h4dn-p3cs-kf7m-2wxt\n'
     play town.db serve "$port" 1 --codes missing.txt | sed "s/ $port / PORT /"
     play town.db serve "$port" 1 --codes . | sed "s/ $port / PORT /"
 
-    (umask 077 && printf '4 kf7m-2wxt\n9 w3hd-4psn\n' >"$folder/codes.txt")
-    serve let_in
+    (umask 077 && printf '4 kf7m-2wxt\n9 w3hd-4psn\noffice h4dn-p3cs-kf7m-2wxt\n' >"$folder/codes.txt")
+    serve let_in at_console
+    play evening.db batches 7
+    (cd "$folder" && printf '%s\n' ./*.db)
 } >"$folder/played" 2>&1
 
 compare codes

@@ -1,27 +1,39 @@
-//! The program `check-count`: it checks a stage sheet, or a declaration, against the ballots of its ward. It needs
-//! nothing of an office but the two texts, as `ballots` and `sheet` or `result` print them.
+//! The program `check-count`: it checks a stage sheet or a declaration against the ballots of its ward, and counts ballots. It needs
+//! nothing from an office but the texts, as printed by `ballots` and by `sheet` or `result`.
 //!
 //! ```text
 //! check-count ballots.txt sheet.txt
+//! check-count --count ballots.txt --lot 3:4
 //! ```
 //!
-//! What it prints, and the status that it ends with, is [`run`] of `checker`; here are this machine's words, files and outputs.
+//! Its output and exit status are those of [`run`] in `checker`; this crate adds only this machine's arguments, files and outputs.
 #![tactic(auto)]
 
 use checker::{ArgumentsFault, InputFiles, NotRead, run};
-use std::io::{Error, ErrorKind};
+use std::io::{Error, ErrorKind, Read};
 use std::process::ExitCode;
 use std::{env, fs};
 use streams::Counted;
 
-/// The files of this machine.
+/// The path that names standard input.
+const STANDARD_INPUT: &str = "-";
+
+/// The files of this machine, and its standard input.
 #[derive(Clone, Copy)]
 struct LocalFiles<'a> {
     rt: &'a HostRuntime,
 }
 
 impl LocalFiles<'_> {
-    /// Why a file wasn't read.
+    /// Returns the bytes of standard input, up to its end.
+    fn standard_input(&self) -> Result<Vec<u8>, Error> {
+        let mut bytes = Vec::new(self.rt.alloc());
+        let mut input = self.rt.stdin();
+        input.read_to_end(&mut bytes)?;
+        Ok(bytes)
+    }
+
+    /// Returns the reason why a file wasn't read.
     fn unread(&self, error: Error) -> NotRead {
         if error.kind() == ErrorKind::OutOfMemory {
             return NotRead::Memory;
@@ -35,14 +47,19 @@ impl LocalFiles<'_> {
 
 impl InputFiles for LocalFiles<'_> {
     fn read(&self, path: &str) -> Result<Vec<u8>, NotRead> {
-        match fs::read(self.rt, path) {
+        let read = if path == STANDARD_INPUT {
+            self.standard_input()
+        } else {
+            fs::read(self.rt, path)
+        };
+        match read {
             Ok(bytes) => Ok(bytes),
             Err(error) => Err(self.unread(error)),
         }
     }
 }
 
-/// The words behind the program's name.
+/// Returns the arguments after the program's name.
 fn words(rt: &HostRuntime) -> Result<Vec<String>, ArgumentsFault> {
     let all = match env::args(rt) {
         Ok(all) => all,

@@ -9,14 +9,14 @@ use Rattle.sheet.specs.Ballots.{lot_comment, ward_comment}
 use Rattle.sheet.specs.Entries.{SheetEntry}
 use Rattle.sheet.specs.Lines.{line}
 use Rattle.sheet.specs.Sheet.{rejected_line}
-use Rattle.checker.specs.Comments.{Remarks, count_in, is_drawn, rejected_in, small_in, with_comment, with_words}
+use Rattle.checker.specs.BallotsComments.{Remarks, count_in, is_drawn, rejected_counts_in, small_in, with_comment, with_words}
 use Rattle.checker.specs.Papers.{PapersEntry}
 use Rattle.checker.specs.Tokens.{Text, kind_of, parts, piece, pieces_of}
-use Rattle.checker.specs.ReadingBack.{AreOnce, AreSmall}
+use Rattle.checker.specs.BallotsRoundTrip.{AreOnce, AreSmall}
 use Rattle.checker.specs.Reading.{Named}
 use Rattle.checker.specs.declared.tokens.LineKind.TheVariants.{Comment}
 use Rattle.checker.specs.declared.tokens.Separator.TheVariants.{Mark}
-use Rattle.checker.specs.declared.state.NextLine.TheVariants as place
+use Rattle.checker.specs.declared.file_content.NextLine.TheVariants as place
 use Rattle.checker.proofs.LineLaws.{Reads, cut_piece, figure_other, figure_unblank, is_figure, last_piece, none_of, or_both, or_none, reads-line, reads-nothing, reads-then}
 use Rattle.checker.proofs.NumberLaws.{decimal_figures, number_back}
 use Rattle.checker.proofs.PaperLaws.{state}
@@ -82,7 +82,7 @@ abbrev rejected_words : ℕ → ℕ → ℕ → ℕ → ℕ → List Text
 rejected_words a b c d e =
     codes "1" ∷ decimal a ∷ codes "2" ∷ decimal b ∷ codes "3" ∷ decimal c ∷ codes "4" ∷ decimal d ∷ codes "5" ∷ decimal e ∷ []
 
--- how many papers each code may have
+-- how many papers each code can have
 pub record AreCounts (a b c d e : ℕ) : Type 0 where
   pub first : a ≤ 4294967295
   pub second : b ≤ 4294967295
@@ -99,7 +99,7 @@ rejected_pieces a b c d e few =
     (next_code d 53 _ few.fourth refl ∙ ap (λ ps. decimal d ∷ codes "5" ∷ ps)
     (ap (pieces_of Mark []) (append-nil (decimal e)) ∙ number_ends e (omega (arith, few.fifth)))))))
 
-rejected_back : (a b c d e : ℕ) → AreCounts a b c d e → rejected_in (rejected_words a b c d e) ≡ Some (a ∷ b ∷ c ∷ d ∷ e ∷ [])
+rejected_back : (a b c d e : ℕ) → AreCounts a b c d e → rejected_counts_in (rejected_words a b c d e) ≡ Some (a ∷ b ∷ c ∷ d ∷ e ∷ [])
 rejected_back a b c d e few = rw (count_back a few.first, count_back b few.second, count_back c few.third, count_back d few.fourth, count_back e few.fifth) refl
 
 part_unended : (n : ℕ) (rest : Text) → n ≤ 4294967295 → list_any (λ b. b == 10) rest ≡ false → list_any (λ b. b == 10) (decimal n ++ rest) ≡ false

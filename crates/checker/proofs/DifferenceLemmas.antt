@@ -8,31 +8,31 @@ use Rattle.std.proofs.lemmas.List.{at_drop_more, drop_at, get_or_at, take_at}
 use Rattle.std.proofs.lemmas.Str.{IsCharBoundary-after_ascii, IsUtf8-drop, IsUtf8-nil, IsUtf8-take}
 use Rattle.checker.specs.Differences.{behind_lines, common, first_line}
 
--- a line more is passed
+-- one more line is skipped
 pub line_passed : (left : ℕ) (text : List ℕ) (i : ℕ) → (left ≡ 0 → ⊥) → i < length text → get_or text i 0 ≡ 10 → behind_lines left (drop i text) ≡ behind_lines (left - 1) (drop (i + 1) text)
 line_passed zero text i some here is = absurd (some refl)
 line_passed (suc left) text i some here is =
     let less : suc left - 1 ≡ left = omega arith in
     at_drop_more (behind_lines (suc left)) text i 0 here ∙ rw (eq-eqb _ _ is, less) refl
 
--- a byte more of it is
+-- one more byte of it is
 pub byte_passed : (left : ℕ) (text : List ℕ) (i : ℕ) → (left ≡ 0 → ⊥) → i < length text → (get_or text i 0 ≡ 10 → ⊥) → behind_lines left (drop i text) ≡ behind_lines left (drop (i + 1) text)
 byte_passed zero text i some here other = absurd (some refl)
 byte_passed (suc left) text i some here other = at_drop_more (behind_lines (suc left)) text i 0 here ∙ rw (ne_eqb _ _ other) refl
 
--- nothing stands behind the end
+-- nothing follows the end
 pub none_behind : (left : ℕ) → behind_lines left [] ≡ []
 none_behind zero = refl
 none_behind (suc left) = refl
 
--- nothing is shared with nothing
+-- an empty text shares nothing
 pub none_common : (text : List ℕ) → common text [] ≡ []
 none_common [] = refl
 none_common (a ∷ text) = refl
 
--- ---- the lines of a text are text
+-- ---- the lines of a text are UTF-8
 
--- a text with a line that is ended
+-- a text with a terminated line
 record Ended (text : List ℕ) : Type 0 where
   front : List ℕ
   rest : List ℕ
@@ -90,6 +90,6 @@ first_text text utf8 = by (ended_or text)
     by (inl line) = subst IsUtf8 (sym line.first) (front_text line.front line.rest (subst IsUtf8 line.is utf8))
     by (inr none) = subst IsUtf8 (sym none.first) utf8
 
--- a line of a text is text
+-- a line of a text is UTF-8
 pub line_text : (n : ℕ) (text : List ℕ) → IsUtf8 text → IsUtf8 (first_line (behind_lines n text))
 line_text n text utf8 = first_text (behind_lines n text) (behind_text n text utf8)

@@ -1,4 +1,4 @@
--- What stands above the names is read back: the sizes, the withdrawn candidates, and the papers.
+-- Everything before the names is read back: the sizes, the withdrawn candidates, and the papers.
 use Rattle.std.proofs.Common.{◌≡◌, ◌∙◌, ℕ, ◌+◌, ◌≤◌, List, [], ◌∷◌, ◌++◌, Bool, false, length, map, refl, sym, ap, subst, arith, append_assoc, append-nil, length-append, Ok}
 use Rattle.std.specs.Prelude.{codes, replicate}
 use Rattle.std.specs.Fmt.{decimal}
@@ -10,24 +10,24 @@ use Rattle.std.specs.Cmp.Lexicographic.{nat_list_cmp_total}
 use Rattle.std.proofs.lemmas.Bool.{ne_eqb}
 use Rattle.std.proofs.lemmas.Grind.{flat_map-append}
 use Rattle.std.proofs.lemmas.List.{length-replicate, take_at}
-use Rattle.paper.specs.Columns.{IsColumnSet, max_candidates}
+use Rattle.paper.specs.Columns.{IsCandidateSet, max_candidates}
 use Rattle.paper.proofs.ColumnSets.{with_column-last}
 use Rattle.votes.specs.Units.{max_papers, max_seats}
 use Rattle.count.specs.Bundles.{Bundle, list_cmp, papers_of, with_papers}
 use Rattle.count.proofs.ColumnLemmas.{columns-take}
 use Rattle.sheet.specs.Ballots.{bundle_line, end_line, withdrawn_line, withdrawn_number}
 use Rattle.sheet.specs.Lines.{line}
-use Rattle.checker.specs.Comments.{Remarks}
+use Rattle.checker.specs.BallotsComments.{Remarks}
 use Rattle.checker.specs.Outcomes.{and_then}
 use Rattle.checker.specs.Papers.{with_size, with_withdrawn, withdrawn_from}
 use Rattle.checker.specs.Tokens.{Text}
 use Rattle.checker.specs.Reading.{Named, nothing_told, with_size_line, with_withdrawn_line}
-use Rattle.checker.specs.declared.state.NextLine.TheVariants as place
+use Rattle.checker.specs.declared.file_content.NextLine.TheVariants as place
 use Rattle.checker.proofs.LineLaws.{AreFigures, IsFigures, Reads, and_both, is_figure, line_numbers, reads-nothing, reads-then, spaced}
 use Rattle.checker.proofs.NumberLaws.{candidate_back, decimal_figures, number_back}
 use Rattle.checker.proofs.PaperLaws.{CanStand, among_papers, bundle_reads, number_line, papers_at, state, told}
 
--- ---- bundles, one after the other
+-- ---- bundles in order
 
 abbrev lists_of : List Bundle → List (List ℕ)
 lists_of bundles = map (λ (b : Bundle). b.0) bundles
@@ -103,12 +103,12 @@ size_reads h s bound some few =
 abbrev minus_word : ℕ → Text
 minus_word c = 45 ∷ decimal c
 
-withdrawn_back : (h : ℕ) (before cs : List ℕ) → h ≤ 30 → IsColumnSet (before ++ cs) → AllByRecursion (λ c. (1 ≤ c) × (c ≤ h)) cs → withdrawn_from h before (map minus_word cs) ≡ Ok (before ++ cs)
+withdrawn_back : (h : ℕ) (before cs : List ℕ) → h ≤ 30 → IsCandidateSet (before ++ cs) → AllByRecursion (λ c. (1 ≤ c) × (c ≤ h)) cs → withdrawn_from h before (map minus_word cs) ≡ Ok (before ++ cs)
 withdrawn_back h before [] bound set low = ap Ok (sym (append-nil before))
 withdrawn_back h before (c ∷ cs) bound set low =
     let joined = append_assoc before (c ∷ []) cs in
-    let whole = subst IsColumnSet (sym joined) set in
-    let front = subst IsColumnSet (take_at (before ++ c ∷ []) cs (length (before ++ c ∷ [])) refl) (columns-take (length (before ++ c ∷ [])) ((before ++ c ∷ []) ++ cs) whole) in
+    let whole = subst IsCandidateSet (sym joined) set in
+    let front = subst IsCandidateSet (take_at (before ++ c ∷ []) cs (length (before ++ c ∷ [])) refl) (columns-take (length (before ++ c ∷ [])) ((before ++ c ∷ []) ++ cs) whole) in
     rw (candidate_back h c low.0.0 low.0.1 bound, with_column-last before c front) (withdrawn_back h (before ++ c ∷ []) cs bound whole low.1 ∙ ap Ok joined)
 
 minus_figures : (c : ℕ) → c ≤ 30 → IsFigures (minus_word c)
@@ -122,7 +122,7 @@ minus_text : (cs : List ℕ) → flat_map (withdrawn_number false) cs ++ [] ≡ 
 minus_text [] = refl
 minus_text (c ∷ cs) = append_assoc (32 ∷ minus_word c) (flat_map (withdrawn_number false) cs) [] ∙ ap (λ t. (32 ∷ minus_word c) ++ t) (minus_text cs)
 
-pub withdrawn_reads : (h s : ℕ) (cs : List ℕ) (names : Named) (remarks : Remarks) → h ≤ 30 → IsColumnSet cs → AllByRecursion (λ c. (1 ≤ c) × (c ≤ h)) cs
+pub withdrawn_reads : (h s : ℕ) (cs : List ℕ) (names : Named) (remarks : Remarks) → h ≤ 30 → IsCandidateSet cs → AllByRecursion (λ c. (1 ≤ c) × (c ≤ h)) cs
     → Reads (state place.Withdrawn (told h s [] []) names remarks) (withdrawn_line cs) (state place.Withdrawn (told h s cs []) names remarks)
 unfolding line
 withdrawn_reads h s [] names remarks bound set low = reads-nothing (state place.Withdrawn (told h s [] []) names remarks)

@@ -4,7 +4,7 @@ pub mod RankLemmas
 pub mod NameLemmas
 pub mod DifferenceLemmas
 pub mod WardLemmas
-pub mod CheckLemmas
+pub mod CountLemmas
 pub mod LineLaws
 pub mod NumberLaws
 pub mod PaperLaws

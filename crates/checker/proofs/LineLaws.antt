@@ -1,4 +1,4 @@
--- Texts that are cut into just the pieces of which they were made, and lines that are read one after the other.
+-- Texts that are split into exactly the pieces of which they were made, and lines that are read in order.
 use Rattle.std.proofs.Common.{◌≡◌, ◌∙◌, ℕ, ◌+◌, ◌<◌, ◌≤◌, ◌&&◌, ◌||◌, nat_le, Bool, true, false, List, [], ◌∷◌, ◌++◌, length, refl, sym, ap, arith, append_assoc, append-nil, Ok}
 use Rattle.std.specs.Prelude.{◌==◌}
 use Rattle.std.specs.List.{flat_map, list_all, list_any}
@@ -28,7 +28,7 @@ or_both a b h k = rw (h, k) refl
 
 -- ---- pieces
 
--- a piece ends at the first byte that parts
+-- a piece ends at the first separator
 pub cut_piece : (s : Separator) (begun body : Text) (b : ℕ) (rest : Text) → list_any (parts s) body ≡ false → parts s b ≡ true →
     pieces_of s begun (body ++ b ∷ rest) ≡ piece s (begun ++ body) ++ pieces_of s [] rest
 cut_piece s begun [] b rest none parted = rw (parted, append-nil begun) refl
@@ -57,7 +57,7 @@ all_of p q so (x ∷ xs) all =
     let part = and_parts (p x) (list_all p xs) all in
     and_both (q x) (list_all q xs) (so x part.0) (all_of p q so xs part.1)
 
--- a digit or a minus, of which numbers are made
+-- a digit or a minus, of which numbers consist
 abbrev pub is_figure : ℕ → Bool
 is_figure b = nat_le 45 b && nat_le b 57
 
@@ -66,7 +66,7 @@ figure_bounds b h =
     let part = and_parts (nat_le 45 b) (nat_le b 57) h in
     (leb-true 45 b part.0, leb-true b 57 part.1)
 
--- it is no byte outside of these
+-- it is no byte other than these
 pub figure_other : (b n : ℕ) → is_figure b ≡ true → (45 ≤ n → n ≤ 57 → ⊥) → (b == n) ≡ false
 figure_other b n h out =
     let bounds = figure_bounds b h in
@@ -75,7 +75,7 @@ figure_other b n h out =
 pub figure_unblank : (b : ℕ) → is_figure b ≡ true → is_blank b ≡ false
 figure_unblank b h = or_both _ _ (figure_other b 32 h (λ l m. omega arith)) (or_both _ _ (figure_other b 9 h (λ l m. omega arith)) (figure_other b 13 h (λ l m. omega arith)))
 
--- a word of them
+-- a word of these
 pub record IsFigures (w : Text) : Type 0 where
   pub all : list_all is_figure w ≡ true
   pub some : 0 < length w
@@ -98,7 +98,7 @@ plain_other b n out apart h = by (is_figure b) refl h
     by true e h = figure_other b n e out
     by false e h = eq (b == 32) refl h
 
--- ---- a line of numbers: words of figures, parted by one space
+-- ---- a line of numbers: words of digits and minuses, separated by single spaces
 
 abbrev pub spaced : List Text → Text
 spaced ws = flat_map (λ w. 32 ∷ w) ws
@@ -158,9 +158,9 @@ line_content (b ∷ w) rest is =
     let part = and_parts (is_figure b) (list_all is_figure w) is.all in
     rw (figure_unblank b part.0, figure_other b 35 part.0 (λ l m. omega arith)) refl
 
--- ---- lines that are read one after the other
+-- ---- lines that are read in order
 
--- a text of whole lines is read from here to there
+-- a text of complete lines leads from one reading to another
 pub record Reads (here : ReaderEntry) (text : Text) (there : ReaderEntry) : Type 0 where
   pub lines : ℕ
   pub so : (k : ℕ) (rest : Text) → read_from k here (pieces_of LineFeed [] (text ++ rest)) ≡ read_from (k + lines) there (pieces_of LineFeed [] rest)

@@ -1,4 +1,4 @@
--- A number is read back from the digits that write it.
+-- A number is read back from its digits.
 use Rattle.std.proofs.Common.{◌≡◌, ◌∙◌, ℕ, ◌+◌, ◌-◌, ◌*◌, ◌/◌, ◌%◌, ◌^◌, ◌<◌, ◌≤◌, Bool, true, false, [], ◌∷◌, ◌++◌, length, refl, sym, ap, arith, length-append, Ok, Err}
 use Rattle.std.specs.Prelude.{nat_eq, Result, codes}
 use Rattle.std.specs.Fmt.{decimal}
@@ -84,7 +84,7 @@ pointwise_same (x ∷ xs) (y ∷ ys) h =
     let part = and_parts (nat_eq x y) (pointwise nat_eq xs ys) h in
     ap (λ a. a ∷ xs) (eqb-true x y part.0) ∙ ap (λ l. y ∷ l) (pointwise_same xs ys part.1)
 
--- a number above 0 isn't written 0
+-- a number above 0 isn't written as 0
 pub decimal_nonzero : (n : ℕ) → 1 ≤ n → n < 2 ^ 64 → is_zero (decimal n) ≡ false
 decimal_nonzero n some small = by (is_zero (decimal n)) refl
   where
@@ -100,6 +100,6 @@ decimal_nonzero n some small = by (is_zero (decimal n)) refl
             let none : n ≡ 0 = cc (same ∙ zero) in
             omega (arith, none)
 
--- none is written as a shared rank
+-- no number is written as a shared rank
 pub decimal_alone : (n : ℕ) → n < 2 ^ 64 → pieces_of Equals [] (decimal n) ≡ decimal n ∷ []
 decimal_alone n small = last_piece Equals [] (decimal n) (none_of is_figure (parts Equals) (λ b h. figure_other b 61 h (λ l m. omega arith)) (decimal n) (decimal_figures n small).all)

@@ -1,4 +1,4 @@
--- What is told of a text beside the ballots of a ward is what comes of it beside that ward.
+-- The result of checking a text against the ballots of a ward is that of comparing it with that ward.
 use Rattle.std.proofs.Common.{◌≡◌, ◌∙◌, ℕ, List, refl, sym, subst, Ok}
 use Rattle.std.specs.Prelude.{Option, Some, None}
 use Rattle.count.specs.Bundles.{Bundle}
@@ -7,14 +7,14 @@ use Rattle.sheet.specs.Entries.{SheetEntry}
 use Rattle.sheet.specs.declared.ward.Poll.{Poll}
 use Rattle.checker.specs.Checks.{Hinders, IsChecked, IsProblem, IsWardCheck, IsWardProblem}
 use Rattle.checker.specs.Reading.{ReaderEntry, read}
-use Rattle.checker.specs.ReadingBack.{CanBeReadBack, IsReadBack}
+use Rattle.checker.specs.BallotsRoundTrip.{CanBeReadBack, IsReadBack}
 use Rattle.checker.specs.Wards.{ward_told}
 use Rattle.checker.specs.declared.differences.Checked.{Checked}
 use Rattle.checker.specs.declared.problem.Problem.{Problem}
 use Rattle.checker.specs.declared.problem.Problem.TheVariants as problem
 use Rattle.checker.proofs.ReadBackLaws.{ballots_back}
 
--- a fact of the ward that a file tells is one of the ward whose ballots it has
+-- a fact about the ward in a file is one about the ward whose ballots it contains
 told_of_own : (P : SheetEntry → List Bundle → List (ℕ × ℕ) → Type 0) (ward : SheetEntry) (bundles : List Bundle) (lots : List (ℕ × ℕ)) (back : IsReadBack ward bundles lots) (reading : ReaderEntry) →
     read (ballots ward bundles lots) ≡ Ok reading
     → P (ward_told reading) reading.papers.bundles reading.remarks.lots → P ward bundles lots
@@ -24,7 +24,7 @@ told_of_own P ward bundles lots back reading understood told =
     subst (λ w. P w bundles lots) back.ward_is (subst (λ bs. P (ward_told back.reading) bs lots) back.bundles_are
     (subst (λ ls. P (ward_told back.reading) back.reading.papers.bundles ls) back.lots_are own))
 
--- so what comes of a text
+-- so the result for a text is the same
 pub own_check : (ward : SheetEntry) (bundles : List Bundle) (lots : List (ℕ × ℕ)) → CanBeReadBack ward bundles lots → (text : List ℕ) (checked : Checked) →
     IsChecked (ballots ward bundles lots) text checked → IsWardCheck ward.poll ward bundles lots text checked
 own_check ward bundles lots can text checked is =

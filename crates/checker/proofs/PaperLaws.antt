@@ -11,18 +11,18 @@ use Rattle.votes.specs.Units.{max_papers}
 use Rattle.count.specs.Bundles.{Bundle, papers_of, with_papers}
 use Rattle.sheet.specs.Ballots.{bundle_line}
 use Rattle.sheet.specs.Lines.{line, preferences}
-use Rattle.checker.specs.Comments.{Remarks}
+use Rattle.checker.specs.BallotsComments.{Remarks}
 use Rattle.checker.specs.Papers.{PapersEntry, papers_in, with_bundle, with_list}
 use Rattle.checker.specs.Tokens.{Text}
 use Rattle.checker.specs.Ranks.{named_from, without}
 use Rattle.checker.specs.Reading.{Named, ReaderEntry, begins_with_minus, is_withdrawn_line, with_content_at, with_line_of, with_papers_line, words_before_comment}
 use Rattle.checker.specs.declared.ranks.NextWord.TheVariants.{Preference}
-use Rattle.checker.specs.declared.state.NextLine.{NextLine}
-use Rattle.checker.specs.declared.state.NextLine.TheVariants as place
+use Rattle.checker.specs.declared.file_content.NextLine.{NextLine}
+use Rattle.checker.specs.declared.file_content.NextLine.TheVariants as place
 use Rattle.checker.proofs.LineLaws.{AreFigures, IsFigures, Reads, line_content, line_numbers, line_unended, or_both, or_none, reads-line, spaced}
 use Rattle.checker.proofs.NumberLaws.{candidate_back, decimal_alone, decimal_figures, decimal_nonzero, number_back}
 
--- ---- where a file stands
+-- ---- the position in a file
 
 abbrev pub state : NextLine → PapersEntry → Named → Remarks → ReaderEntry
 state place papers names remarks = record { place = place; papers = papers; names = names; remarks = remarks }
@@ -57,7 +57,7 @@ apart_more before x (c ∷ list) apart none = (
     differ : c ≡ x → ⊥
     differ e = absurd (false≢true (sym parts.0 ∙ eq-eqb c x e))
 
--- the words of some preferences, and the 0 behind them
+-- the words of some preferences, followed by 0
 abbrev pub rank_words : List ℕ → List Text
 rank_words list = map decimal list ++ codes "0" ∷ []
 
@@ -114,7 +114,7 @@ pub among_papers : (first : Bool) (here : ReaderEntry) (text : Text) (words : Li
 among_papers true here text words are none = rw (are, none) refl
 among_papers false here text words are none = rw are refl
 
--- papers of one list that a file may tell
+-- papers of one list that a file can contain
 pub record CanStand (highest : ℕ) (withdrawn : List ℕ) (list : List ℕ) (n : ℕ) : Type 0 where
   pub some : 1 ≤ n
   pub few : n ≤ max_papers

@@ -7,14 +7,14 @@ use Rattle.std.proofs.lemmas.Bool.{le-ltb, lt-ltb}
 use Rattle.std.proofs.lemmas.List.Folds.{list_any-append}
 use Rattle.sheet.specs.Ballots.{name_at, name_line, name_or_withdrawn}
 use Rattle.sheet.specs.Lines.{escaped, line, quoted}
-use Rattle.checker.specs.Comments.{Remarks}
+use Rattle.checker.specs.BallotsComments.{Remarks}
 use Rattle.checker.specs.Names.{Quoting, max_name, name_in, with_byte}
 use Rattle.checker.specs.Papers.{PapersEntry}
 use Rattle.checker.specs.Tokens.{Text}
-use Rattle.checker.specs.ReadingBack.{IsName}
+use Rattle.checker.specs.BallotsRoundTrip.{IsName}
 use Rattle.checker.specs.Reading.{Named, with_name}
 use Rattle.checker.specs.declared.names.Within.TheVariants.{Inside}
-use Rattle.checker.specs.declared.state.NextLine.TheVariants as place
+use Rattle.checker.specs.declared.file_content.NextLine.TheVariants as place
 use Rattle.checker.proofs.NameLemmas.{ascii_text}
 use Rattle.checker.proofs.LineLaws.{Reads, or_both, or_none, reads-line, reads-nothing, reads-then}
 use Rattle.checker.proofs.PaperLaws.{state}
@@ -37,7 +37,7 @@ name_inside acc (b ∷ name) rest =
     ∙ (byte_inside (b == 34) (b == 92) b acc (flat_map escaped name ++ rest) refl refl
     ∙ (name_inside (acc ++ b ∷ []) name rest ∙ ap (λ n. fold with_byte (inside n) rest) (append_assoc acc (b ∷ []) name)))
 
--- a name in quotation marks is read back
+-- a quoted name is read back
 pub name_back : (name : Text) → IsName name → name_in (quoted name) ≡ Ok name
 name_back name is = rw (name_inside [] name (34 ∷ []), le-ltb max_name (length name) is.short, is.text) refl
 
@@ -54,7 +54,7 @@ inner_unended (b ∷ name) none =
 quoted_unended : (name : Text) → list_any (λ b. b == 10) name ≡ false → list_any (λ b. b == 10) (quoted name) ≡ false
 quoted_unended name none = list_any-append (λ x. x == 10) (34 ∷ flat_map escaped name) (34 ∷ []) ∙ or_both _ _ (inner_unended name none) refl
 
--- ---- a line of a name
+-- ---- the line of a name
 
 name_reads : (papers : PapersEntry) (names : Named) (remarks : Remarks) (name : Text) → IsName name
     → Reads (state place.CandidateNames papers names remarks) (line (quoted name ∷ [])) (with_name (state place.CandidateNames papers names remarks) name)
@@ -106,7 +106,7 @@ names_read candidates papers remarks ward before k (suc n) all few =
     (append_assoc before (name ∷ []) (map (name_of candidates) (range_with_len (k + 1) n)))
     (reads-then here (name_line candidates k) mid (flat_map (name_line candidates) (range_with_len (k + 1) n)) end one others)
 
--- the ward's name stands behind them
+-- the ward's name follows them
 pub ward_name_reads : (papers : PapersEntry) (remarks : Remarks) (names : List Text) (name : Text) → IsName name → papers.highest ≤ length names
     → Reads (state place.CandidateNames papers (record { names = names; ward = [] }) remarks) (line (quoted name ∷ [])) (state place.End papers (record { names = names; ward = name }) remarks)
 ward_name_reads papers remarks names name is all =

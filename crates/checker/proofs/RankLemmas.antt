@@ -1,4 +1,4 @@
--- Lists of candidates, each once.
+-- Lists of candidates without duplicates.
 use Rattle.std.proofs.Common.{◌≡◌, ◌∙◌, ℕ, ◌≤◌, ◌||◌, Bool, true, false, not, nat_eq, List, [], ◌∷◌, ◌++◌, refl, sym}
 use Rattle.std.specs.Prelude.{◌==◌, if◌then◌else◌, Ok, Err}
 use Rattle.std.specs.List.{filter, list_any}
@@ -20,7 +20,7 @@ or_both a b h k = rw (h, k) refl
 other : (a b : ℕ) → (a == b) ≡ false → (b == a) ≡ false
 other a b h = ne_eqb b a (λ e. eqb-false a b h (sym e))
 
--- one more behind them, who isn't among them
+-- one more at the end, who isn't among them
 pub ranking_more : (xs : List ℕ) (c : ℕ) → IsRanking xs → 1 ≤ c → c ≤ max_candidates → list_any (λ d. d == c) xs ≡ false → IsRanking (xs ++ c ∷ [])
 ranking_more [] c rank some few none = (some, few, refl, tt)
 ranking_more (x ∷ xs) c rank some few none =
@@ -41,16 +41,16 @@ kept_ranking : (b : Bool) (x : ℕ) (xs : List ℕ) → 1 ≤ x → x ≤ max_ca
 kept_ranking true x xs some few none rank = (some, few, none, rank)
 kept_ranking false x xs some few none rank = rank
 
--- those who pass a test
+-- those that pass a test
 pub ranking_kept : (p : ℕ → Bool) (xs : List ℕ) → IsRanking xs → IsRanking (filter p xs)
 ranking_kept p [] rank = tt
 ranking_kept p (x ∷ xs) rank = kept_ranking (p x) x (filter p xs) rank.0 rank.1 (none_kept p x xs rank.2) (ranking_kept p xs rank.3)
 
--- those of them who stand
+-- those who aren't withdrawn
 pub ranking_without : (withdrawn named : List ℕ) → IsRanking named → IsRanking (without withdrawn named)
 ranking_without withdrawn named rank = ranking_kept (λ c. not (list_any (nat_eq c) withdrawn)) named rank
 
--- one who is named already
+-- a candidate who is already in the list
 pub named_twice : (highest : ℕ) (ranks : Ranked) (word : List ℕ) (c : ℕ) → candidate_in highest word ≡ Ok c → list_any (λ d. d == c) ranks.named ≡ true →
     Err CandidateTwice ≡ with_candidate highest ranks word
 named_twice highest ranks word c is named = rw (is, named) refl

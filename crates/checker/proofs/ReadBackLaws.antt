@@ -7,7 +7,7 @@ use Rattle.std.specs.List.{AllByRecursion, filter, find, flat_map, list_all, lis
 use Rattle.std.proofs.lemmas.Bool.{eqb-true, eqb-false, false≢true, le-leb, ne_eqb}
 use Rattle.std.proofs.lemmas.List.{length-replicate}
 use Rattle.std.proofs.lemmas.List.FromFn.{length-map-range_with_len}
-use Rattle.paper.specs.Columns.{IsColumnSet, max_candidates}
+use Rattle.paper.specs.Columns.{IsCandidateSet, max_candidates}
 use Rattle.paper.proofs.ColumnSets.{Ascends, ascends_from_columns, columns_from_ascends}
 use Rattle.votes.specs.Units.{max_papers}
 use Rattle.count.specs.Bundles.{Bundle, IsBundle, papers_of}
@@ -17,15 +17,15 @@ use Rattle.sheet.specs.Ballots.{size_line, ward_comment, withdrawn, withdrawn_li
 use Rattle.sheet.specs.Entries.{SheetEntry}
 use Rattle.sheet.specs.Lines.{line, quoted}
 use Rattle.sheet.specs.declared.ward.Poll.{Poll}
-use Rattle.checker.specs.Comments.{Remarks}
+use Rattle.checker.specs.BallotsComments.{Remarks}
 use Rattle.checker.specs.Papers.{PapersEntry}
 use Rattle.sheet.specs.Sheet.{rejected_line}
 use Rattle.checker.specs.Tokens.{Text, behind_byte_order_mark, pieces_of}
 use Rattle.checker.specs.Reading.{Named, ReaderEntry, nothing_told, read, read_from}
-use Rattle.checker.specs.ReadingBack.{CanBeReadBack, IsPollOf, IsReadBack}
+use Rattle.checker.specs.BallotsRoundTrip.{CanBeReadBack, IsPollOf, IsReadBack}
 use Rattle.checker.specs.Wards.{candidates_of, numbers_of, poll_by, poll_told, ward_told}
 use Rattle.checker.specs.declared.tokens.Separator.TheVariants.{LineFeed}
-use Rattle.checker.specs.declared.state.NextLine.TheVariants as place
+use Rattle.checker.specs.declared.file_content.NextLine.TheVariants as place
 use Rattle.checker.proofs.CandidateLaws.{Rise, any_range, rebuilt}
 use Rattle.checker.proofs.CommentLaws.{AreCounts, lots_read, rejected_reads, ward_reads}
 use Rattle.checker.proofs.FrontLaws.{bundles_read, size_reads, withdrawn_reads}
@@ -61,7 +61,7 @@ rises : (low end : ℕ) (candidates : List (ℕ × Text)) → Ascends low (map (
 rises low end [] up all = tt
 rises low end (x ∷ others) up all = (omega (arith, up.0), omega (arith, all.0), rises x.0 end others up.2 all.1)
 
--- ---- the numbers at which nobody stands
+-- ---- the withdrawn numbers
 
 range_one : (b : Bool) (k : ℕ) (others : List ℕ) → k + 1 ≤ max_candidates → Ascends (k + 1) others → Ascends k (if b then (k + 1) ∷ others else others)
 range_one true k others few up = (omega arith, few, up)
@@ -80,7 +80,7 @@ range_low : (p : ℕ → Bool) (a n end : ℕ) → 1 ≤ a → a + n ≤ end + 1
 range_low p a zero end some few = tt
 range_low p a (suc n) end some few = range_low_one (p a) a end (filter p (range_with_len (a + 1) n)) some (omega arith) (range_low p (a + 1) n end (omega arith) (omega arith))
 
--- ---- who stands
+-- ---- the candidates
 
 named_one : (b : Bool) (x : ℕ × Text) (others : Option (ℕ × Text)) → (b ≡ false → is_none (option_map (λ (candidate : ℕ × Text). candidate.1) others) ≡ false)
     → is_none (option_map (λ (candidate : ℕ × Text). candidate.1) (if b then Some x else others)) ≡ false
@@ -116,7 +116,7 @@ module _ (ward : SheetEntry) where
   abbrev highest : ℕ
   highest = highest_number ward.candidates
 
-  list_stands : (list : List ℕ) → IsColumnSet (numbers_of ward) → AllByRecursion (λ c. In c (numbers_of ward)) list → AllByRecursion (λ c. c ≤ highest) list × Standing (withdrawn ward) list
+  list_stands : (list : List ℕ) → IsCandidateSet (numbers_of ward) → AllByRecursion (λ c. In c (numbers_of ward)) list → AllByRecursion (λ c. c ≤ highest) list × Standing (withdrawn ward) list
   list_stands [] set all = (tt, tt)
   list_stands (c ∷ list) set all =
       let up = ascends_from_columns (numbers_of ward) set in
@@ -125,7 +125,7 @@ module _ (ward : SheetEntry) where
       let stands = any_range (λ d. is_none (name_at ward.candidates d)) 1 highest c number.0 (omega (arith, number.1)) ∙ has_name ward.candidates c all.0 in
       ((number.1, rest.0), (stands, rest.1))
 
-  bundles_stand : (bundles : List Bundle) (most : ℕ) → IsColumnSet (numbers_of ward) → AllByRecursion IsBundle bundles → AreForCandidates (numbers_of ward) (map (λ (b : Bundle). b.0) bundles) →
+  bundles_stand : (bundles : List Bundle) (most : ℕ) → IsCandidateSet (numbers_of ward) → AllByRecursion IsBundle bundles → AreForCandidates (numbers_of ward) (map (λ (b : Bundle). b.0) bundles) →
       length (papers_of bundles) ≤ max_papers
       → AllByRecursion (λ (b : Bundle). CanStand highest (withdrawn ward) b.0 b.1) bundles
   bundles_stand [] most set each fors few = tt
@@ -137,11 +137,11 @@ module _ (ward : SheetEntry) where
         bundles_stand bundles most set each.1 fors.1 (omega (arith, few, sum)),
       )
 
-  -- what its names tell
+  -- the content of its names
   abbrev all_names : List Text
   all_names = map (name_of ward.candidates) (range_with_len 1 highest)
 
-  candidates_back : IsColumnSet (numbers_of ward) → candidates_of (withdrawn ward) all_names ≡ ward.candidates
+  candidates_back : IsCandidateSet (numbers_of ward) → candidates_of (withdrawn ward) all_names ≡ ward.candidates
   candidates_back set =
       let up = ascends_from_columns (numbers_of ward) set in
       rebuilt ward.candidates (withdrawn ward) highest 1 (highest + 1) ward.candidates (omega arith) (rises 0 highest ward.candidates up (all_low 0 ward.candidates up)) (λ c low. refl)
@@ -176,7 +176,7 @@ five_of (a ∷ b ∷ c ∷ d ∷ e ∷ []) five fit = record {
 }
 five_of (a ∷ b ∷ c ∷ d ∷ e ∷ f ∷ others) five fit = absurd (omega arith)
 
--- the rejected papers that a ward's file tells
+-- the rejected papers in a ward's file
 abbrev rejected_told : Option Poll → Option (List ℕ)
 rejected_told None = None
 rejected_told (Some poll) = Some poll.rejected
@@ -259,7 +259,7 @@ module _ (ward : SheetEntry) (bundles : List Bundle) (lots : List (ℕ × ℕ)) 
       let bound = highest_few 0 ward.candidates up in
       let missing = columns_from_ascends 0 (withdrawn ward) (range_ascends (λ c. is_none (name_at ward.candidates c)) 0 number (omega (arith, bound))) in
       let low = range_low (λ c. is_none (name_at ward.candidates c)) 1 number number (omega arith) (omega arith) in
-      let sizes = size_reads number ward.seats bound can.some_seats can.few_seats in
+      let sizes = size_reads number ward.seats bound can.some_seats can.seats_in_range in
       let gone = withdrawn_reads number ward.seats (withdrawn ward) nothing_told.names none_told bound missing low in
       let stand = bundles_stand ward bundles 0 can.candidate_set can.bundles_are.each can.for_candidates can.few_papers in
       let papers = bundles_read true number ward.seats (withdrawn ward) [] bundles nothing_told.names none_told bound can.bundles_are.rise stand (omega (arith, can.few_papers)) in

@@ -4,7 +4,7 @@ use Rattle.std.proofs.lemmas.List.{get_or-drop, length-drop, take_more, at_drop_
 use Rattle.checker.specs.Tokens.{parts, pieces_of}
 use Rattle.checker.specs.declared.tokens.Separator.{Separator}
 
--- the piece that is begun has a byte more
+-- one more byte of the current piece
 pub piece_more : (text : List ℕ) (start i : ℕ) → start ≤ i → i < length text → take (i + 1 - start) (drop start text) ≡ take (i - start) (drop start text) ++ get_or text i 0 ∷ []
 piece_more text start i within here =
     let more : i + 1 - start ≡ i - start + 1 = omega arith in
@@ -13,7 +13,7 @@ piece_more text start i within here =
     ap (λ n. take n (drop start text)) more ∙ (take_more (drop start text) (i - start) 0 inside ∙ ap (λ x. take (i - start) (drop start text) ++ x ∷ [])
     (get_or-drop start text (i - start) 0 ∙ ap (λ j. get_or text j 0) at))
 
--- a byte that parts nothing belongs to the piece that is begun
+-- a byte that isn't a separator belongs to the current piece
 pub goes_on : (s : Separator) (text : List ℕ) (start i : ℕ) → start ≤ i → i < length text → parts s (get_or text i 0) ≡ false
     → pieces_of s (take (i - start) (drop start text)) (drop i text) ≡ pieces_of s (take (i + 1 - start) (drop start text)) (drop (i + 1) text)
 goes_on s text start i within here other =

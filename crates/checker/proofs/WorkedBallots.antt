@@ -1,7 +1,7 @@
--- The definitions of reading, computed on worked lines and a worked file.
+-- The definitions of reading, computed for example lines and an example file.
 use Rattle.std.proofs.Common.{◌≡◌, ℕ, List, [], ◌∷◌, ◌++◌, refl, Ok, Err, Some, None}
 use Rattle.std.specs.Prelude.{codes, Result}
-use Rattle.checker.specs.Comments.{Remarks, with_comment}
+use Rattle.checker.specs.BallotsComments.{Remarks, with_comment}
 use Rattle.checker.specs.Differences.{behind_lines, first_line, nearer, same_lines}
 use Rattle.checker.specs.Names.{name_in}
 use Rattle.checker.specs.Outcomes.{and_then}
@@ -14,7 +14,7 @@ use Rattle.checker.proofs.NameLemmas.{ascii_text}
 use Rattle.checker.specs.declared.tokens.LineKind.TheVariants.{Comment, Empty}
 use Rattle.checker.specs.declared.problem.BallotsFlaw.{BallotsFlaw}
 use Rattle.checker.specs.declared.problem.BallotsFlaw.TheVariants as flaw
-use Rattle.checker.specs.declared.state.NextLine.TheVariants as place
+use Rattle.checker.specs.declared.file_content.NextLine.TheVariants as place
 
 -- ---- lines and words
 
@@ -128,7 +128,7 @@ ours_behind_name = refl
 open_name : name_in (codes "\"Ann\\\"") ≡ Err flaw.OpenQuote
 open_name = refl
 
--- what some lines tell
+-- the content of some lines
 abbrev told_by : ReaderEntry → List (List ℕ) → Result ReaderEntry BallotsFlaw
 told_by reading [] = Ok reading
 told_by reading (line ∷ lines) = and_then (with_line reading line) (λ more. told_by more lines)

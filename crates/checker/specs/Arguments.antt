@@ -1,74 +1,117 @@
--- What the program is asked for by its words, and what comes of it.
-use Rattle.std.specs.Prelude.{◌≡◌, ◌⊎◌, ◌||◌, if◌then◌else◌, nat_eq, Bool, List, [], ◌∷◌, Result, Ok, Err, codes, string_bytes}
+-- The request in the program's arguments, and its outcome.
+use Rattle.std.specs.Prelude.{◌≡◌, ◌⊎◌, ◌||◌, if◌then◌else◌, nat_eq, Bool, false, List, [], ◌∷◌, Result, Ok, Err, codes, string_bytes}
 use Rattle.std.specs.Cmp.Lexicographic.{pointwise}
 use Rattle.checker.specs.Checks.{IsChecked, IsProblem}
+use Rattle.checker.specs.Counts.{IsCountedText, IsUncounted}
 use Rattle.checker.specs.Reports.{ReportEntry, hint_of, memory_page, page_of}
+use Rattle.checker.specs.Requests.{CountEntry, count_request}
 use Rattle.checker.specs.Tokens.{Text}
 use Rattle.checker.specs.declared.arguments.ArgumentsFault.{ArgumentsFault}
 use Rattle.checker.specs.declared.arguments.ArgumentsFault.TheVariants as words
+use Rattle.checker.specs.declared.requests.WordsFlaw.{WordsFlaw}
 use Rattle.checker.specs.declared.report.Report.{Report}
 use Rattle.checker.specs.declared.report.Report.TheVariants as report
 use Rattle.checker.specs.declared.problem.Problem.TheVariants as problem
 use Rattle.checker.specs.InputFiles.{InputFiles, Holds, Withholds}
 
--- ---- what is asked for
+-- ---- the request
 
--- help; or the check of a text against ballots, each by its path; or nothing that is understood
-pub data CheckRequest : Type 0 where
-  help : CheckRequest
-  check : Text → Text → CheckRequest
-  nothing : CheckRequest
+-- help about checking; the check of a text against ballots, each by its path; help about counting; a count of ballots; or arguments that aren't
+-- understood
+pub data Request : Type 0 where
+  help : Request
+  check : Text → Text → Request
+  nothing : Request
+  count_help : Request
+  count : CountEntry → Request
+  misread : WordsFlaw → Request
 
--- a word that asks for help
+-- an argument that requests help
 abbrev pub is_help : Text → Bool
 is_help word = pointwise nat_eq word (codes "--help") || pointwise nat_eq word (codes "-h")
 
-abbrev pub asked : List Text → CheckRequest
-asked [] = nothing
-asked (word ∷ []) = if is_help word then help else nothing
-asked (ballots ∷ text ∷ []) = check ballots text
-asked (ballots ∷ text ∷ other ∷ words) = nothing
+-- a request to check
+abbrev pub check_asked : List Text → Request
+check_asked [] = nothing
+check_asked (word ∷ []) = if is_help word then help else nothing
+check_asked (ballots ∷ text ∷ []) = check ballots text
+check_asked (ballots ∷ text ∷ other ∷ words) = nothing
 
--- the program's words, or why they can't be read
+-- a request to count
+abbrev pub is_help_alone : List Text → Bool
+is_help_alone [] = false
+is_help_alone (word ∷ []) = is_help word
+is_help_alone (word ∷ other ∷ words) = false
+
+abbrev pub count_told : Result CountEntry WordsFlaw → Request
+count_told (Ok asked) = count asked
+count_told (Err flaw) = misread flaw
+
+abbrev pub count_asked : List Text → Request
+count_asked words = if is_help_alone words then count_help else count_told (count_request words)
+
+-- an argument that requests a count
+abbrev pub is_count : Text → Bool
+is_count word = pointwise nat_eq word (codes "--count")
+
+abbrev pub asked : List Text → Request
+asked [] = nothing
+asked (word ∷ words) = if is_count word then count_asked words else check_asked (word ∷ words)
+
+-- the program's arguments, or the reason why they can't be read
 abbrev pub words_told : {V : Type 0} → (V → List Text) → Result V ArgumentsFault → Result (List Text) ArgumentsFault
 words_told texts (Ok words) = Ok (texts words)
 words_told texts (Err fault) = Err fault
 
--- ---- what comes of it
+-- ---- the outcome
 
--- what comes of a file that isn't read: its path and the reason, or that memory was wanting
+-- the outcome for a file that isn't read: its path and the reason, or a failed allocation
 abbrev pub IsUnreadFile : InputFiles → Text → Report → Type 0
 IsUnreadFile held path (report.NotRead told why) = (string_bytes told ≡ path) × Withholds held path (string_bytes why)
 IsUnreadFile held path (report.Hindered why) = why ≡ problem.Memory
 IsUnreadFile held path other = ⊥
 
--- what comes of a text beside ballots
+-- the outcome of checking a text against ballots
 abbrev pub IsCheckOutcome : Text → Text → Report → Type 0
 IsCheckOutcome ballots text (report.Checked checked hint) = IsChecked ballots text checked × (hint ≡ hint_of text)
 IsCheckOutcome ballots text (report.Hindered why) = IsProblem ballots why
 IsCheckOutcome ballots text other = ⊥
 
--- what comes of the file of a text beside ballots
+-- the outcome of checking the file of a text against ballots
 abbrev pub IsTextOutcome : InputFiles → Text → Text → Report → Type 0
 IsTextOutcome held ballots path told = IsUnreadFile held path told ⊎ ((text : Text) × Holds held path text × IsCheckOutcome ballots text told)
 
--- what comes of the files of ballots and of a text
+-- the outcome for the files of ballots and of a text
 abbrev pub IsFilesOutcome : InputFiles → Text → Text → Report → Type 0
 IsFilesOutcome held path text_path told = IsUnreadFile held path told ⊎ ((ballots : Text) × Holds held path ballots × IsTextOutcome held ballots text_path told)
 
--- what comes of what is asked for
-abbrev pub IsAnswer : InputFiles → CheckRequest → Report → Type 0
+-- the outcome of counting ballots
+abbrev pub IsCountOutcome : Text → CountEntry → Report → Type 0
+IsCountOutcome ballots asked (report.Counted counted) = IsCountedText ballots asked.lots asked.text counted
+IsCountOutcome ballots asked (report.NotCounted why) = IsUncounted ballots asked.lots why
+IsCountOutcome ballots asked other = ⊥
+
+-- the outcome of counting a file of ballots
+abbrev pub IsCountFileOutcome : InputFiles → CountEntry → Report → Type 0
+IsCountFileOutcome held asked told =
+    IsUnreadFile held asked.ballots told ⊎ ((ballots : Text) × Holds held asked.ballots ballots × IsCountOutcome ballots asked told)
+
+-- the outcome of a request
+abbrev pub IsAnswer : InputFiles → Request → Report → Type 0
 IsAnswer held help told = told ≡ report.Help
 IsAnswer held (check ballots text) told = IsFilesOutcome held ballots text told
-IsAnswer held nothing told = told ≡ report.NotAsked
+IsAnswer held nothing told = told ≡ report.BadArguments
+IsAnswer held count_help told = told ≡ report.CountHelp
+IsAnswer held (count asked) told = IsCountFileOutcome held asked told
+IsAnswer held (misread flaw) told = (told ≡ report.Misread flaw) ⊎ (told ≡ report.Hindered problem.Memory)
 
--- what comes of the program's words, or of why they can't be read
+-- the outcome of the program's arguments, or of the failure to read them
 abbrev pub IsOutcome : InputFiles → Result (List Text) ArgumentsFault → Report → Type 0
 IsOutcome held (Ok words) told = IsAnswer held (asked words) told
 IsOutcome held (Err words.NotUtf8) told = told ≡ report.NotUtf8
 IsOutcome held (Err words.Memory) told = told ≡ report.Hindered problem.Memory
 
--- a page has what came of it, or says that memory was wanting
+-- a page reports the outcome, or that an allocation failed
 pub record IsPageFor (held : InputFiles) (words : Result (List Text) ArgumentsFault) (page : ReportEntry) : Type 0 where
   pub report : Report
   pub so : IsOutcome held words report

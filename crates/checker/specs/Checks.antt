@@ -1,4 +1,4 @@
--- What a text is checked against: the sheet and the declaration that a file of ballots gives.
+-- What a text is checked against: the sheet and the declaration that result from a file of ballots.
 use Rattle.std.specs.Prelude.{◌≡◌, ℕ, ◌-◌, Bool, true, false, not, List, [], map, reverse, slice_index_or, Option, Some, None, Ok, Err, ⊤}
 use Rattle.std.specs.List.{find, range_with_len}
 use Rattle.std.specs.Option.{option_map}
@@ -9,8 +9,8 @@ use Rattle.count.specs.Law.Count.{stages_to}
 use Rattle.count.specs.Law.Due.{due_after}
 use Rattle.count.specs.Law.Elected.{elected_after}
 use Rattle.count.specs.Law.Right.{IsWholeCount}
-use Rattle.count.specs.declared.run.CountEnd.{CountEnd}
-use Rattle.count.specs.declared.run.CountEnd.TheVariants as end
+use Rattle.count.specs.declared.count_to_end.CountEnd.{CountEnd}
+use Rattle.count.specs.declared.count_to_end.CountEnd.TheVariants as end
 use Rattle.count.specs.declared.stages.Due.{Due}
 use Rattle.count.specs.declared.stages.Due.TheVariants as due
 use Rattle.count.specs.declared.stages.Stage.{Stage}
@@ -25,18 +25,18 @@ use Rattle.checker.specs.declared.differences.Checked.{Checked}
 use Rattle.checker.specs.declared.problem.Problem.{Problem}
 use Rattle.checker.specs.declared.problem.Problem.TheVariants as problem
 
--- the whole count of a contest by the recorded lots, the only one, and why it ends
+-- the whole count of a contest by the recorded lots, the only one, and the reason why it ends
 pub record EndsAt (contest : Contest) (lots : List (ℕ × ℕ)) (stages : List Stage) (why : CountEnd) : Type 0 where
   pub whole : IsWholeCount contest lots (reverse stages)
   pub ended : end_after contest lots (reverse stages) ≡ Some why
 
--- whether a lot has to be drawn
+-- whether a lot must be drawn
 abbrev pub is_lot : Due → Bool
 is_lot (due.Act action) = false
 is_lot (due.Lot stage kind among) = true
 is_lot due.Finished = false
 
--- whether a lot is drawn for a stage, where this is due before the first stages
+-- whether a lot is drawn for a stage, given what is due before the first stages
 abbrev pub is_drawn_by : List Due → ℕ → Bool
 is_drawn_by dues stage = is_lot (slice_index_or dues (stage - 1) due.Finished)
 
@@ -44,7 +44,7 @@ is_drawn_by dues stage = is_lot (slice_index_or dues (stage - 1) due.Finished)
 abbrev pub undrawn_by : List Due → List (ℕ × ℕ) → Option ℕ
 undrawn_by dues lots = option_map (λ lot. lot.0) (find (λ lot. not (is_drawn_by dues lot.0)) lots)
 
--- what is due before each of the first 256 stages of a count, which is finished then
+-- what is due before each of the first 256 stages of a count, which is finished by then
 unfoldable pub dues_of : Contest → List (ℕ × ℕ) → List Due
 dues_of contest lots = map (λ k. due_after contest (stages_to contest lots k)) (range_with_len 0 256)
 
@@ -52,13 +52,13 @@ dues_of contest lots = map (λ k. due_after contest (stages_to contest lots k)) 
 abbrev pub undrawn : Contest → List (ℕ × ℕ) → Option ℕ
 undrawn contest lots = undrawn_by (dues_of contest lots) lots
 
--- why a count isn't finished, if it isn't
+-- the reason why a count isn't finished, if it isn't
 abbrev pub problem_of : CountEnd → Option Problem
 problem_of end.Finished = None
 problem_of (end.LotNeeded stage among) = Some (problem.LotNeeded stage among)
 problem_of (end.LotNotAmong stage) = Some (problem.LotNotAmong stage)
 
--- what comes of a text beside the sheet and the declaration of a contested ward: it has a contest, whose count is finished
+-- the result of comparing a text with the sheet and the declaration of a contested ward: it has a contest, whose count is finished
 pub record IsCountedCheck (ward : SheetEntry) (bundles : List Bundle) (lots : List (ℕ × ℕ)) (text : Text) (checked : Checked) : Type 0 where
   pub contest : IsContest (contest_in ward bundles)
   pub stages : List Stage
@@ -66,18 +66,19 @@ pub record IsCountedCheck (ward : SheetEntry) (bundles : List Bundle) (lots : Li
   pub drawn : undrawn (contest_in ward bundles) lots ≡ None
   pub compared : IsComparison text (sheet ward stages) (declaration ward (elected_after (contest_in ward bundles) (reverse stages))) checked
 
--- the same of a ward, by its poll: in an uncontested one no stage is done, and all candidates are elected
+-- the same for any ward, by its poll: in an uncontested one no stage is done, and all candidates are elected
 abbrev pub IsWardCheck : Option Poll → SheetEntry → List Bundle → List (ℕ × ℕ) → Text → Checked → Type 0
 IsWardCheck None ward bundles lots text checked = IsComparison text (sheet ward []) (declaration ward (numbers_of ward)) checked
 IsWardCheck (Some poll) ward bundles lots text checked = IsCountedCheck ward bundles lots text checked
 
--- what is reported of a text beside a file of ballots: the file is understood, and this comes of the text beside the ward that the file describes
+-- the result of checking a text against a file of ballots: no line of the file has a flaw, and the text is compared with the ward in it
 pub record IsChecked (bytes text : Text) (checked : Checked) : Type 0 where
   pub reading : ReaderEntry
   pub understood : read bytes ≡ Ok reading
   pub compared : IsWardCheck (ward_told reading).poll (ward_told reading) reading.papers.bundles reading.remarks.lots text checked
 
--- why the count of a ward isn't finished by its lots: none may be held, a lot is wanting, a lot names none of the tied, or a lot isn't drawn there; or memory was wanting
+-- the reason why the count of a ward can't be finished with its lots: there is no contest; a lot is missing, is for none of the tied, or is recorded
+-- but not drawn; or an allocation failed
 abbrev pub IsCountProblem : Contest → List (ℕ × ℕ) → Problem → Type 0
 IsCountProblem contest lots (problem.Line line flaw) = ⊥
 IsCountProblem contest lots problem.NoContest = ¬ (IsContest contest)
@@ -86,19 +87,19 @@ IsCountProblem contest lots (problem.LotNotAmong stage) = (stages : List Stage) 
 IsCountProblem contest lots (problem.LotNotNeeded stage) = undrawn contest lots ≡ Some stage
 IsCountProblem contest lots problem.Memory = ⊤
 
--- the same of a ward, by its poll
+-- the same for any ward, by its poll
 abbrev pub IsWardProblem : Option Poll → SheetEntry → List Bundle → List (ℕ × ℕ) → Problem → Type 0
 IsWardProblem None ward bundles lots why = why ≡ problem.Memory
 IsWardProblem (Some poll) ward bundles lots why = IsCountProblem (contest_in ward bundles) lots why
 
--- a file is understood, and this hinders the count of the ward that it describes
+-- a file is understood, and this problem prevents the count of the ward that it describes
 pub record Hinders (bytes : Text) (why : Problem) : Type 0 where
   pub reading : ReaderEntry
   pub understood : read bytes ≡ Ok reading
   pub hinders : IsWardProblem (ward_told reading).poll (ward_told reading) reading.papers.bundles reading.remarks.lots why
 
--- why a text can't be checked against a file of ballots: the file's line of this number is the first that isn't understood; or the file is
--- understood, and its count isn't finished; or memory was wanting
+-- why a text can't be checked against a file of ballots: the line with this number is the first with a flaw; or no line has one, and the count can't be
+-- finished; or an allocation failed
 abbrev pub IsProblem : Text → Problem → Type 0
 IsProblem bytes (problem.Line line flaw) = read bytes ≡ Err (line, flaw)
 IsProblem bytes problem.NoContest = Hinders bytes problem.NoContest

@@ -1,36 +1,36 @@
--- Where a text first differs from another.
+-- The first difference between two texts.
 use Rattle.std.specs.Prelude.{◌≡◌, ◌≢◌, ℕ, suc, zero, ◌+◌, ◌==◌, nat_lt, if◌then◌else◌, [], ◌∷◌, length, string_bytes}
 use Rattle.checker.specs.Tokens.{Text}
 use Rattle.checker.specs.declared.differences.Checked.{Checked}
 use Rattle.checker.specs.declared.differences.Checked.TheVariants as checked
 
--- the longest beginning that two texts share
+-- the longest common prefix of two texts
 abbrev pub common : Text → Text → Text
 common [] other = []
 common (a ∷ text) [] = []
 common (a ∷ text) (b ∷ other) = if a == b then a ∷ common text other else []
 
--- how many lines of a text are ended
+-- how many lines of a text are terminated
 abbrev pub ended_lines : Text → ℕ
 ended_lines [] = 0
 ended_lines (byte ∷ bytes) = if byte == 10 then ended_lines bytes + 1 else ended_lines bytes
 
--- a text behind so many of its lines
+-- the rest of a text after a number of lines
 abbrev pub behind_lines : ℕ → Text → Text
 behind_lines zero text = text
 behind_lines (suc n) [] = []
 behind_lines (suc n) (byte ∷ bytes) = if byte == 10 then behind_lines n bytes else behind_lines (suc n) bytes
 
--- the first line of a text, with its line feed; empty where there is none
+-- the first line of a text, including its line feed; empty if there is none
 abbrev pub first_line : Text → Text
 first_line [] = []
 first_line (byte ∷ bytes) = if byte == 10 then byte ∷ [] else byte ∷ first_line bytes
 
--- how many lines of a text are just those of another
+-- how many leading lines two texts have in common
 abbrev pub same_lines : Text → Text → ℕ
 same_lines text other = ended_lines (common text other)
 
--- of a sheet and a declaration the one that a text is like for longer, the sheet where it is like both
+-- the sheet or the declaration, whichever shares the longer prefix with a text; the sheet if they are equally long
 abbrev pub nearer : Text → Text → Text → Text
 nearer text sheet declaration = if nat_lt (length (common text sheet)) (length (common text declaration)) then declaration else sheet
 
@@ -39,7 +39,7 @@ pub record DiffersAt (text should : Text) (line : ℕ) (should_be : Text) : Type
   pub at : line ≡ same_lines text should + 1
   pub is : should_be ≡ first_line (behind_lines (same_lines text should) should)
 
--- what is reported of a text beside a sheet and a declaration: which of them it is; or that it is neither, and its first line that differs from the one that it is like
+-- the result of comparing a text with a sheet and a declaration: it is one of them; or it is neither, and its first line that differs from the more similar one
 abbrev pub IsComparison : Text → Text → Text → Checked → Type 0
 IsComparison text sheet declaration checked.Sheet = text ≡ sheet
 IsComparison text sheet declaration checked.Declaration = text ≡ declaration

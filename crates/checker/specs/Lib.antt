@@ -1,4 +1,4 @@
--- How ballots are read, and what a text is checked against.
+-- Reading ballots, counting them, and checking a text against them.
 pub mod Outcomes
 pub mod Tokens
 pub mod Numbers
@@ -6,15 +6,20 @@ pub mod Ranks
 pub mod Papers
 pub mod ForeignComments
 pub mod Names
-pub mod Comments
+pub mod BallotsComments
 pub mod Reading
 pub mod Differences
 pub mod Wards
 pub mod Checks
-pub mod ReadingBack
-pub mod Views
+pub mod Counts
+pub mod BallotsRoundTrip
+pub mod Values
 pub mod Texts
+pub mod Remedies
 pub mod Reports
+pub mod Pages
 pub mod Outputs
 pub mod InputFiles
+pub mod Requests
+pub mod RequestViews
 pub mod Arguments

@@ -1,4 +1,4 @@
--- The names of a file of ballots: a line each, in quotation marks, with a comment behind it at most.
+-- The names in a file of ballots: one per line, in quotation marks, with an optional comment after it.
 use Rattle.std.specs.Prelude.{ℕ, ◌==◌, ◌||◌, if◌then◌else◌, [], ◌∷◌, ◌++◌, fold, Result, Err, Ok, nat_lt, length}
 use Rattle.std.specs.Str.{is_utf8}
 use Rattle.checker.specs.Outcomes.{and_then}
@@ -9,34 +9,34 @@ use Rattle.checker.specs.declared.names.Within.TheVariants.{Before, Inside, Esca
 use Rattle.checker.specs.declared.problem.BallotsFlaw.{BallotsFlaw}
 use Rattle.checker.specs.declared.problem.BallotsFlaw.TheVariants.{LongName, NoName, NotUtf8, OpenQuote}
 
--- the most bytes of a name
+-- the maximum number of bytes in a name
 abbrev pub max_name : ℕ
 max_name = 1000
 
--- a name that is read so far, the comment behind it, and where the next byte of its line stands
+-- the name read so far, the comment after it, and the position of the next byte in its line
 pub record Quoting : Type 0 where
   pub name : Text
   pub comment : Text
   pub within : Within
 
--- the next byte stands elsewhere
+-- the same with another position of the next byte
 abbrev pub moved_to : Within → Quoting → Quoting
 moved_to within quoting = record { name = quoting.name; comment = quoting.comment; within = within }
 
--- some bytes more of the name
+-- bytes appended to the name
 abbrev pub with_bytes : Quoting → Text → Quoting
 with_bytes quoting bytes = record { name = quoting.name ++ bytes; comment = quoting.comment; within = Inside }
 
--- one byte more of the comment
+-- a byte appended to the comment
 abbrev pub with_comment_byte : Quoting → ℕ → Quoting
 with_comment_byte quoting byte = record { name = quoting.name; comment = quoting.comment ++ byte ∷ []; within = Comment }
 
--- a byte outside the name: a sign leads on, a blank leaves all as it is, and any other byte stands beside a name
+-- a byte outside the name: a certain sign moves to the next position, a blank changes nothing, and any other byte is an error
 abbrev pub outside : ℕ → Within → Quoting → ℕ → Quoting
 outside sign next quoting byte = if byte == sign then moved_to next quoting else (if is_blank byte then quoting else moved_to Beside quoting)
 
--- one byte more. A quotation mark opens the name and closes it. Within the name a backslash before a quotation mark or a backslash stands for that
--- byte, and before another byte for itself. Behind the name a `#` begins a comment.
+-- one more byte: a quotation mark opens or closes the name; within the name a backslash escapes a quotation mark or a backslash, and before another
+-- byte it is literal; after the name `#` begins a comment
 abbrev pub quoting_at : Within → Quoting → ℕ → Quoting
 quoting_at Before quoting byte = outside 34 Inside quoting byte
 quoting_at Inside quoting byte =
@@ -49,11 +49,11 @@ quoting_at Beside quoting byte = quoting
 abbrev pub with_byte : Quoting → ℕ → Quoting
 with_byte quoting byte = quoting_at quoting.within quoting byte
 
--- a name that isn't too long, and is text
+-- a name if it is UTF-8 and not too long
 abbrev pub as_text : Text → Result Text BallotsFlaw
 as_text name = if nat_lt max_name (length name) then Err LongName else (if is_utf8 name then Ok name else Err NotUtf8)
 
--- the name of a line that was read to its end
+-- the name in a line that was read to its end
 abbrev pub name_at : Within → Quoting → Result Text BallotsFlaw
 name_at Before quoting = Err NoName
 name_at Inside quoting = Err OpenQuote
@@ -65,6 +65,6 @@ name_at Beside quoting = Err NoName
 abbrev pub name_of : Quoting → Result Text BallotsFlaw
 name_of quoting = name_at quoting.within quoting
 
--- `"Ann"`: the name of a line
+-- `"Ann"`: the name in a line
 abbrev pub name_in : Text → Result Text BallotsFlaw
 name_in line = name_of (fold with_byte (record { name = []; comment = []; within = Before }) line)

@@ -6,28 +6,28 @@ use Rattle.checker.specs.Tokens.{Text}
 use Rattle.checker.specs.declared.problem.BallotsFlaw.{BallotsFlaw}
 use Rattle.checker.specs.declared.problem.BallotsFlaw.TheVariants.{NotNumber, TooLarge, NoSuchCandidate}
 
--- a number, where it is in its range
+-- a number if it is in range
 abbrev pub in_range : ℕ → ℕ → Result ℕ BallotsFlaw
 in_range most number = if nat_le number most then Ok number else Err TooLarge
 
--- a number with a digit more
+-- a number with one more digit
 abbrev pub with_digit : ℕ → ℕ → ℕ → Result ℕ BallotsFlaw
 with_digit most number byte = if is_ascii_digit byte then in_range most (number * 10 + (byte - 48)) else Err NotNumber
 
--- the number of some digits behind others
+-- a number continued by some digits
 abbrev pub number_from : ℕ → ℕ → Text → Result ℕ BallotsFlaw
 number_from most number [] = Ok number
 number_from most number (byte ∷ bytes) = and_then (with_digit most number byte) (λ more. number_from most more bytes)
 
--- the number that a word of digits writes, if it is at most the greatest one given
+-- the number in a word of digits, if it is at most the maximum
 abbrev pub number_in : ℕ → Text → Result ℕ BallotsFlaw
 number_in most [] = Err NotNumber
 number_in most (byte ∷ bytes) = number_from most 0 (byte ∷ bytes)
 
--- a candidate, where there is one of this number
+-- the candidate with this number, if there is one
 abbrev pub candidate_of : ℕ → ℕ → Result ℕ BallotsFlaw
 candidate_of highest number = if number == 0 || nat_lt highest number then Err NoSuchCandidate else Ok number
 
--- the candidate whose number a word writes
+-- the candidate whose number is in a word
 abbrev pub candidate_in : ℕ → Text → Result ℕ BallotsFlaw
 candidate_in highest word = and_then (number_in 255 word) (candidate_of highest)

@@ -1,18 +1,18 @@
--- What comes of a part that is understood, or what is wrong with it.
+-- The value of a part that is understood, or its flaw.
 use Rattle.std.specs.Prelude.{Result, Ok, Err}
 use Rattle.checker.specs.declared.problem.BallotsFlaw.{BallotsFlaw}
 
--- what follows from a part that is understood
+-- a function of a part that is understood
 abbrev pub and_then : {X Y : Type 0} → Result X BallotsFlaw → (X → Result Y BallotsFlaw) → Result Y BallotsFlaw
 and_then (Ok x) f = f x
 and_then (Err flaw) f = Err flaw
 
--- a value where a part is understood
+-- another value if a part is understood
 abbrev pub outcome : {X Y : Type 0} → Result X BallotsFlaw → Y → Result Y BallotsFlaw
 outcome (Ok x) y = Ok y
 outcome (Err flaw) y = Err flaw
 
--- what a value stands for, where a part is understood
+-- a function of the value of a part that is understood
 abbrev pub told_as : {X Y : Type 0} → (X → Y) → Result X BallotsFlaw → Result Y BallotsFlaw
 told_as f (Ok x) = Ok (f x)
 told_as f (Err flaw) = Err flaw

@@ -1,11 +1,11 @@
--- What two outputs take of a page.
+-- What two outputs accept of a page.
 use Rattle.std.specs.Prelude.{ℕ, ◌≡◌, ◌⊎◌, ◌+◌, List, Option, codes}
 use Rattle.std.specs.Io.KnownBytes.{Appends}
 use Rattle.streams.specs.Streams.{AppendsBeginning}
 use Rattle.checker.specs.Reports.{ReportEntry}
 use Rattle.checker.specs.Tokens.{Text}
 
--- an output: the bytes that it took, as far as it says which, and how many of its calls failed
+-- an output: the bytes that it accepted, as far as known, and how many of its calls failed
 pub record Output : Type 0 where
   pub taken : Option (List ℕ)
   pub failed : ℕ
@@ -13,12 +13,12 @@ pub record Output : Type 0 where
 abbrev pub output_of : {W : Type 0} → (W → Option (List ℕ)) → (W → ℕ) → W → Output
 output_of taken failed sink = record { taken = taken sink; failed = failed sink }
 
--- it took a text whole
+-- it accepted the whole text
 pub record Took (old new : Output) (text : Text) : Type 0 where
   pub whole : Appends old.taken new.taken text
   pub unbroken : new.failed ≡ old.failed
 
--- it took a beginning of a text, and failed
+-- it accepted a prefix of a text, and failed
 pub record BrokeOff (old new : Output) (text : Text) : Type 0 where
   pub beginning : AppendsBeginning old.taken new.taken text
   pub broken : new.failed ≡ old.failed + 1
@@ -31,34 +31,34 @@ pub record Outputs : Type 0 where
 abbrev pub outputs_of : {O E : Type 0} → (O → Option (List ℕ)) → (O → ℕ) → (E → Option (List ℕ)) → (E → ℕ) → O → E → Outputs
 outputs_of taken failed taken_err failed_err out err = record { out = output_of taken failed out; err = output_of taken_err failed_err err }
 
--- the line on the error output where an output failed
+-- the line on the error output after an output failed
 abbrev pub broken_line : Text
 broken_line = codes "error: the output failed\n"
 
--- the page was printed whole, and the program ends with its status
+-- the whole page was printed, and the program ends with its status
 pub record IsWhole (old new : Outputs) (page : ReportEntry) (status : ℕ) : Type 0 where
   pub out : Took old.out new.out page.out
   pub err : Took old.err new.err page.err
   pub ends : status ≡ page.status
 
--- the output failed after a beginning; the error output says so, unless it fails too; and the program ends with 3
+-- the output failed after a prefix; the error output reports that, unless it fails too; and the program ends with 3
 pub record IsOutputBroken (old new : Outputs) (page : ReportEntry) (status : ℕ) : Type 0 where
   pub out : BrokeOff old.out new.out page.out
   pub told : Took old.err new.err broken_line ⊎ BrokeOff old.err new.err broken_line
   pub ends : status ≡ 3
 
--- the error output failed behind a beginning, and the program ends with 3
+-- the error output failed after a prefix, and the program ends with 3
 pub record IsErrorOutputBroken (old new : Outputs) (page : ReportEntry) (status : ℕ) : Type 0 where
   pub out : Took old.out new.out page.out
   pub err : BrokeOff old.err new.err page.err
   pub ends : status ≡ 3
 
--- a page was printed; where an output failed, a beginning of it
+-- a page was printed, or a prefix of it if an output failed
 abbrev pub Tells : Outputs → Outputs → ReportEntry → ℕ → Type 0
 Tells old new page status = IsWhole old new page status ⊎ (IsOutputBroken old new page status ⊎ IsErrorOutputBroken old new page status)
 
--- some page of a kind was printed
-pub record TellsSome (old new : Outputs) (status : ℕ) (IsPage : ReportEntry → Type 0) : Type 0 where
+-- some page with a property was printed
+pub record PrintsSomeReport (old new : Outputs) (status : ℕ) (IsPage : ReportEntry → Type 0) : Type 0 where
   pub page : ReportEntry
   pub told : Tells old new page status
   pub is : IsPage page

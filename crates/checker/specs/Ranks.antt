@@ -1,4 +1,4 @@
--- The preferences on a line of papers. A paper is read up to the first rank that several share who stand, as the Order has it.
+-- The preferences on a line of papers. A paper is read up to the first rank shared by several candidates who aren't withdrawn, as the Order requires.
 use Rattle.std.specs.Prelude.{ℕ, ◌+◌, Bool, not, ◌==◌, nat_eq, nat_lt, if◌then◌else◌, List, [], ◌∷◌, ◌++◌, Result, Ok, Err, codes}
 use Rattle.std.specs.List.{filter, list_any}
 use Rattle.std.specs.Cmp.Lexicographic.{pointwise}
@@ -11,7 +11,7 @@ use Rattle.checker.specs.declared.problem.BallotsFlaw.TheVariants.{CandidateTwic
 use Rattle.checker.specs.declared.ranks.NextWord.{NextWord}
 use Rattle.checker.specs.declared.ranks.NextWord.TheVariants.{Preference, BehindShared, BehindZero}
 
--- whom a line names so far, and where its next word stands
+-- the candidates in a line so far, and the position of its next word
 pub record Ranked : Type 0 where
   pub named : List ℕ
   pub next : NextWord
@@ -20,40 +20,40 @@ pub record Ranked : Type 0 where
 abbrev pub is_zero : Text → Bool
 is_zero word = pointwise nat_eq word (codes "0")
 
--- the next word stands elsewhere
+-- the same with another position of the next word
 abbrev pub at_next : NextWord → Ranked → Ranked
 at_next next ranks = record { named = ranks.named; next = next }
 
--- a candidate more, who isn't named yet
+-- one more candidate, who must be new
 abbrev pub with_named : Ranked → ℕ → Result Ranked BallotsFlaw
 with_named ranks c =
     if list_any (λ d. d == c) ranks.named then Err CandidateTwice else Ok (record { named = ranks.named ++ c ∷ []; next = ranks.next })
 
--- the candidate whose number a word writes
+-- the candidate whose number is in a word
 abbrev pub with_candidate : ℕ → Ranked → Text → Result Ranked BallotsFlaw
 with_candidate highest ranks word = and_then (candidate_in highest word) (with_named ranks)
 
--- several, one behind another
+-- several candidates in order
 abbrev pub with_each : ℕ → Ranked → List Text → Result Ranked BallotsFlaw
 with_each highest ranks [] = Ok ranks
 with_each highest ranks (word ∷ words) = and_then (with_candidate highest ranks word) (λ more. with_each highest more words)
 
--- `3`, or `3=4`: the numbers of those who share a rank
+-- `3`, or `3=4`: the numbers of the candidates who share a rank
 abbrev pub sharers : Text → List Text
 sharers word = pieces_of Equals [] word
 
--- one more who stands, unless he is withdrawn
+-- the number of candidates who aren't withdrawn, after one more candidate
 abbrev pub standing_with : List ℕ → ℕ → ℕ → ℕ
 standing_with withdrawn standing c = if list_any (nat_eq c) withdrawn then standing else standing + 1
 
--- how many of the candidates stand whose numbers some words write, after so many others
+-- how many of the candidates in some words aren't withdrawn, added to a number of others
 abbrev pub standing_from : ℕ → List ℕ → ℕ → List Text → Result ℕ BallotsFlaw
 standing_from highest withdrawn standing [] = Ok standing
 standing_from highest withdrawn standing (word ∷ words) =
     and_then (candidate_in highest word) (λ c. standing_from highest withdrawn (standing_with withdrawn standing c) words)
 
--- a rank more, of whose candidates so many stand. Where several stand, no preference is read behind it. Else the preference is that of each of them,
--- since all but one at most are withdrawn and passed over.
+-- one more rank, with the number of its candidates who aren't withdrawn. If there are several, no preference is read after it. Otherwise the
+-- preferences are those of all of them, since all but at most one are withdrawn and passed over.
 abbrev pub with_rank : NextWord → ℕ → Ranked → List Text → ℕ → Result Ranked BallotsFlaw
 with_rank Preference highest ranks words standing = if nat_lt 1 standing then Ok (at_next BehindShared ranks) else with_each highest ranks words
 with_rank BehindShared highest ranks words standing = Ok ranks
@@ -63,7 +63,7 @@ with_rank BehindZero highest ranks words standing = Err NoZero
 abbrev pub with_rank_word : ℕ → List ℕ → Ranked → Text → Result Ranked BallotsFlaw
 with_rank_word highest withdrawn ranks word = and_then (standing_from highest withdrawn 0 (sharers word)) (with_rank ranks.next highest ranks (sharers word))
 
--- one word more: 0 ends the line, and any other must be a rank, also behind a shared one
+-- one more word: 0 ends the line, and any other must be a rank, even after a shared one
 abbrev pub with_word_at : NextWord → ℕ → List ℕ → Ranked → Text → Result Ranked BallotsFlaw
 with_word_at BehindZero highest withdrawn ranks word = Err NoZero
 with_word_at next highest withdrawn ranks word = if is_zero word then Ok (at_next BehindZero ranks) else with_rank_word highest withdrawn ranks word
@@ -71,7 +71,7 @@ with_word_at next highest withdrawn ranks word = if is_zero word then Ok (at_nex
 abbrev pub with_word : ℕ → List ℕ → Ranked → Text → Result Ranked BallotsFlaw
 with_word highest withdrawn ranks word = with_word_at ranks.next highest withdrawn ranks word
 
--- whom a whole line names
+-- the candidates in a complete line
 abbrev pub named_at : NextWord → List ℕ → Result (List ℕ) BallotsFlaw
 named_at Preference named = Err NoZero
 named_at BehindShared named = Err NoZero
@@ -80,15 +80,15 @@ named_at BehindZero named = Ok named
 abbrev pub named_of : Ranked → Result (List ℕ) BallotsFlaw
 named_of ranks = named_at ranks.next ranks.named
 
--- whom some words name, behind others
+-- the candidates in some words, after others
 abbrev pub named_from : ℕ → List ℕ → Ranked → List Text → Result (List ℕ) BallotsFlaw
 named_from highest withdrawn ranks [] = named_of ranks
 named_from highest withdrawn ranks (word ∷ words) = and_then (with_word highest withdrawn ranks word) (λ more. named_from highest withdrawn more words)
 
--- the candidates whom the words behind a number of papers name, in their order, up to a shared rank or the 0
+-- the candidates in the words after a number of papers, in order, up to a shared rank or the 0
 abbrev pub named_in : ℕ → List ℕ → List Text → Result (List ℕ) BallotsFlaw
 named_in highest withdrawn words = named_from highest withdrawn (record { named = []; next = Preference }) words
 
--- those of some candidates who stand
+-- those of some candidates who aren't withdrawn
 abbrev pub without : List ℕ → List ℕ → List ℕ
 without withdrawn named = filter (λ c. not (list_any (nat_eq c) withdrawn)) named

@@ -1,4 +1,4 @@
--- How a file of ballots is read, line by line.
+-- Reading a file of ballots line by line.
 use Rattle.std.specs.Prelude.{ℕ, ◌+◌, ◌==◌, nat_lt, Bool, false, if◌then◌else◌, List, [], ◌∷◌, ◌++◌, length, None, Result, Ok, Err}
 use Rattle.checker.specs.Outcomes.{and_then}
 use Rattle.checker.specs.Tokens.{Text, kind_of, lines_of, words_of}
@@ -6,20 +6,20 @@ use Rattle.checker.specs.Ranks.{is_zero}
 use Rattle.checker.specs.ForeignComments.{behind_number_sign, skip_foreign}
 use Rattle.checker.specs.Papers.{PapersEntry, with_bundle, with_size, with_withdrawn}
 use Rattle.checker.specs.Names.{name_in}
-use Rattle.checker.specs.Comments.{Remarks, with_comment}
+use Rattle.checker.specs.BallotsComments.{Remarks, with_comment}
 use Rattle.checker.specs.declared.tokens.LineKind.{LineKind}
 use Rattle.checker.specs.declared.tokens.LineKind.TheVariants.{Empty, Comment, Content}
 use Rattle.checker.specs.declared.problem.BallotsFlaw.{BallotsFlaw}
 use Rattle.checker.specs.declared.problem.BallotsFlaw.TheVariants.{BehindName, NamesWanting, NoEnd, NoSize}
-use Rattle.checker.specs.declared.state.NextLine.{NextLine}
-use Rattle.checker.specs.declared.state.NextLine.TheVariants as place
+use Rattle.checker.specs.declared.file_content.NextLine.{NextLine}
+use Rattle.checker.specs.declared.file_content.NextLine.TheVariants as place
 
 -- the names of the numbers from 1 on, and the name of the ward
 pub record Named : Type 0 where
   pub names : List Text
   pub ward : Text
 
--- what a file has said so far, and where its next line stands
+-- the content of a file so far, and the position of its next line
 pub record ReaderEntry : Type 0 where
   pub place : NextLine
   pub papers : PapersEntry
@@ -41,7 +41,7 @@ abbrev pub before_comment : Text → Text
 before_comment [] = []
 before_comment (byte ∷ bytes) = if byte == 35 then [] else byte ∷ before_comment bytes
 
--- the words of a line of numbers, with a comment behind them at most
+-- the words of a line of numbers, before a comment if there is one
 abbrev pub words_before_comment : Text → Result (List Text) BallotsFlaw
 words_before_comment line = and_then (skip_foreign (behind_number_sign line)) (λ passed. Ok (words_of (before_comment line)))
 
@@ -60,14 +60,14 @@ abbrev pub is_withdrawn_line : List Text → Bool
 is_withdrawn_line [] = false
 is_withdrawn_line (word ∷ words) = begins_with_minus word
 
--- a line of papers, or the one that ends them
+-- a line of papers, or the line that ends them
 abbrev pub with_papers_line : ReaderEntry → List Text → Result ReaderEntry BallotsFlaw
 with_papers_line reading words =
     if is_end_line words
     then Ok (with_papers_at reading place.CandidateNames reading.papers)
     else and_then (with_bundle reading.papers words) (λ papers. Ok (with_papers_at reading place.PaperTotals papers))
 
--- a line of withdrawn candidates, which stand before all papers; or one of papers
+-- a line of withdrawn candidates, which come before all papers; or one of papers
 abbrev pub with_withdrawn_line : ReaderEntry → List Text → Result ReaderEntry BallotsFlaw
 with_withdrawn_line reading words =
     if is_withdrawn_line words
@@ -78,7 +78,7 @@ with_withdrawn_line reading words =
 abbrev pub with_size_line : ReaderEntry → List Text → Result ReaderEntry BallotsFlaw
 with_size_line reading words = and_then (with_size reading.papers words) (λ papers. Ok (with_papers_at reading place.Withdrawn papers))
 
--- a name: each number up to the highest has one, and the ward's stands behind them
+-- a name: one for each number up to the highest, followed by the ward's
 abbrev pub with_name : ReaderEntry → Text → ReaderEntry
 with_name reading name =
     if nat_lt (length reading.names.names) reading.papers.highest
@@ -88,7 +88,7 @@ with_name reading name =
 abbrev pub with_name_line : ReaderEntry → Text → Result ReaderEntry BallotsFlaw
 with_name_line reading line = and_then (name_in line) (λ name. Ok (with_name reading name))
 
--- a line with content, by where it stands
+-- a line with content, by its position
 abbrev pub with_content_at : NextLine → ReaderEntry → Text → Result ReaderEntry BallotsFlaw
 with_content_at place.Size reading line = and_then (words_before_comment line) (with_size_line reading)
 with_content_at place.Withdrawn reading line = and_then (words_before_comment line) (with_withdrawn_line reading)
@@ -96,7 +96,7 @@ with_content_at place.PaperTotals reading line = and_then (words_before_comment 
 with_content_at place.CandidateNames reading line = with_name_line reading line
 with_content_at place.End reading line = Err BehindName
 
--- a line: an empty one is passed over; of the comments that stand alone our own are read, between whichever lines
+-- a line: an empty one is skipped; among comments on lines of their own, ours are read, at any position
 abbrev pub with_line_of : LineKind → ReaderEntry → Text → Result ReaderEntry BallotsFlaw
 with_line_of Empty reading line = Ok reading
 with_line_of Comment reading line = and_then (with_comment reading.remarks line) (λ remarks. Ok (with_remarks reading remarks))
@@ -105,7 +105,7 @@ with_line_of Content reading line = with_content_at reading.place reading line
 abbrev pub with_line : ReaderEntry → Text → Result ReaderEntry BallotsFlaw
 with_line reading line = with_line_of (kind_of line) reading line
 
--- what is wrong with a file that ends where a line of this kind should stand
+-- the flaw of a file that ends where a line of this kind should follow
 abbrev pub at_end : NextLine → ReaderEntry → Result ReaderEntry BallotsFlaw
 at_end place.Size reading = Err NoSize
 at_end place.Withdrawn reading = Err NoEnd
@@ -113,18 +113,18 @@ at_end place.PaperTotals reading = Err NoEnd
 at_end place.CandidateNames reading = Err NamesWanting
 at_end place.End reading = Ok reading
 
--- what is wrong, with the number of its line
+-- a flaw with the number of its line
 abbrev pub on_line : {X Y : Type 0} → ℕ → Result X BallotsFlaw → (X → Result Y (ℕ × BallotsFlaw)) → Result Y (ℕ × BallotsFlaw)
 on_line k (Ok x) f = f x
 on_line k (Err flaw) f = Err (k, flaw)
 
--- what some lines say behind others, so many in all; or what is wrong with the first that isn't understood, or with the end. The last line is named for
--- the end: behind a line feed at the end that is an empty one.
+-- The content of some lines, which follow a number of others; or the flaw of the first that isn't understood, or of the end. A flaw of the end has
+-- the number of the last line; after a final line feed that is an empty line.
 abbrev pub read_from : ℕ → ReaderEntry → List Text → Result ReaderEntry (ℕ × BallotsFlaw)
 read_from k reading [] = on_line k (at_end reading.place reading) (λ read. Ok read)
 read_from k reading (line ∷ lines) = on_line (k + 1) (with_line reading line) (λ more. read_from (k + 1) more lines)
 
--- nothing is known before the first line
+-- the content before the first line
 abbrev pub nothing_told : ReaderEntry
 nothing_told = record {
   place = place.Size;
@@ -133,6 +133,6 @@ nothing_told = record {
   remarks = record { ward = None; rejected = None; lots = [] };
 }
 
--- what a file says
+-- the content of a file
 abbrev pub read : Text → Result ReaderEntry (ℕ × BallotsFlaw)
 read bytes = read_from 0 nothing_told (lines_of bytes)

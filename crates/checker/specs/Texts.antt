@@ -1,4 +1,4 @@
--- What is wrong with ballots, and what hinders a check, in words.
+-- The flaws of ballots and the problems that prevent a check, in words.
 use Rattle.std.specs.Prelude.{List, [], ◌∷◌, ◌++◌, codes}
 use Rattle.std.specs.Fmt.{decimal}
 use Rattle.checker.specs.Tokens.{Text}
@@ -7,13 +7,13 @@ use Rattle.checker.specs.declared.problem.BallotsFlaw.TheVariants as flaw
 use Rattle.checker.specs.declared.problem.Problem.{Problem}
 use Rattle.checker.specs.declared.problem.Problem.TheVariants as problem
 
--- pieces of text, one behind the other
+-- pieces of text in order
 abbrev pub joined : List Text → Text
 joined [] = []
 joined (piece ∷ []) = piece
 joined (piece ∷ next ∷ pieces) = piece ++ joined (next ∷ pieces)
 
--- what is wrong with a line
+-- the flaw of a line
 abbrev pub flaw_text : BallotsFlaw → Text
 flaw_text flaw.Size = codes "not the highest number of a candidate, and the seats"
 flaw_text flaw.NoSeat = codes "no seats"
@@ -39,7 +39,7 @@ flaw_text flaw.NoSize = codes "the file ends before the candidates and seats"
 flaw_text flaw.NoEnd = codes "the file ends before the line 0 behind the papers"
 flaw_text flaw.NamesWanting = codes "the file ends before the ward's name"
 
--- what hinders a check
+-- the problem that prevents a check
 abbrev pub problem_text : Problem → Text
 problem_text (problem.Line line flaw) = joined (codes "line " ∷ decimal line ∷ codes " of the ballots: " ∷ flaw_text flaw ∷ [])
 problem_text problem.NoContest = codes "no more candidates than seats"

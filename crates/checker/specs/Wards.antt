@@ -9,7 +9,7 @@ use Rattle.sheet.specs.declared.ward.Poll.{Poll}
 use Rattle.checker.specs.Tokens.{Text}
 use Rattle.checker.specs.Reading.{ReaderEntry}
 
--- the candidates of some names, whose numbers go on from one; the names of numbers at which nobody stands are passed over
+-- the candidates with some names, numbered consecutively from a number; withdrawn numbers are skipped
 abbrev pub candidates_from : List ℕ → ℕ → List Text → List (ℕ × Text)
 candidates_from withdrawn k [] = []
 candidates_from withdrawn k (name ∷ names) =
@@ -18,12 +18,12 @@ candidates_from withdrawn k (name ∷ names) =
 abbrev pub candidates_of : List ℕ → List Text → List (ℕ × Text)
 candidates_of withdrawn names = candidates_from withdrawn 1 names
 
--- the valid papers, and the rejected ones of each code
+-- the valid papers, and the rejected papers for each code
 abbrev pub poll_of : List Bundle → List ℕ → Poll
 poll_of bundles rejected = record { valid = length (papers_of bundles); rejected = rejected }
 
--- the poll of a ward. Where the file says nothing of rejected papers there are none. A ward with no more candidates than seats is uncontested where
--- the file has neither papers nor rejected ones.
+-- the poll of a ward; if the file doesn't mention rejected papers, there are none; a ward with no more candidates than seats is uncontested if the
+-- file has neither papers nor rejected papers
 abbrev pub poll_by : Option (List ℕ) → List Bundle → ℕ → ℕ → Option Poll
 poll_by (Some rejected) bundles candidates seats = Some (poll_of bundles rejected)
 poll_by None (bundle ∷ bundles) candidates seats = Some (poll_of (bundle ∷ bundles) (0 ∷ 0 ∷ 0 ∷ 0 ∷ 0 ∷ []))

@@ -1,29 +1,33 @@
-//! What the program is asked for by its words, and what comes of it.
+//! The request in the program's arguments, and its outcome.
 
 ghost use Rattle.std.specs.Prelude.{◌≡◌, ◌-◌, ◌^◌, ◌<◌, map, string_bytes, IfOk, IfErr};
-ghost use Rattle.checker.specs.Arguments.{IsAnswer, IsCheckOutcome, IsFilesOutcome, IsOutcome, IsPageFor, IsTextOutcome, IsUnreadFile, asked, is_help, words_told};
+ghost use Rattle.checker.specs.Arguments.{IsAnswer, IsCheckOutcome, IsCountFileOutcome, IsCountOutcome, IsFilesOutcome, IsOutcome, IsPageFor, IsTextOutcome, IsUnreadFile};
+ghost use Rattle.checker.specs.Arguments.{asked, check_asked, count_asked, is_help, is_help_alone, words_told};
 ghost use Rattle.checker.specs.InputFiles.{Holds};
-ghost use Rattle.checker.specs.Outputs.{TellsSome, outputs_of};
+ghost use Rattle.checker.specs.Outputs.{PrintsSomeReport, outputs_of};
+ghost use Rattle.checker.specs.RequestViews.{request_told};
 
+use crate::ballot_counts::count_ballots;
 use crate::checking::check;
 use crate::hints::hint_of;
 use crate::input_files::{InputFiles, NotRead};
 use crate::printing::print_report;
 use crate::problem::Problem;
 use crate::report::Report;
+use crate::requests::{CountRequest, count_request};
 use std::alloc::Global;
 use streams::Sink;
 
-/// Why the program's words can't be read.
+/// The reason why the program's arguments can't be read.
 #[derive(Clone, Copy)]
 pub enum ArgumentsFault {
-    /// One isn't UTF-8.
+    /// An argument isn't UTF-8.
     NotUtf8,
-    /// Memory was wanting.
+    /// An allocation failed.
     Memory,
 }
 
-/// The bytes of a file, or what comes of it where it isn't read.
+/// Returns the bytes of a file, or the outcome if it can't be read.
 fn bytes_of<F: InputFiles>(alloc: Global, folder: &F, path: &str) -> Result<Vec<u8>, Report>
     ensures ok { IfOk result (λ bytes. Holds (F.held folder.now) path.now bytes.items) }
     ensures err { IfErr result (λ told. IsUnreadFile (F.held folder.now) path.now told) }
@@ -39,7 +43,7 @@ fn bytes_of<F: InputFiles>(alloc: Global, folder: &F, path: &str) -> Result<Vec<
     }
 }
 
-/// What comes of a text beside ballots.
+/// Returns the outcome of checking a text against ballots.
 fn checked(alloc: Global, ballots: &[u8], text: &[u8]) -> Report
     ensures { IsCheckOutcome ballots.now text.now result }
 {
@@ -52,7 +56,7 @@ fn checked(alloc: Global, ballots: &[u8], text: &[u8]) -> Report
     }
 }
 
-/// What comes of the file of a text beside ballots.
+/// Returns the outcome of checking the file of a text against ballots.
 fn checked_file<F: InputFiles>(alloc: Global, folder: &F, ballots: &[u8], path: &str) -> Report
     ensures { IsTextOutcome (F.held folder.now) ballots.now path.now result }
 {
@@ -62,7 +66,7 @@ fn checked_file<F: InputFiles>(alloc: Global, folder: &F, ballots: &[u8], path: 
     }
 }
 
-/// What comes of the files of ballots and of a text.
+/// Returns the outcome for the files of ballots and of a text.
 fn checked_files<F: InputFiles>(alloc: Global, folder: &F, ballots: &str, text: &str) -> Report
     ensures { IsFilesOutcome (F.held folder.now) ballots.now text.now result }
 {
@@ -72,31 +76,88 @@ fn checked_files<F: InputFiles>(alloc: Global, folder: &F, ballots: &str, text: 
     }
 }
 
-/// Whether a word asks for help.
+/// Returns whether an argument requests help.
 fn is_help(word: &str) -> bool
     ensures { result ≡ is_help word.now }
 {
     word == "--help" || word == "-h"
 }
 
-/// What comes of what is asked for.
-fn answer<F: InputFiles>(alloc: Global, words: &[String], folder: &F) -> Report
-    ensures { IsAnswer (F.held folder.now) (asked (map string_bytes words.now)) result }
+/// Returns the outcome of a request to check.
+fn check_answer<F: InputFiles>(alloc: Global, words: &[String], folder: &F) -> Report
+    ensures { IsAnswer (F.held folder.now) (check_asked (map string_bytes words.now)) result }
 {
     match words {
         [word] => {
             if is_help(word.as_str()) {
                 Report::Help
             } else {
-                Report::NotAsked
+                Report::BadArguments
             }
         }
         [ballots, text] => checked_files(alloc, folder, ballots.as_str(), text.as_str()),
-        _ => Report::NotAsked,
+        _ => Report::BadArguments,
     }
 }
 
-/// What comes of the program's words, or of why they can't be read.
+/// Returns the outcome of counting ballots.
+fn counted(alloc: Global, ballots: &[u8], request: &CountRequest) -> Report
+    ensures { IsCountOutcome ballots.now (request_told request.now) result }
+{
+    match count_ballots(alloc, ballots, &request.lots, &request.text) {
+        Ok(counted) => Report::Counted(counted),
+        Err(problem) => Report::NotCounted(problem),
+    }
+}
+
+/// Returns the outcome of counting a file of ballots.
+fn counted_file<F: InputFiles>(alloc: Global, folder: &F, request: &CountRequest) -> Report
+    ensures { IsCountFileOutcome (F.held folder.now) (request_told request.now) result }
+{
+    match bytes_of(alloc, folder, request.ballots) {
+        Ok(ballots) => counted(alloc, &ballots, request),
+        Err(told) => told,
+    }
+}
+
+/// Returns whether help about counting is requested.
+fn is_help_alone(words: &[String]) -> bool
+    ensures { result ≡ is_help_alone (map string_bytes words.now) }
+{
+    match words {
+        [word] => is_help(word.as_str()),
+        _ => false,
+    }
+}
+
+/// Returns the outcome of a request to count.
+fn count_answer<F: InputFiles>(alloc: Global, words: &[String], folder: &F) -> Report
+    ensures { IsAnswer (F.held folder.now) (count_asked (map string_bytes words.now)) result }
+{
+    if is_help_alone(words) {
+        return Report::CountHelp;
+    }
+    match count_request(alloc, words) {
+        Ok(Ok(request)) => counted_file(alloc, folder, &request),
+        Ok(Err(flaw)) => Report::Misread(flaw),
+        Err(_) => Report::Hindered(Problem::Memory),
+    }
+}
+
+/// Returns the outcome of a request.
+fn answer<F: InputFiles>(alloc: Global, words: &[String], folder: &F) -> Report
+    ensures { IsAnswer (F.held folder.now) (asked (map string_bytes words.now)) result }
+{
+    let [word, others @ ..] = words else {
+        return Report::BadArguments;
+    };
+    if word.as_str() == "--count" {
+        return count_answer(alloc, others, folder);
+    }
+    check_answer(alloc, words, folder)
+}
+
+/// Returns the outcome of the program's arguments, or of the failure to read them.
 fn outcome_of<F: InputFiles>(
     alloc: Global,
     words: &Result<Vec<String>, ArgumentsFault>,
@@ -111,12 +172,17 @@ fn outcome_of<F: InputFiles>(
     }
 }
 
-/// Does what the program's words ask, prints what comes of it, and gives the status.
+/// Executes the request in the program's arguments, prints the outcome, and returns the status.
 ///
-/// The words are `--help`, or the paths of the ballots and of the text that is checked against them. The status is 0 for help, and
-/// where the text is the sheet or the declaration that the ballots give; `out` gets that. It is 1 where the text differs. It is 2
-/// where the words or the ballots aren't understood, or the count doesn't come to its end. It is 3 where a file can't be read or
-/// memory is wanting. Each of these goes to `err`. It is 3 too where one of the two outputs fails, which has then taken a beginning.
+/// The arguments of a check are `--help`, or the paths of the ballots and of the text that is checked against them. The status is 0
+/// if the text is the sheet or the declaration that results from the ballots, which is printed on `out`. It is 1 if the text differs.
+///
+/// The arguments of a count are `--count`, followed by `--help`, or by the path of the ballots, the option for a text other than the
+/// sheet, and lots. The text is printed on `out`. The status is 0 if the count is finished. It is 1 if a lot is needed: the text is
+/// then of the stages so far, and `err` names the stage and the tied candidates.
+///
+/// The status is 0 for help, 2 if the arguments or the ballots aren't understood or can't be counted, and 3 if a file can't be read or
+/// an allocation fails; the reason is printed on `err`. It is also 3 if one of the two outputs fails, which has then accepted a prefix.
 pub fn run<F: InputFiles, O: Sink, E: Sink>(
     alloc: Global,
     words: &Result<Vec<String>, ArgumentsFault>,
@@ -127,7 +193,7 @@ pub fn run<F: InputFiles, O: Sink, E: Sink>(
     requires out { O.failed out.old < 2 ^ 64 - 1 }
     requires err { E.failed err.old < 2 ^ 64 - 1 }
     ensures { let outputs = outputs_of O.taken O.failed E.taken E.failed in
-        TellsSome (outputs out.old err.old) (outputs out.new err.new) result (λ page. IsPageFor (F.held folder.now) (words_told (λ given. map string_bytes given.items) words.now) page) }
+        PrintsSomeReport (outputs out.old err.old) (outputs out.new err.new) result (λ page. IsPageFor (F.held folder.now) (words_told (λ given. map string_bytes given.items) words.now) page) }
 {
-    print_report(alloc, &outcome_of(alloc, words, folder), out, err)
+    print_report(alloc, outcome_of(alloc, words, folder), out, err)
 }

@@ -1,27 +1,27 @@
 //! Our own comments: the number of the ward, the rejected papers of each code, and the lots.
 
 ghost use Rattle.std.specs.Prelude.{◌≡◌, ◌∷◌, [], map, option_map, IfOk, OnOk, codes};
-ghost use Rattle.checker.specs.Comments.{code_in, codes_in, count_in, is_drawn, is_end, is_word, lot_in, rejected_in, small_in, told_once, ward_in};
-ghost use Rattle.checker.specs.Comments.{with_comment, with_kind, with_lot, with_other, with_rejected, with_ward, with_words};
+ghost use Rattle.checker.specs.BallotsComments.{code_in, codes_in, count_in, is_drawn, is_end, is_word, lot_in, rejected_counts_in, small_in, told_once, ward_in};
+ghost use Rattle.checker.specs.BallotsComments.{with_comment, with_kind, with_lot, with_other, with_rejected, with_ward, with_words};
 ghost use Rattle.checker.specs.Outcomes.{outcome};
-ghost use Rattle.checker.specs.Views.{remarks_of};
+ghost use Rattle.checker.specs.Values.{remarks_of};
 
+use crate::file_content::Comments;
 use crate::foreign_comments::skip_foreign;
 use crate::numbers::number_in;
 use crate::problem::BallotsFlaw;
-use crate::state::Comments;
 use crate::tokens::{Separator, pieces_of};
 use std::alloc::{AllocError, Global};
 
-/// Whether a word is this one.
+/// Returns whether a word equals this one.
 fn is_word(text: &str, word: &[u8]) -> bool
     ensures { result ≡ is_word text.now word.now }
 {
     word == text.as_bytes()
 }
 
-/// A number that fits one byte.
-fn small_in(word: &[u8]) -> Option<u8>
+/// Parses a number that fits in one byte.
+pub(crate) fn small_in(word: &[u8]) -> Option<u8>
     ensures { result ≡ small_in word.now }
 {
     match number_in(255, word) {
@@ -30,7 +30,7 @@ fn small_in(word: &[u8]) -> Option<u8>
     }
 }
 
-/// A number that fits four bytes.
+/// Parses a number that fits in four bytes.
 fn count_in(word: &[u8]) -> Option<u32>
     ensures { result ≡ count_in word.now }
 {
@@ -40,7 +40,7 @@ fn count_in(word: &[u8]) -> Option<u32>
     }
 }
 
-/// The number of a ward.
+/// Parses the number of a ward.
 fn ward_in(words: &[&[u8]]) -> Option<u8>
     ensures { result ≡ ward_in (map (λ w. w.now) words.now) }
 {
@@ -50,7 +50,7 @@ fn ward_in(words: &[&[u8]]) -> Option<u8>
     }
 }
 
-/// Whether there are no words.
+/// Returns whether there are no words.
 fn is_end(words: &[&[u8]]) -> bool
     ensures { result ≡ is_end (map (λ w. w.now) words.now) }
 {
@@ -60,7 +60,7 @@ fn is_end(words: &[&[u8]]) -> bool
     }
 }
 
-/// The rejected papers of a code, and the words behind them.
+/// Parses the number of rejected papers for a code; returns it with the remaining words.
 fn code_in<'a, 'b>(code: &str, words: &'b [&'a [u8]]) -> Option<(u32, &'b [&'a [u8]])>
     ensures { option_map (λ told. (told.0, map (λ w. w.now) told.1.now)) result ≡ code_in code.now (map (λ w. w.now) words.now) }
 {
@@ -73,9 +73,9 @@ fn code_in<'a, 'b>(code: &str, words: &'b [&'a [u8]]) -> Option<(u32, &'b [&'a [
     Some((count_in(papers)?, others))
 }
 
-/// The rejected papers of each code.
-fn rejected_in(words: &[&[u8]]) -> Option<[u32; 5]>
-    ensures { result ≡ rejected_in (map (λ w. w.now) words.now) }
+/// Parses the number of rejected papers for each code.
+fn rejected_counts_in(words: &[&[u8]]) -> Option<[u32; 5]>
+    ensures { result ≡ rejected_counts_in (map (λ w. w.now) words.now) }
 {
     let (first, words) = code_in("1", words)?;
     let (second, words) = code_in("2", words)?;
@@ -88,7 +88,7 @@ fn rejected_in(words: &[&[u8]]) -> Option<[u32; 5]>
     Some([first, second, third, fourth, fifth])
 }
 
-/// The candidate whom a lot named, behind its stage.
+/// Parses a stage and the candidate drawn by its lot.
 fn lot_in(words: &[&[u8]]) -> Option<(u8, u8)>
     ensures { result ≡ lot_in (map (λ w. w.now) words.now) }
 {
@@ -101,8 +101,8 @@ fn lot_in(words: &[&[u8]]) -> Option<(u8, u8)>
     Some((small_in(k)?, small_in(c)?))
 }
 
-/// Whether a lot is recorded for a stage.
-fn is_drawn(stage: u8, lots: &[(u8, u8)]) -> bool
+/// Returns whether a lot is recorded for a stage.
+pub(crate) fn is_drawn(stage: u8, lots: &[(u8, u8)]) -> bool
     ensures { result ≡ is_drawn stage lots.now }
 {
     for lot in lots {
@@ -113,7 +113,7 @@ fn is_drawn(stage: u8, lots: &[(u8, u8)]) -> bool
     false
 }
 
-/// Keeps what a comment says, where it is understood, and no comment before said the same.
+/// Stores the content of a comment, if it is understood, and if no earlier comment had the same subject.
 fn keep_once<T: Copy>(
     kept: &mut Option<T>,
     told: Option<T>,
@@ -132,21 +132,21 @@ fn keep_once<T: Copy>(
 }
 
 impl Comments {
-    /// The number of the ward, where a comment gives it.
+    /// Stores the number of the ward, if a comment contains it.
     fn take_ward(&mut self, ward: Option<u8>) -> Result<(), BallotsFlaw>
         ensures { outcome result (remarks_of self.new) ≡ with_ward (remarks_of self.old) ward }
     {
         keep_once(&mut self.ward, ward, BallotsFlaw::Ward)
     }
 
-    /// The rejected papers, where a comment gives them.
+    /// Stores the rejected papers, if a comment contains them.
     fn take_rejected(&mut self, rejected: Option<[u32; 5]>) -> Result<(), BallotsFlaw>
         ensures { outcome result (remarks_of self.new) ≡ with_rejected (remarks_of self.old) rejected }
     {
         keep_once(&mut self.rejected, rejected, BallotsFlaw::Rejected)
     }
 
-    /// A lot, where a comment gives it.
+    /// Stores a lot, if a comment contains it.
     fn take_lot(&mut self, lot: Option<(u8, u8)>) -> Result<Result<(), BallotsFlaw>, AllocError>
         ensures { IfOk result (λ told. outcome told (remarks_of self.new) ≡ with_lot (remarks_of self.old) lot) }
     {
@@ -160,14 +160,14 @@ impl Comments {
         Ok(Ok(()))
     }
 
-    /// A comment that isn't ours.
+    /// Processes a comment that isn't ours.
     fn take_other(&self, line: &[u8]) -> Result<(), BallotsFlaw>
         ensures { outcome result (remarks_of self.now) ≡ with_other (remarks_of self.now) line.now }
     {
         skip_foreign(line)
     }
 
-    /// A line with a comment of a kind, and the words behind it.
+    /// Processes a comment line of a certain kind, given the remaining words.
     fn take_kind(
         &mut self,
         line: &[u8],
@@ -180,7 +180,7 @@ impl Comments {
             return Ok(self.take_ward(ward_in(words)));
         }
         if is_word("Rejected", kind) {
-            return Ok(self.take_rejected(rejected_in(words)));
+            return Ok(self.take_rejected(rejected_counts_in(words)));
         }
         if is_word("Lot", kind) {
             return self.take_lot(lot_in(words));
@@ -188,7 +188,7 @@ impl Comments {
         Ok(self.take_other(line))
     }
 
-    /// The words of a line with a comment.
+    /// Processes the words of a comment line.
     fn take_words(
         &mut self,
         line: &[u8],
@@ -205,7 +205,7 @@ impl Comments {
         self.take_kind(line, kind, others)
     }
 
-    /// A comment on a line of its own.
+    /// Processes a comment on a line of its own.
     pub(crate) fn take(
         &mut self,
         alloc: Global,

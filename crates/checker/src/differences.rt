@@ -1,23 +1,23 @@
-//! Where a text first differs from another.
+//! The first difference between two texts.
 
 ghost use Rattle.std.specs.Prelude.{◌≡◌, ◌≤◌, length, string_bytes, IfOk};
 ghost use Rattle.checker.specs.Differences.{IsComparison, behind_lines, common, ended_lines, first_line, nearer};
 
 use std::alloc::{AllocError, Global};
 
-/// What came of a check.
+/// The outcome of a check.
 #[derive(Drop)]
 pub enum Checked {
-    /// The text is exactly the stage sheet that the ballots give.
+    /// The text is exactly the stage sheet that results from the ballots.
     Sheet,
-    /// The text is exactly the declaration that the ballots give.
+    /// The text is exactly the declaration that results from the ballots.
     Declaration,
-    /// The text differs: the first line that does, counted from 1, and what it should be, with its line
-    /// feed; empty where the text should have ended.
+    /// The text differs: the first line that does, counted from 1, and what it should be, including its line feed; empty if the text
+    /// should have ended.
     Differs { line: u64, should_be: String },
 }
 
-/// The longest beginning that two texts share.
+/// Returns the longest common prefix of two texts.
 fn common<'a>(text: &'a [u8], other: &[u8]) -> &'a [u8]
     ensures { result.now ≡ common text.now other.now }
 {
@@ -32,7 +32,7 @@ fn common<'a>(text: &'a [u8], other: &[u8]) -> &'a [u8]
     text
 }
 
-/// How many lines of a text are ended.
+/// Returns how many lines of a text are terminated.
 fn ended_lines(text: &[u8]) -> usize
     ensures is { result ≡ ended_lines text.now }
     ensures few { result ≤ length text.now }
@@ -46,7 +46,7 @@ fn ended_lines(text: &[u8]) -> usize
     lines
 }
 
-/// A text behind so many of its lines.
+/// Returns the rest of a text after a number of lines.
 fn behind_lines(lines: usize, text: &[u8]) -> &[u8]
     ensures { result.now ≡ behind_lines lines text.now }
 {
@@ -63,7 +63,7 @@ fn behind_lines(lines: usize, text: &[u8]) -> &[u8]
     &[]
 }
 
-/// The first line of a text, with its line feed.
+/// Returns the first line of a text, including its line feed.
 fn first_line(text: &[u8]) -> &[u8]
     ensures { result.now ≡ first_line text.now }
 {
@@ -75,7 +75,7 @@ fn first_line(text: &[u8]) -> &[u8]
     text
 }
 
-/// A line of a text, behind so many of its lines.
+/// Returns the line of a text after a number of lines; `AllocError` if an allocation fails.
 fn line_behind(alloc: Global, lines: usize, text: &str) -> Result<String, AllocError>
     ensures { IfOk result (λ line. string_bytes line ≡ first_line (behind_lines lines text.now)) }
 {
@@ -84,7 +84,7 @@ fn line_behind(alloc: Global, lines: usize, text: &str) -> Result<String, AllocE
     Ok(String::from_utf8(bytes).unwrap())
 }
 
-/// Of a sheet and a declaration the one that a text is like for longer.
+/// Returns the sheet or the declaration, whichever shares the longer prefix with a text.
 fn nearer<'a>(text: &[u8], sheet: &'a str, declaration: &'a str) -> &'a str
     ensures { result.now ≡ nearer text.now sheet.now declaration.now }
 {
@@ -95,7 +95,7 @@ fn nearer<'a>(text: &[u8], sheet: &'a str, declaration: &'a str) -> &'a str
     }
 }
 
-/// A text beside a sheet and a declaration. The only error is want of memory.
+/// Compares a text with a sheet and a declaration. The only error is a failed allocation.
 pub(crate) fn comparison(
     alloc: Global,
     text: &[u8],

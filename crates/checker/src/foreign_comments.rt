@@ -1,13 +1,13 @@
-//! Comments that are passed over, and those that aren't since they begin as ours do.
+//! Comments that are ignored, and those that are refused because they begin like ours.
 
 ghost use Rattle.std.specs.Prelude.{◌≡◌};
-ghost use Rattle.checker.specs.ForeignComments.{begins_as_ours, behind_number_sign, behind_signs, first_letters, is_ours, skip_foreign};
+ghost use Rattle.checker.specs.ForeignComments.{begins_as_ours, behind_number_sign, after_signs, first_letters, is_count_office_word, skip_foreign};
 
 use crate::problem::BallotsFlaw;
 
-/// A text from its first letter or digit on.
-fn behind_signs(text: &[u8]) -> &[u8]
-    ensures { result.now ≡ behind_signs text.now }
+/// Returns a text from its first letter or digit on.
+fn after_signs(text: &[u8]) -> &[u8]
+    ensures { result.now ≡ after_signs text.now }
 {
     for i in 0..text.len() {
         if text[i].is_ascii_alphanumeric() {
@@ -17,7 +17,7 @@ fn behind_signs(text: &[u8]) -> &[u8]
     &[]
 }
 
-/// The letters at the front of a text.
+/// Returns the letters at the beginning of a text.
 fn first_letters(text: &[u8]) -> &[u8]
     ensures { result.now ≡ first_letters text.now }
 {
@@ -29,22 +29,22 @@ fn first_letters(text: &[u8]) -> &[u8]
     text
 }
 
-/// Whether a word is one of ours, in capitals or not.
-fn is_ours(word: &[u8]) -> bool
-    ensures { result ≡ is_ours word.now }
+/// Returns whether a word is one of ours, ignoring case.
+fn is_count_office_word(word: &[u8]) -> bool
+    ensures { result ≡ is_count_office_word word.now }
 {
     word.eq_ignore_ascii_case(b"Ward")
         || (word.eq_ignore_ascii_case(b"Rejected") || word.eq_ignore_ascii_case(b"Lot"))
 }
 
-/// Whether a comment begins with one of our words.
+/// Returns whether a comment begins with one of our words.
 fn begins_as_ours(comment: &[u8]) -> bool
     ensures { result ≡ begins_as_ours comment.now }
 {
-    is_ours(first_letters(behind_signs(comment)))
+    is_count_office_word(first_letters(after_signs(comment)))
 }
 
-/// Passes over a comment that isn't read as one of ours, unless it begins as ours do.
+/// Ignores a comment that isn't one of ours, unless it begins like ours.
 pub(crate) fn skip_foreign(comment: &[u8]) -> Result<(), BallotsFlaw>
     ensures { result ≡ skip_foreign comment.now }
 {
@@ -54,7 +54,7 @@ pub(crate) fn skip_foreign(comment: &[u8]) -> Result<(), BallotsFlaw>
     Ok(())
 }
 
-/// What stands behind the `#` of a line of numbers.
+/// Returns the rest of a line of numbers after its `#`.
 pub(crate) fn behind_number_sign(line: &[u8]) -> &[u8]
     ensures { result.now ≡ behind_number_sign line.now }
 {

@@ -1,6 +1,6 @@
 //! The program's help.
 
-/// What the program prints of itself.
+/// The text that the program prints about checking.
 pub(crate) const HELP: &str =
     "Checks a stage sheet or a declaration against the ballots of its ward, without an office.
 
@@ -15,4 +15,30 @@ The status is 0 where the text is the very one that these ballots, rejected pape
 give. It is 1 where the text differs: the program prints the first line that differs, and what
 it should be. It is 2 where the words or the ballots are not understood, or a lot is wanting.
 It is 3 where a file can't be read, memory is wanting, or an output fails.
+";
+
+/// The text that the program prints about counting.
+pub(crate) const COUNT_HELP: &str =
+    "Counts the ballots of a ward, without an office, and prints the stage sheet.
+
+Usage: count-office - count <BALLOTS> [--declaration | --page [--title <TEXT>] | --table |
+       --ballots] [--lot <STAGE>:<CANDIDATE>]..
+
+Arguments:
+  <BALLOTS>  The path of the ballots, as the order ballots prints them, or as other programs
+             write them (BLT); a hyphen alone is standard input
+
+Options:
+  --declaration              Print the declaration instead, once the count is finished
+  --page                     Print the page for a browser instead
+  --title <TEXT>             The title above the page
+  --table                    Print the table for a spreadsheet instead
+  --ballots                  Print the ballots and the lots instead
+  --lot <STAGE>:<CANDIDATE>  A lot that the ballots don't record: its stage, and the number of
+                             the candidate drawn; give one for each such stage
+
+The status is 0 if the count is finished. It is 1 if a lot is needed: the program prints the
+text for the stages so far, and on standard error the stage and the tied candidates. It is 2 if
+the words or the ballots are not understood, or a lot doesn't fit the count. It is 3 if a file
+can't be read, memory is wanting, or an output fails.
 ";

@@ -1,20 +1,20 @@
-//! What can't be seen of a text that differs.
+//! Invisible differences of a text.
 
 ghost use Rattle.std.specs.Prelude.{◌≡◌};
 ghost use Rattle.checker.specs.Reports.{hint_of, hint_text, is_marked, is_unended};
 
-/// Why a text may differ where nothing is seen.
+/// An invisible reason why a text may differ.
 #[derive(Clone, Copy)]
 pub enum Hint {
-    /// A byte order mark stands at its front.
+    /// The text begins with a byte order mark.
     ByteOrderMark,
-    /// It has carriage returns.
+    /// The text contains carriage returns.
     CarriageReturns,
-    /// Its last line isn't ended.
+    /// The last line isn't terminated.
     NoLineEnd,
 }
 
-/// What can't be seen of a text.
+/// Returns the invisible reason why a text may differ, if there is one.
 pub(crate) fn hint_of(text: &[u8]) -> Option<Hint>
     ensures { result ≡ hint_of text.now }
 {
@@ -30,7 +30,7 @@ pub(crate) fn hint_of(text: &[u8]) -> Option<Hint>
     None
 }
 
-/// Whether a text has a last byte that doesn't end a line.
+/// Returns whether a text has a last byte that isn't a line end.
 fn is_unended(text: &[u8]) -> bool
     ensures { result ≡ is_unended text.now }
 {
@@ -40,7 +40,7 @@ fn is_unended(text: &[u8]) -> bool
     }
 }
 
-/// Whether a byte order mark stands at the front of a text.
+/// Returns whether a text begins with a byte order mark.
 fn is_marked(text: &[u8]) -> bool
     ensures { result ≡ is_marked text.now }
 {
@@ -50,7 +50,7 @@ fn is_marked(text: &[u8]) -> bool
     }
 }
 
-/// A hint in words.
+/// Returns a hint in words.
 pub(crate) fn hint_text(hint: Option<Hint>) -> &'static str
     ensures { result.now ≡ hint_text hint }
 {

@@ -1,14 +1,15 @@
-//! Checks a stage sheet or a declaration against the ballots of its ward: whether the text is exactly the one
-//! that these ballots, rejected papers and lots give. Nothing of an office is needed.
+//! Counts the ballots of a ward, and checks a stage sheet or a declaration against them: whether the text is exactly the result of
+//! these ballots, rejected papers and lots. Nothing from an office is needed.
 //!
-//! [`check`] reads the ballots, as `ballots` prints them or as other counting programs write them (BLT), counts them to the end
-//! by the recorded lots, and compares. A [`Problem`] says what of the ballots isn't understood, or which lot is wanting. [`run`]
-//! does what the checker's words ask: it has both files read from a [`InputFiles`], and prints what came of it on two outputs.
+//! [`check`] reads the ballots, as printed by `ballots` or written by other counting programs (BLT), counts them to the end with the
+//! recorded lots, and compares. A [`Problem`] is the part of the ballots that isn't understood, or the lot that is missing.
+//! [`count_ballots`] counts them in the same way, and returns a [`CountText`] of the count. [`run`] executes the request in the
+//! program's arguments: it reads the files through an [`InputFiles`], and prints the outcome on two outputs.
 //!
 //! ```text
 //! match check(alloc, ballots, text)? {
-//!     Checked::Sheet => ..,                         // these ballots give this very stage sheet,
-//!     Checked::Declaration => ..,                   // or this very declaration
+//!     Checked::Sheet => ..,                         // the text is exactly the stage sheet of these ballots,
+//!     Checked::Declaration => ..,                   // or exactly their declaration
 //!     Checked::Differs { line, should_be } => ..,   // the first line that differs, and what it should be
 //! }
 //! ```
@@ -20,29 +21,35 @@ mod problem;
 // a text in lines, a line in words, and words that are numbers
 mod numbers;
 mod tokens;
-// what a file has said so far, and what each of its lines adds
+// what a file contains so far, and what each of its lines adds
 mod comments;
+mod file_content;
 mod foreign_comments;
 mod names;
 mod papers;
 mod ranks;
 mod reading;
-mod state;
-// the ward that it describes, and a text beside it
+// the ward in a file, its count by the lots, the texts of the count, and the comparison of a text with them
+mod ballot_counts;
 mod checking;
+mod counting;
+mod lot_lines;
 mod lots;
 mod reading_back;
 mod wards;
-// what the program is asked for, and what it prints
+// the program's request, and what it prints
 mod arguments;
 mod help;
 mod hints;
 mod input_files;
 mod printing;
+mod remedies;
 mod report;
-mod shown;
+mod requests;
+mod terminal_escaping;
 
 pub use arguments::{ArgumentsFault, run};
+pub use ballot_counts::{CountProblem, CountText, CountedText, count_ballots};
 pub use checking::check;
 pub use differences::Checked;
 pub use input_files::{InputFiles, NotRead};

@@ -1,15 +1,16 @@
-//! Lots that are recorded where none is drawn.
+//! Lots in the order of their stages, and recorded lots for stages at which none is drawn.
 
-ghost use Rattle.std.specs.Prelude.{◌≡◌, IfOk};
-ghost use Rattle.count.specs.Bundles.{papers_of};
-ghost use Rattle.count.specs.Law.Contest.{IsContest, contest_for};
-ghost use Rattle.checker.specs.Checks.{dues_of, is_drawn_by, is_lot, undrawn, undrawn_by};
+ghost use Rattle.std.specs.Prelude.{◌≡◌, ◌≤◌, length, IfOk, IfErr, OnOk};
+ghost use Rattle.checker.specs.Checks.{is_drawn_by, is_lot, undrawn_by};
+ghost use Rattle.checker.specs.Counts.{IsLotProblem, lots_of, place_in, with_lot, with_lots};
 
-use count::{BundleBook, Bundles, Due, dues_to};
-use paper::Columns;
+use crate::ballot_counts::CountProblem;
+use crate::comments::is_drawn;
+use crate::problem::Problem;
+use count::Due;
 use std::alloc::{AllocError, Global};
 
-/// Whether a lot has to be drawn.
+/// Returns whether a lot must be drawn.
 fn is_lot(due: &Due) -> bool
     ensures { result ≡ is_lot due.now }
 {
@@ -19,7 +20,7 @@ fn is_lot(due: &Due) -> bool
     }
 }
 
-/// Whether a lot is drawn for a stage, where this is due before the first stages.
+/// Returns whether a lot is drawn for a stage, given what is due before the first stages.
 fn is_drawn_by(dues: &[Due], stage: u8) -> bool
     ensures { result ≡ is_drawn_by dues.now stage }
 {
@@ -29,8 +30,8 @@ fn is_drawn_by(dues: &[Due], stage: u8) -> bool
     }
 }
 
-/// The stage of the first of some lots that isn't drawn.
-fn undrawn_by(dues: &[Due], lots: &[(u8, u8)]) -> Option<u8>
+/// Returns the stage of the first of some lots that isn't drawn.
+pub(crate) fn undrawn_by(dues: &[Due], lots: &[(u8, u8)]) -> Option<u8>
     ensures { result ≡ undrawn_by dues.now lots.now }
 {
     for lot in lots {
@@ -41,35 +42,53 @@ fn undrawn_by(dues: &[Due], lots: &[(u8, u8)]) -> Option<u8>
     None
 }
 
-/// What is due before each of the first 256 stages of a count, which is finished then.
-fn dues_of(
-    alloc: Global,
-    numbers: Columns,
-    seats: u8,
-    bundles: &Bundles,
-    lots: &[(u8, u8)],
-) -> Result<Vec<Due>, AllocError>
-    requires { IsContest (contest_for numbers seats (papers_of bundles.now)) }
-    ensures { IfOk result (λ dues. dues.items ≡ dues_of (contest_for numbers seats (papers_of bundles.now)) lots.now) }
+/// Returns where a lot for a stage belongs among lots in the order of their stages.
+fn place_in(stage: u8, lots: &[(u8, u8)]) -> usize
+    ensures is { result ≡ place_in stage lots.now }
+    ensures few { result ≤ length lots.now }
 {
-    let mut book = BundleBook::new(alloc, numbers, seats, bundles)?;
-    dues_to(alloc, &mut book, lots, 255)
+    for i in 0..lots.len() {
+        if stage < lots[i].0 {
+            return i;
+        }
+    }
+    lots.len()
 }
 
-/// The stage of the first recorded lot that isn't drawn. Where none is recorded nothing is counted.
-pub(crate) fn undrawn(
-    alloc: Global,
-    numbers: Columns,
-    seats: u8,
-    bundles: &Bundles,
-    lots: &[(u8, u8)],
-) -> Result<Option<u8>, AllocError>
-    requires { IsContest (contest_for numbers seats (papers_of bundles.now)) }
-    ensures { IfOk result (λ stage. stage ≡ undrawn (contest_for numbers seats (papers_of bundles.now)) lots.now) }
+/// Adds a lot in the order of the stages.
+fn add_lot(lots: &mut Vec<(u8, u8)>, lot: (u8, u8)) -> Result<(), AllocError>
+    ensures { OnOk result (lots.new.items ≡ with_lot lots.old.items lot) }
 {
-    if let [] = lots {
-        return Ok(None);
+    let place = place_in(lot.0, lots);
+    lots.insert(place, lot)?;
+    Ok(())
+}
+
+/// Returns lots with further ones, in the order of their stages; no two may be for one stage.
+fn with_lots(mut lots: Vec<(u8, u8)>, more: &[(u8, u8)]) -> Result<Vec<(u8, u8)>, CountProblem>
+    ensures ok { IfOk result (λ all. with_lots lots.items more.now ≡ Ok all.items) }
+    ensures err { IfErr result (λ problem. IsLotProblem (with_lots lots.items more.now) problem) }
+{
+    for lot in more {
+        if is_drawn(lot.0, &lots) {
+            return Err(CountProblem::LotTwice { stage: lot.0 });
+        }
+        if add_lot(&mut lots, *lot).is_err() {
+            return Err(CountProblem::Ballots(Problem::Memory));
+        }
     }
-    let dues = dues_of(alloc, numbers, seats, bundles, lots)?;
-    Ok(undrawn_by(&dues, lots))
+    Ok(lots)
+}
+
+/// Returns the recorded lots and further ones, in the order of their stages; no two may be for one stage.
+pub(crate) fn lots_of(
+    alloc: Global,
+    recorded: &[(u8, u8)],
+    added: &[(u8, u8)],
+) -> Result<Vec<(u8, u8)>, CountProblem>
+    ensures ok { IfOk result (λ lots. lots_of recorded.now added.now ≡ Ok lots.items) }
+    ensures err { IfErr result (λ problem. IsLotProblem (lots_of recorded.now added.now) problem) }
+{
+    let lots = with_lots(Vec::new(alloc), recorded)?;
+    with_lots(lots, added)
 }

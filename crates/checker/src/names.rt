@@ -1,9 +1,9 @@
-//! Names, a line each, in quotation marks.
+//! Names in quotation marks, one per line.
 
 ghost use Rattle.std.specs.Prelude.{◌≡◌, [], ◌∷◌, IfOk, OnOk, string_bytes};
 ghost use Rattle.checker.specs.Names.{as_text, name_in, name_of, outside, with_byte, with_bytes};
 ghost use Rattle.checker.specs.Outcomes.{told_as};
-ghost use Rattle.checker.specs.Views.{quoting_of};
+ghost use Rattle.checker.specs.Values.{quoting_of};
 
 use crate::foreign_comments::skip_foreign;
 use crate::problem::BallotsFlaw;
@@ -11,27 +11,27 @@ use crate::tokens::is_blank;
 use std::alloc::{AllocError, Global};
 use std::str;
 
-/// The most bytes of a name. A sheet shows each name at each stage, so a longer one would take much room there.
+/// The maximum number of bytes in a name. A sheet contains every name at every stage, so longer names would make it very large.
 const MAX_NAME: usize = 1000;
 
-/// Where the next byte of a line with a name stands.
+/// The position of the next byte in a line with a name.
 #[derive(Clone, Copy)]
 pub(crate) enum Within {
-    /// Before the quotation mark that opens the name.
+    /// Before the opening quotation mark.
     Before,
     /// In the name.
     Inside,
-    /// In the name, behind a backslash.
+    /// In the name, after a backslash.
     Escaped,
-    /// Behind the quotation mark that closes it.
+    /// After the closing quotation mark.
     Behind,
-    /// Behind a `#` there.
+    /// In the comment after that, which begins with `#`.
     Comment,
-    /// Behind what stands beside a name.
+    /// After something that isn't part of the name.
     Beside,
 }
 
-/// A name that is read so far, the comment behind it, and where the next byte of its line stands.
+/// The name read so far, the comment after it, and the position of the next byte in its line.
 #[derive(Drop)]
 pub(crate) struct Quoted {
     name: Vec<u8>,
@@ -39,7 +39,7 @@ pub(crate) struct Quoted {
     within: Within,
 }
 
-/// A name that isn't too long, and is text.
+/// Returns a name if it is UTF-8 and not too long.
 fn as_text(name: Vec<u8>) -> Result<String, BallotsFlaw>
     ensures { told_as (λ text. string_bytes text) result ≡ as_text name.items }
 {
@@ -54,7 +54,7 @@ fn as_text(name: Vec<u8>) -> Result<String, BallotsFlaw>
 }
 
 impl Quoted {
-    /// Some bytes more of the name.
+    /// Appends bytes to the name.
     fn add(&mut self, bytes: &[u8]) -> Result<(), AllocError>
         ensures { OnOk result (quoting_of self.new ≡ with_bytes (quoting_of self.old) bytes.now) }
     {
@@ -63,8 +63,8 @@ impl Quoted {
         Ok(())
     }
 
-    /// One byte outside the name: a sign leads on, a blank leaves all as it is, and any other byte stands beside
-    /// a name.
+    /// Processes a byte outside the name: a certain sign moves to the next position, a blank changes nothing, and any other byte is
+    /// an error, reported at the end.
     fn take_outside(&mut self, sign: u8, next: Within, byte: u8)
         ensures { quoting_of self.new ≡ outside sign next (quoting_of self.old) byte }
     {
@@ -75,7 +75,7 @@ impl Quoted {
         }
     }
 
-    /// One byte more.
+    /// Processes one byte.
     fn take(&mut self, byte: u8) -> Result<(), AllocError>
         ensures { OnOk result (quoting_of self.new ≡ with_byte (quoting_of self.old) byte) }
     {
@@ -113,7 +113,7 @@ impl Quoted {
         }
     }
 
-    /// The name of a line that was read to its end.
+    /// Returns the name in a line that was read to its end.
     fn into_name(self) -> Result<String, BallotsFlaw>
         ensures { told_as (λ text. string_bytes text) result ≡ name_of (quoting_of self) }
     {
@@ -129,7 +129,7 @@ impl Quoted {
     }
 }
 
-/// The name of a line.
+/// Parses the name in a line.
 pub(crate) fn name_in(alloc: Global, line: &[u8]) -> Result<Result<String, BallotsFlaw>, AllocError>
     ensures { IfOk result (λ told. told_as (λ text. string_bytes text) told ≡ name_in line.now) }
 {

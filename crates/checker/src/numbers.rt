@@ -5,7 +5,7 @@ ghost use Rattle.checker.specs.Numbers.{candidate_in, number_in, with_digit};
 
 use crate::problem::BallotsFlaw;
 
-/// A number with a digit more.
+/// Appends a digit to a number.
 fn with_digit(most: u32, number: u32, byte: u8) -> Result<u32, BallotsFlaw>
     ensures is { result ≡ with_digit most number byte }
     ensures few { IfOk result (λ n. n ≤ most) }
@@ -20,7 +20,7 @@ fn with_digit(most: u32, number: u32, byte: u8) -> Result<u32, BallotsFlaw>
     Ok(more as u32)
 }
 
-/// The number that a word writes, if it is at most the greatest one given.
+/// Parses a number that is at most the maximum.
 pub(crate) fn number_in(most: u32, word: &[u8]) -> Result<u32, BallotsFlaw>
     ensures is { result ≡ number_in most word.now }
     ensures few { IfOk result (λ n. n ≤ most) }
@@ -35,7 +35,7 @@ pub(crate) fn number_in(most: u32, word: &[u8]) -> Result<u32, BallotsFlaw>
     Ok(number)
 }
 
-/// The candidate whose number a word writes, at most the highest number.
+/// Parses a candidate's number, at most the highest number.
 pub(crate) fn candidate_in(highest: u8, word: &[u8]) -> Result<u8, BallotsFlaw>
     ensures is { result ≡ candidate_in highest word.now }
     ensures some { IfOk result (λ c. 1 ≤ c) }

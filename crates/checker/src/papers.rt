@@ -6,17 +6,17 @@ ghost use Rattle.paper.specs.Columns.{max_candidates};
 ghost use Rattle.votes.specs.Units.{max_papers, max_seats};
 ghost use Rattle.checker.specs.Outcomes.{outcome};
 ghost use Rattle.checker.specs.Papers.{papers_in, seats_in, with_bundle, with_list, with_size, with_withdrawn, withdrawn_from, withdrawn_in};
-ghost use Rattle.checker.specs.Views.{told_of};
+ghost use Rattle.checker.specs.Values.{told_of};
 
+use crate::file_content::PaperTotals;
 use crate::numbers::{candidate_in, number_in};
 use crate::problem::BallotsFlaw;
 use crate::ranks::{named_in, without};
-use crate::state::PaperTotals;
 use paper::{Columns, MAX_CANDIDATES, Prefs};
 use std::alloc::{AllocError, Global};
 use votes::{MAX_PAPERS, MAX_SEATS};
 
-/// The seats that a word writes, one at least.
+/// Parses the number of seats, at least one.
 fn seats_in(word: &[u8]) -> Result<u8, BallotsFlaw>
     ensures is { result ≡ seats_in word.now }
     ensures some { IfOk result (λ seats. 1 ≤ seats) }
@@ -29,7 +29,7 @@ fn seats_in(word: &[u8]) -> Result<u8, BallotsFlaw>
     Ok(seats as u8)
 }
 
-/// The number of papers that a word writes, one at least.
+/// Parses the number of papers, at least one.
 fn papers_in(word: &[u8]) -> Result<u32, BallotsFlaw>
     ensures is { result ≡ papers_in word.now }
     ensures some { IfOk result (λ papers. 1 ≤ papers) }
@@ -42,7 +42,7 @@ fn papers_in(word: &[u8]) -> Result<u32, BallotsFlaw>
     Ok(papers)
 }
 
-/// The withdrawn candidate whom a word names, a number behind a minus.
+/// Parses the number of a withdrawn candidate, after a minus.
 fn withdrawn_in(highest: u8, word: &[u8]) -> Result<u8, BallotsFlaw>
     ensures is { result ≡ withdrawn_in highest word.now }
     ensures some { IfOk result (λ c. 1 ≤ c) }
@@ -54,7 +54,7 @@ fn withdrawn_in(highest: u8, word: &[u8]) -> Result<u8, BallotsFlaw>
     }
 }
 
-/// Some numbers, and those of the withdrawn candidates whom some words name.
+/// Adds the withdrawn candidates in some words to a set.
 fn withdrawn_from(highest: u8, withdrawn: Columns, words: &[&[u8]]) -> Result<Columns, BallotsFlaw>
     requires { highest ≤ max_candidates }
     ensures { result ≡ withdrawn_from highest withdrawn (map (λ w. w.now) words.now) }
@@ -67,7 +67,7 @@ fn withdrawn_from(highest: u8, withdrawn: Columns, words: &[&[u8]]) -> Result<Co
 }
 
 impl PaperTotals {
-    /// The highest number of a candidate, and the seats.
+    /// Stores the highest candidate number and the number of seats.
     pub(crate) fn take_size(&mut self, words: &[&[u8]]) -> Result<(), BallotsFlaw>
         ensures { outcome result (told_of self.new) ≡ with_size (told_of self.old) (map (λ w. w.now) words.now) }
     {
@@ -81,7 +81,7 @@ impl PaperTotals {
         Ok(())
     }
 
-    /// Candidates who are withdrawn.
+    /// Stores the withdrawn candidates.
     pub(crate) fn take_withdrawn(&mut self, words: &[&[u8]]) -> Result<(), BallotsFlaw>
         ensures { outcome result (told_of self.new) ≡ with_withdrawn (told_of self.old) (map (λ w. w.now) words.now) }
     {
@@ -89,7 +89,7 @@ impl PaperTotals {
         Ok(())
     }
 
-    /// So many papers of one list of preferences.
+    /// Adds one or more papers with one list of preferences.
     fn add(&mut self, papers: u32, list: &[u8]) -> Result<Result<(), BallotsFlaw>, AllocError>
         requires some { 1 ≤ papers }
         requires ranking { IsRanking list.now }
@@ -105,7 +105,7 @@ impl PaperTotals {
         Ok(Ok(()))
     }
 
-    /// How many papers, and their preferences.
+    /// Stores the number of papers in a bundle, and their preferences.
     pub(crate) fn take_bundle(
         &mut self,
         alloc: Global,

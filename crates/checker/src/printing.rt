@@ -1,10 +1,10 @@
-//! What is printed on the outputs, and the status that the program ends with.
+//! The program's output, and its exit status.
 
 ghost use Rattle.std.specs.Prelude.{◌≡◌, ◌⊎◌, ◌-◌, ◌^◌, ◌<◌};
 ghost use Rattle.checker.specs.Outputs.{BrokeOff, Tells, Took, broken_line, output_of, outputs_of};
-ghost use Rattle.checker.specs.Reports.{memory_page, page_of, page_with};
+ghost use Rattle.checker.specs.Reports.{memory_page, page_of};
 
-use crate::report::{FAILED, Report, status_of, text_of};
+use crate::report::{FAILED, Report, page_of};
 use std::alloc::Global;
 use streams::{Broken, Sink, put_all};
 
@@ -18,38 +18,43 @@ fn print_broken<E: Sink>(err: &mut E) -> u8
     FAILED
 }
 
-/// Prints a text on the output that its status asks for, and gives the status: 3 in its place where an output fails.
-fn print_text<O: Sink, E: Sink>(text: &str, status: u8, out: &mut O, err: &mut E) -> u8
-    requires out { O.failed out.old < 2 ^ 64 - 1 }
-    requires err { E.failed err.old < 2 ^ 64 - 1 }
-    ensures { let outputs = outputs_of O.taken O.failed E.taken E.failed in Tells (outputs out.old err.old) (outputs out.new err.new) (page_with status text.now) result }
-{
-    if status == 0 {
-        return match put_all(out, text.as_bytes()) {
-            Ok(()) => status,
-            Err(Broken) => print_broken(err),
-        };
-    }
-    match put_all(err, text.as_bytes()) {
-        Ok(()) => status,
-        Err(Broken) => FAILED,
-    }
-}
-
-/// Prints an outcome, and gives its status. Where memory is wanting, it prints that in its place.
-pub(crate) fn print_report<O: Sink, E: Sink>(
-    alloc: Global,
-    report: &Report,
+/// Prints a text on the output, and another on the error output. Returns the status, or 3 if an output fails.
+fn print_page<O: Sink, E: Sink>(
+    text: &str,
+    message: &str,
+    status: u8,
     out: &mut O,
     err: &mut E,
 ) -> u8
     requires out { O.failed out.old < 2 ^ 64 - 1 }
     requires err { E.failed err.old < 2 ^ 64 - 1 }
     ensures { let outputs = outputs_of O.taken O.failed E.taken E.failed in
-        Tells (outputs out.old err.old) (outputs out.new err.new) (page_of report.now) result ⊎ Tells (outputs out.old err.old) (outputs out.new err.new) memory_page result }
+        Tells (outputs out.old err.old) (outputs out.new err.new) (record { out = text.now; err = message.now; status = status }) result }
 {
-    match text_of(alloc, report) {
-        Ok(text) => print_text(text.as_str(), status_of(report), out, err),
-        Err(_) => print_text("error: memory is wanting\n", FAILED, out, err),
+    match put_all(out, text.as_bytes()) {
+        Ok(()) => {}
+        Err(Broken) => return print_broken(err),
+    }
+    match put_all(err, message.as_bytes()) {
+        Ok(()) => status,
+        Err(Broken) => FAILED,
+    }
+}
+
+/// Prints an outcome, and returns its status. If an allocation fails, it prints that instead.
+pub(crate) fn print_report<O: Sink, E: Sink>(
+    alloc: Global,
+    report: Report,
+    out: &mut O,
+    err: &mut E,
+) -> u8
+    requires out { O.failed out.old < 2 ^ 64 - 1 }
+    requires err { E.failed err.old < 2 ^ 64 - 1 }
+    ensures { let outputs = outputs_of O.taken O.failed E.taken E.failed in
+        Tells (outputs out.old err.old) (outputs out.new err.new) (page_of report) result ⊎ Tells (outputs out.old err.old) (outputs out.new err.new) memory_page result }
+{
+    match page_of(alloc, report) {
+        Ok(page) => print_page(page.out.as_str(), page.err.as_str(), page.status, out, err),
+        Err(_) => print_page("", "error: memory is wanting\n", FAILED, out, err),
     }
 }

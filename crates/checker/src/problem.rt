@@ -1,4 +1,4 @@
-//! What isn't understood of ballots.
+//! Problems in ballots, and in checking against them.
 
 ghost use Rattle.std.specs.Prelude.{◌≡◌};
 
@@ -6,30 +6,30 @@ use paper::Columns;
 use std::error::Error;
 use std::fmt;
 
-/// What is wrong with a line of the ballots.
+/// The flaw of a line of the ballots.
 #[derive(Clone, Copy, Debug)]
 pub enum BallotsFlaw {
     /// The first line isn't two numbers.
     Size,
     /// There are no seats.
     NoSeat,
-    /// A word isn't digits alone; or one of withdrawn candidates isn't a number behind a minus.
+    /// A word doesn't consist of digits; or a word for a withdrawn candidate isn't a number after a minus.
     NotNumber,
-    /// A number is past its range.
+    /// A number is out of range.
     TooLarge,
     /// There are no papers in a bundle.
     NoPapers,
     /// A candidate's number is 0, or above the highest.
     NoSuchCandidate,
-    /// A candidate stands twice among the preferences of a line.
+    /// A candidate appears twice among the preferences of a line.
     CandidateTwice,
-    /// Nobody who stands is the single first preference.
+    /// There is no single first preference for a candidate who isn't withdrawn.
     NoPreference,
-    /// A line of papers doesn't end with 0, or has words behind it.
+    /// A line of papers doesn't end with 0, or has words after it.
     NoZero,
     /// There are more papers than a ward can have.
     TooManyPapers,
-    /// There is no name in quotation marks, or something else stands beside it.
+    /// There is no name in quotation marks, or there is something else next to it.
     NoName,
     /// A quotation mark isn't closed.
     OpenQuote,
@@ -37,21 +37,21 @@ pub enum BallotsFlaw {
     LongName,
     /// A name isn't UTF-8.
     NotUtf8,
-    /// It stands behind the name of the ward.
+    /// The line follows the name of the ward.
     BehindName,
-    /// The comment doesn't give the number of a ward.
+    /// The comment doesn't contain the number of a ward.
     Ward,
-    /// The comment doesn't give the rejected papers of each code.
+    /// The comment doesn't contain the number of rejected papers for each code.
     Rejected,
-    /// The comment doesn't give a stage and a candidate.
+    /// The comment doesn't contain a stage and a candidate.
     Lot,
-    /// A comment begins with one of our words, but isn't written as ours are.
+    /// A comment begins with one of our words, but isn't in our format.
     Astray,
-    /// The comment says what a comment said before.
+    /// The comment repeats the subject of an earlier one.
     Twice,
     /// The file ends before its first line of numbers.
     NoSize,
-    /// The file ends before the line `0` behind the papers.
+    /// The file ends before the line `0` after the papers.
     NoEnd,
     /// The file ends before the name of the ward.
     NamesWanting,
@@ -60,7 +60,7 @@ pub enum BallotsFlaw {
 impl BallotsFlaw {
     ghost use Rattle.checker.specs.Texts.{flaw_text};
 
-    /// The flaw in words.
+    /// Returns the flaw in words.
     fn text(&self) -> &'static str
         ensures { result.now ≡ flaw_text self.now }
     {
@@ -107,20 +107,20 @@ impl fmt::Display for BallotsFlaw {
 
 impl Error for BallotsFlaw {}
 
-/// Why a text can't be checked against ballots.
+/// The reason why a text can't be checked against ballots.
 #[derive(Clone, Copy, Debug)]
 pub enum Problem {
-    /// This is wrong with a line of the ballots, counted from 1.
+    /// A line of the ballots, counted from 1, has this flaw.
     Line { line: u64, flaw: BallotsFlaw },
-    /// There are papers, or rejected ones, but no more candidates than seats.
+    /// There are papers, or rejected papers, but no more candidates than seats.
     NoContest,
-    /// At this stage these are tied, and no lot is recorded.
+    /// These candidates are tied at this stage, and no lot is recorded.
     LotNeeded { stage: u8, among: Columns },
-    /// At this stage the recorded lot names none of the tied.
+    /// The lot recorded for this stage isn't for any of the tied candidates.
     LotNotAmong { stage: u8 },
-    /// A lot is recorded for this stage, at which none is drawn.
+    /// A lot is recorded for this stage, but none is drawn at it.
     LotNotNeeded { stage: u8 },
-    /// Memory was wanting.
+    /// An allocation failed.
     Memory,
 }
 

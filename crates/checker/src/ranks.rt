@@ -5,7 +5,7 @@ ghost use Rattle.paper.specs.Columns.{max_candidates};
 ghost use Rattle.paper.specs.Ranking.{IsRanking};
 ghost use Rattle.checker.specs.Outcomes.{outcome, told_as};
 ghost use Rattle.checker.specs.Ranks.{is_zero, named_in, named_of, standing_from, with_candidate, with_each, with_rank, with_word, without};
-ghost use Rattle.checker.specs.Views.{ranks_of};
+ghost use Rattle.checker.specs.Values.{ranks_of};
 
 use crate::numbers::candidate_in;
 use crate::problem::BallotsFlaw;
@@ -13,32 +13,32 @@ use crate::tokens::{Separator, pieces_of};
 use paper::Columns;
 use std::alloc::{AllocError, Global};
 
-/// Where the next word of a line of papers stands.
+/// The position of the next word in a line of papers.
 #[derive(Clone, Copy)]
 pub(crate) enum NextWord {
     /// Where preferences are read.
     Preference,
-    /// Behind a shared rank, where none is read any more.
+    /// After a shared rank, where they are no longer read.
     BehindShared,
-    /// Behind the 0.
+    /// After the 0.
     BehindZero,
 }
 
-/// The candidates whom a line of papers names so far, the first preference first, and where its next word stands.
+/// The candidates in a line of papers so far, first preference first, and the position of the next word.
 #[derive(Drop)]
 pub(crate) struct Ranks {
     named: Vec<u8>,
     next: NextWord,
 }
 
-/// Whether a word is 0, which ends a line.
+/// Returns whether a word is 0, which ends a line.
 pub(crate) fn is_zero(word: &[u8]) -> bool
     ensures { result ≡ is_zero word.now }
 {
     word == b"0".as_slice()
 }
 
-/// How many of the candidates stand whose numbers these words write.
+/// Returns how many of the candidates in these words aren't withdrawn.
 fn standing_in(highest: u8, withdrawn: &Columns, words: &[&[u8]]) -> Result<usize, BallotsFlaw>
     ensures { result ≡ standing_from highest withdrawn.now 0 (map (λ w. w.now) words.now) }
 {
@@ -53,7 +53,7 @@ fn standing_in(highest: u8, withdrawn: &Columns, words: &[&[u8]]) -> Result<usiz
 }
 
 impl Ranks {
-    /// One candidate more.
+    /// Appends one candidate.
     fn add(&mut self, highest: u8, word: &[u8]) -> Result<Result<(), BallotsFlaw>, AllocError>
         requires { highest ≤ max_candidates }
         ensures is { IfOk result (λ told. outcome told (ranks_of self.new) ≡ with_candidate highest (ranks_of self.old) word.now) }
@@ -70,7 +70,7 @@ impl Ranks {
         Ok(Ok(()))
     }
 
-    /// Several, one behind another.
+    /// Appends several candidates in order.
     fn add_each(
         &mut self,
         highest: u8,
@@ -88,7 +88,7 @@ impl Ranks {
         Ok(Ok(()))
     }
 
-    /// A rank more, of whose candidates so many stand.
+    /// Processes a rank, given how many of its candidates aren't withdrawn.
     fn add_rank(
         &mut self,
         highest: u8,
@@ -111,7 +111,7 @@ impl Ranks {
         self.add_each(highest, words)
     }
 
-    /// One word more.
+    /// Processes one word.
     fn take(
         &mut self,
         alloc: Global,
@@ -137,7 +137,7 @@ impl Ranks {
         }
     }
 
-    /// The candidates whom a whole line names.
+    /// Returns the candidates in a complete line.
     fn into_named(self) -> Result<Vec<u8>, BallotsFlaw>
         ensures is { told_as (λ named. named.items) result ≡ named_of (ranks_of self) }
         ensures ranking { IfOk result (λ named. named ≡ self.named) }
@@ -149,7 +149,7 @@ impl Ranks {
     }
 }
 
-/// The candidates whom the words behind a number of papers name, in their order, up to a shared rank or the 0.
+/// Returns the candidates in the words after a number of papers, in order, up to a shared rank or the 0.
 pub(crate) fn named_in(
     alloc: Global,
     highest: u8,
@@ -172,7 +172,7 @@ pub(crate) fn named_in(
     Ok(ranks.into_named())
 }
 
-/// Those of some candidates who stand.
+/// Returns those of some candidates who aren't withdrawn.
 pub(crate) fn without(
     alloc: Global,
     withdrawn: &Columns,

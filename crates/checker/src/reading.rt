@@ -1,23 +1,23 @@
-//! Ballots, read line by line.
+//! Reading ballots line by line.
 
 ghost use Rattle.std.specs.Prelude.{◌≡◌, ◌<◌, ◌≤◌, map, length, IfOk, IfErr, Ok};
 ghost use Rattle.paper.specs.Columns.{max_candidates};
 ghost use Rattle.checker.specs.Outcomes.{outcome, told_as};
 ghost use Rattle.checker.specs.Reading.{at_end, before_comment, is_end_line, is_withdrawn_line, nothing_told, read, read_from};
 ghost use Rattle.checker.specs.Reading.{words_before_comment, with_content_at, with_line, with_name_line, with_papers_line, with_size_line, with_withdrawn_line};
-ghost use Rattle.checker.specs.Views.{IsFlawOf, reading_of};
+ghost use Rattle.checker.specs.Values.{IsFlawOf, reading_of};
 
+use crate::file_content::{CandidateNames, Comments, NextLine, PaperTotals, Reader};
 use crate::foreign_comments::{behind_number_sign, skip_foreign};
 use crate::names::name_in;
 use crate::problem::{BallotsFlaw, Problem};
 use crate::ranks::is_zero;
-use crate::state::{CandidateNames, Comments, NextLine, PaperTotals, Reader};
 use crate::tokens::{LineKind, Separator, kind_of, lines_of, pieces_of};
 use count::Bundles;
 use paper::Columns;
 use std::alloc::{AllocError, Global};
 
-/// The bytes of a line of numbers before a `#`, which begins a comment.
+/// Returns the bytes of a line of numbers before a `#`, which begins a comment.
 fn before_comment(line: &[u8]) -> &[u8]
     ensures { result.now ≡ before_comment line.now }
 {
@@ -29,7 +29,7 @@ fn before_comment(line: &[u8]) -> &[u8]
     line
 }
 
-/// The words of a line of numbers, with a comment behind them at most.
+/// Returns the words of a line of numbers, before a comment if there is one.
 fn words_before_comment(
     alloc: Global,
     line: &[u8],
@@ -42,7 +42,7 @@ fn words_before_comment(
     Ok(Ok(pieces_of(alloc, Separator::Blank, before_comment(line))?))
 }
 
-/// Whether a line of numbers is `0`, which ends the papers.
+/// Returns whether a line of numbers is `0`, which ends the papers.
 fn is_end_line(words: &[&[u8]]) -> bool
     ensures { result ≡ is_end_line (map (λ w. w.now) words.now) }
 {
@@ -52,7 +52,7 @@ fn is_end_line(words: &[&[u8]]) -> bool
     }
 }
 
-/// Whether a line of numbers begins with a minus.
+/// Returns whether a line of numbers begins with a minus.
 fn is_withdrawn_line(words: &[&[u8]]) -> bool
     ensures { result ≡ is_withdrawn_line (map (λ w. w.now) words.now) }
 {
@@ -63,7 +63,7 @@ fn is_withdrawn_line(words: &[&[u8]]) -> bool
 }
 
 impl Reader {
-    /// Nothing is known yet.
+    /// Returns a reader of nothing yet.
     fn new(alloc: Global) -> Reader
         ensures { reading_of result ≡ nothing_told }
     {
@@ -87,7 +87,7 @@ impl Reader {
         }
     }
 
-    /// The first line of numbers.
+    /// Processes the first line of numbers.
     fn take_size_line(&mut self, words: &[&[u8]]) -> Result<(), BallotsFlaw>
         ensures { outcome result (reading_of self.new) ≡ with_size_line (reading_of self.old) (map (λ w. w.now) words.now) }
     {
@@ -96,7 +96,7 @@ impl Reader {
         Ok(())
     }
 
-    /// A line of papers, or the one that ends them.
+    /// Processes a line of papers, or the line that ends them.
     fn take_papers_line(
         &mut self,
         alloc: Global,
@@ -115,7 +115,7 @@ impl Reader {
         Ok(Ok(()))
     }
 
-    /// A line of withdrawn candidates, or one of papers.
+    /// Processes a line of withdrawn candidates, or one of papers.
     fn take_withdrawn_line(
         &mut self,
         alloc: Global,
@@ -130,7 +130,7 @@ impl Reader {
         self.take_papers_line(alloc, words)
     }
 
-    /// A name.
+    /// Processes a name.
     fn take_name_line(
         &mut self,
         alloc: Global,
@@ -152,7 +152,7 @@ impl Reader {
         Ok(Ok(()))
     }
 
-    /// A line with content.
+    /// Processes a line with content.
     fn take_content(
         &mut self,
         alloc: Global,
@@ -176,7 +176,7 @@ impl Reader {
         }
     }
 
-    /// A line.
+    /// Processes a line.
     fn take_line(
         &mut self,
         alloc: Global,
@@ -191,7 +191,7 @@ impl Reader {
         }
     }
 
-    /// Whether the file may end here.
+    /// Returns whether the file may end here, otherwise the flaw.
     fn at_end(&self) -> Result<(), BallotsFlaw>
         ensures { outcome result (reading_of self.now) ≡ at_end self.now.place (reading_of self.now) }
     {
@@ -204,7 +204,7 @@ impl Reader {
     }
 }
 
-/// What some lines say, or the first of them that isn't understood.
+/// Returns the content of some lines, or the first of them that isn't understood.
 fn read_lines(alloc: Global, lines: &[&[u8]]) -> Result<Reader, Problem>
     ensures ok { IfOk result (λ reader. read_from 0 nothing_told (map (λ line. line.now) lines.now) ≡ Ok (reading_of reader)) }
     ensures err { IfErr result (λ problem. IsFlawOf (read_from 0 nothing_told (map (λ line. line.now) lines.now)) problem) }
@@ -231,7 +231,7 @@ fn read_lines(alloc: Global, lines: &[&[u8]]) -> Result<Reader, Problem>
     }
 }
 
-/// What a file says, or the first line of it that isn't understood.
+/// Returns the content of a file, or the first of its lines that isn't understood.
 pub(crate) fn read(alloc: Global, bytes: &[u8]) -> Result<Reader, Problem>
     ensures ok { IfOk result (λ reader. read bytes.now ≡ Ok (reading_of reader)) }
     ensures err { IfErr result (λ problem. IsFlawOf (read bytes.now) problem) }

@@ -1,9 +1,9 @@
 //! The ballots of a ward, read back.
 
-ghost use Rattle.checker.specs.ReadingBack.{AreCheckedAsTold, AreHinderedAsTold, AreReadBack};
+ghost use Rattle.checker.specs.BallotsRoundTrip.{AreCheckedAsTold, AreHinderedAsTold, AreReadBack};
 
-/// The law of reading, for its callers. The ballots of a ward, as `ballots` prints them, are read back as just that ward, its
-/// bundles and its lots. So what [`check`](crate::check) reports of a text beside them is what comes of the text beside that ward
+/// The law of reading, for its callers. The ballots of a ward, as printed by `ballots`, read back as exactly that ward, its bundles
+/// and its lots. So the result of [`check`](crate::check) for a text and these ballots is that of comparing the text with that ward
 /// itself, and a problem is one of its count.
 pub fn ballots_read_back()
     ensures back { AreReadBack }

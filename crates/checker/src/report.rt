@@ -1,53 +1,66 @@
-//! What comes of the program's words, as a text and a status.
+//! The outcome of the program's arguments, as a text and a status.
 
-ghost use Rattle.std.specs.Prelude.{◌≡◌, IfOk, string_bytes};
-ghost use Rattle.checker.specs.Reports.{checked_status, checked_text, differing, hindered_status, hindered_text, lot_text, should_be_text, status_of, text_of, tied_text, too_long_text};
+ghost use Rattle.std.specs.Prelude.{◌≡◌, IfOk, option_map, string_bytes};
+ghost use Rattle.checker.specs.Pages.{page_told};
+ghost use Rattle.checker.specs.Reports.{checked_status, checked_text, counted_page, differing, hindered_status, hindered_text, lot_text, page_of, page_with, should_be_text};
+ghost use Rattle.checker.specs.Reports.{tied_text, too_long_text, uncounted_status, uncounted_text, unread_text, words_text};
 
+use crate::ballot_counts::{CountProblem, CountedText};
 use crate::differences::Checked;
-use crate::help::HELP;
+use crate::help::{COUNT_HELP, HELP};
 use crate::hints::{Hint, hint_text};
 use crate::problem::Problem;
-use crate::shown::shown;
+use crate::remedies::remedy;
+use crate::requests::WordsFlaw;
+use crate::terminal_escaping::shown;
 use itoa::Buffer;
 use paper::Columns;
 use std::alloc::{AllocError, Global};
 
-/// The text is the one that the ballots give, or help is asked for.
+/// The text is the one that results from the ballots, the count is finished, or help is requested.
 const WELL: u8 = 0;
 
-/// The text differs.
+/// The text differs, or the count waits for a lot.
 const DIFFERS: u8 = 1;
 
-/// The words or the ballots aren't understood, or the count doesn't come to its end.
+/// The arguments or the ballots aren't understood, or the count can't be finished.
 const NOT_CHECKED: u8 = 2;
 
-/// A file can't be read, memory is wanting, or an output fails.
+/// A file can't be read, an allocation fails, or an output fails.
 pub(crate) const FAILED: u8 = 3;
 
-/// What comes of the program's words.
+/// The outcome of the program's arguments.
 #[derive(Drop)]
 pub enum Report {
-    /// Help is asked for.
+    /// Help is requested.
     Help,
-    /// Nothing is asked that is understood.
-    NotAsked,
-    /// A word isn't UTF-8.
+    /// Help about counting is requested.
+    CountHelp,
+    /// The arguments of a check aren't understood.
+    BadArguments,
+    /// The arguments of a count aren't understood.
+    Misread(WordsFlaw),
+    /// An argument isn't UTF-8.
     NotUtf8,
     /// The file at this path can't be read, for this reason.
     NotRead {
         path: String,
         why: String,
     },
-    /// This came of the check, and this can't be seen of the text.
+    /// The check had this outcome, and the text has this invisible difference.
     Checked {
         checked: Checked,
         hint: Option<Hint>,
     },
-    /// This hindered it.
+    /// The check wasn't possible because of this problem.
     Hindered(Problem),
+    /// The ballots were counted.
+    Counted(CountedText),
+    /// The ballots weren't counted, for this reason.
+    NotCounted(CountProblem),
 }
 
-/// The line at which the text should have ended.
+/// Returns the message about the line at which the text should have ended.
 fn too_long_text(alloc: Global, line: u64, hint: Option<Hint>) -> Result<String, AllocError>
     ensures { IfOk result (λ text. string_bytes text ≡ too_long_text line hint) }
 {
@@ -55,7 +68,7 @@ fn too_long_text(alloc: Global, line: u64, hint: Option<Hint>) -> Result<String,
     format!(in alloc; "line {line} differs: the text should end before it\n{hint}")
 }
 
-/// The first line that differs, and what it should be.
+/// Returns the message about the first line that differs, and what it should be.
 fn should_be_text(
     alloc: Global,
     line: u64,
@@ -69,7 +82,7 @@ fn should_be_text(
     format!(in alloc; "line {line} differs, and should be:\n{should_be}{hint}")
 }
 
-/// Where a text differs, and what it should be there.
+/// Returns the message about the first difference of a text.
 fn differing(
     alloc: Global,
     line: u64,
@@ -84,7 +97,7 @@ fn differing(
     should_be_text(alloc, line, should_be, hint)
 }
 
-/// What came of a check, in words.
+/// Returns the outcome of a check, in words.
 fn checked_text(alloc: Global, checked: &Checked, hint: Option<Hint>) -> Result<String, AllocError>
     ensures { IfOk result (λ text. string_bytes text ≡ checked_text checked.now hint) }
 {
@@ -101,7 +114,7 @@ fn checked_text(alloc: Global, checked: &Checked, hint: Option<Hint>) -> Result<
     }
 }
 
-/// The numbers of the tied, each behind a space.
+/// Returns the numbers of the tied candidates, each after a space.
 fn tied_text(alloc: Global, among: &Columns) -> Result<String, AllocError>
     ensures { IfOk result (λ text. string_bytes text ≡ tied_text among.now) }
 {
@@ -113,7 +126,7 @@ fn tied_text(alloc: Global, among: &Columns) -> Result<String, AllocError>
     Ok(text)
 }
 
-/// A lot that is wanting, and the tied.
+/// Returns the message about a missing lot, with the tied candidates.
 fn lot_text(alloc: Global, problem: &Problem, among: &Columns) -> Result<String, AllocError>
     ensures { IfOk result (λ text. string_bytes text ≡ lot_text problem.now among.now) }
 {
@@ -121,7 +134,7 @@ fn lot_text(alloc: Global, problem: &Problem, among: &Columns) -> Result<String,
     format!(in alloc; "error: {problem}, where these are tied:{tied}\n")
 }
 
-/// What hindered a check, in words.
+/// Returns the problem that prevented a check, in words.
 fn hindered_text(alloc: Global, problem: &Problem) -> Result<String, AllocError>
     ensures { IfOk result (λ text. string_bytes text ≡ hindered_text problem.now) }
 {
@@ -131,27 +144,57 @@ fn hindered_text(alloc: Global, problem: &Problem) -> Result<String, AllocError>
     }
 }
 
-/// An outcome in words.
-pub(crate) fn text_of(alloc: Global, report: &Report) -> Result<String, AllocError>
-    ensures { IfOk result (λ text. string_bytes text ≡ text_of report.now) }
+/// Returns the flaw of the words of a request to count ballots, and what to do.
+fn words_text(flaw: WordsFlaw) -> &'static str
+    ensures { result.now ≡ words_text flaw }
 {
-    match report {
-        Report::Help => String::from_str(alloc, HELP),
-        Report::NotAsked => String::from_str(
-            alloc,
-            "error: give the path of the ballots, and that of the sheet; --help says more\n",
-        ),
-        Report::NotUtf8 => String::from_str(alloc, "error: a word is not UTF-8\n"),
-        Report::NotRead { path, why } => {
-            let path = shown(alloc, path.as_str())?;
-            format!(in alloc; "error: {path} can't be read: {why}\n")
+    match flaw {
+        WordsFlaw::NoBallots => "error: give the path of the ballots; --help says more\n",
+        WordsFlaw::SecondBallots => {
+            "error: give one path, that of the ballots; --help says more\n"
         }
-        Report::Checked { checked, hint } => checked_text(alloc, checked, *hint),
-        Report::Hindered(problem) => hindered_text(alloc, problem),
+        WordsFlaw::UnknownOption => "error: there is no such option; --help says more\n",
+        WordsFlaw::SecondText => {
+            "error: give one of --declaration, --page, --table and --ballots; --help says more\n"
+        }
+        WordsFlaw::NoValue => "error: the last option needs a value; --help says more\n",
+        WordsFlaw::Lot => {
+            "error: give a lot as its stage and its candidate, such as --lot 3:4; --help says more\n"
+        }
+        WordsFlaw::TitleAlone => {
+            "error: only a page has a title: add --page; --help says more\n"
+        }
+        WordsFlaw::SecondTitle => "error: give one title; --help says more\n",
     }
 }
 
-/// The status of what came of a check.
+/// Returns the message about a file that can't be read.
+fn unread_text(alloc: Global, path: &str, why: &str) -> Result<String, AllocError>
+    ensures { IfOk result (λ text. string_bytes text ≡ unread_text path.now why.now) }
+{
+    let path = shown(alloc, path)?;
+    format!(in alloc; "error: {path} can't be read: {why}\n")
+}
+
+/// Returns the message about the reason why ballots aren't counted, and what to do.
+fn uncounted_text(alloc: Global, problem: &CountProblem) -> Result<String, AllocError>
+    ensures { IfOk result (λ text. string_bytes text ≡ uncounted_text problem.now) }
+{
+    match problem {
+        CountProblem::LotTwice { stage } => {
+            format!(in alloc;
+                "error: a lot for stage {stage} is given a second time: give one, in the ballots or by --lot\n"
+            )
+        }
+        CountProblem::Ballots(problem) => {
+            let mut text = hindered_text(alloc, problem)?;
+            text.push_str(remedy(problem))?;
+            Ok(text)
+        }
+    }
+}
+
+/// Returns the status for the outcome of a check.
 fn checked_status(checked: &Checked) -> u8
     ensures { result ≡ checked_status checked.now }
 {
@@ -161,7 +204,7 @@ fn checked_status(checked: &Checked) -> u8
     }
 }
 
-/// The status of what hindered it.
+/// Returns the status for a problem that prevented a check.
 fn hindered_status(problem: &Problem) -> u8
     ensures { result ≡ hindered_status problem.now }
 {
@@ -171,15 +214,99 @@ fn hindered_status(problem: &Problem) -> u8
     }
 }
 
-/// The status of an outcome.
-pub(crate) fn status_of(report: &Report) -> u8
-    ensures { result ≡ status_of report.now }
+/// Returns the status for the reason why ballots aren't counted.
+fn uncounted_status(problem: &CountProblem) -> u8
+    ensures { result ≡ uncounted_status problem.now }
+{
+    match problem {
+        CountProblem::LotTwice { .. } => NOT_CHECKED,
+        CountProblem::Ballots(problem) => hindered_status(problem),
+    }
+}
+
+/// The text for the output, that for the error output, and the exit status.
+#[derive(Drop)]
+pub(crate) struct Page {
+    pub(crate) out: String,
+    pub(crate) err: String,
+    pub(crate) status: u8,
+}
+
+/// Returns the page of a text with a status. It is printed on the output if the status is 0, otherwise on the error output.
+fn page_with(alloc: Global, status: u8, text: String) -> Page
+    ensures { page_told result ≡ page_with status (string_bytes text) }
+{
+    let none = String::new(alloc);
+    if status == WELL {
+        return Page {
+            out: text,
+            err: none,
+            status,
+        };
+    }
+    Page {
+        out: none,
+        err: text,
+        status,
+    }
+}
+
+/// Returns the page of a fixed text with a status; `AllocError` if an allocation fails.
+fn page_of_text(alloc: Global, status: u8, text: &str) -> Result<Page, AllocError>
+    ensures { IfOk result (λ page. page_told page ≡ page_with status text.now) }
+{
+    Ok(page_with(alloc, status, String::from_str(alloc, text)?))
+}
+
+/// Returns the page of a text of a count, and the line about the lot that the count waits for.
+fn counted_page(alloc: Global, counted: CountedText) -> Page
+    ensures { page_told result ≡ counted_page (string_bytes counted.text) (option_map string_bytes counted.lot_needed) }
+{
+    let CountedText { text, lot_needed } = counted;
+    match lot_needed {
+        None => Page {
+            out: text,
+            err: String::new(alloc),
+            status: WELL,
+        },
+        Some(line) => Page {
+            out: text,
+            err: line,
+            status: DIFFERS,
+        },
+    }
+}
+
+/// Returns the page of an outcome; `AllocError` if an allocation fails.
+pub(crate) fn page_of(alloc: Global, report: Report) -> Result<Page, AllocError>
+    ensures { IfOk result (λ page. page_told page ≡ page_of report) }
 {
     match report {
-        Report::Help => WELL,
-        Report::NotAsked | Report::NotUtf8 => NOT_CHECKED,
-        Report::NotRead { .. } => FAILED,
-        Report::Checked { checked, .. } => checked_status(checked),
-        Report::Hindered(problem) => hindered_status(problem),
+        Report::Help => page_of_text(alloc, WELL, HELP),
+        Report::CountHelp => page_of_text(alloc, WELL, COUNT_HELP),
+        Report::BadArguments => page_of_text(
+            alloc,
+            NOT_CHECKED,
+            "error: give the path of the ballots, and that of the sheet; --help says more\n",
+        ),
+        Report::Misread(flaw) => page_of_text(alloc, NOT_CHECKED, words_text(flaw)),
+        Report::NotUtf8 => page_of_text(alloc, NOT_CHECKED, "error: a word is not UTF-8\n"),
+        Report::NotRead { path, why } => {
+            let text = unread_text(alloc, path.as_str(), why.as_str())?;
+            Ok(page_with(alloc, FAILED, text))
+        }
+        Report::Checked { checked, hint } => {
+            let text = checked_text(alloc, &checked, hint)?;
+            Ok(page_with(alloc, checked_status(&checked), text))
+        }
+        Report::Hindered(problem) => {
+            let text = hindered_text(alloc, &problem)?;
+            Ok(page_with(alloc, hindered_status(&problem), text))
+        }
+        Report::Counted(counted) => Ok(counted_page(alloc, counted)),
+        Report::NotCounted(problem) => {
+            let text = uncounted_text(alloc, &problem)?;
+            Ok(page_with(alloc, uncounted_status(&problem), text))
+        }
     }
 }

@@ -1,42 +1,44 @@
-//! A text in lines, and a line in words.
+//! Splitting a text into lines, and a line into words.
 
 ghost use Rattle.std.specs.Prelude.{◌≡◌, ◌++◌, [], map, IfOk};
 ghost use Rattle.checker.specs.Tokens.{behind_byte_order_mark, is_blank, kind_of, lines_of, parts, piece, pieces_of};
 
 use std::alloc::{AllocError, Global};
 
-/// What parts a text.
+/// The separator at which a text is split.
 #[derive(Clone, Copy)]
 pub(crate) enum Separator {
-    /// A line feed: what is parted are lines.
+    /// A line feed: the pieces are lines.
     LineFeed,
-    /// A space, a tab, or a carriage return, as before a line's end: what is parted are words.
+    /// A space, a tab, or a carriage return, such as before a line feed: the pieces are words.
     Blank,
-    /// The same, a colon or a comma.
+    /// The same, or a colon or a comma.
     Mark,
-    /// An equals sign: what is parted are those who share a rank.
+    /// An equals sign: the pieces are the candidates who share a rank.
     Equals,
+    /// A colon: the pieces are the stage and the candidate of a lot.
+    Colon,
 }
 
-/// What stands on a line.
+/// The kind of a line.
 #[derive(Clone, Copy)]
 pub(crate) enum LineKind {
-    /// Blanks alone.
+    /// Only blanks.
     Empty,
-    /// A `#` behind them.
+    /// A `#` after blanks.
     Comment,
     /// Something else.
     Content,
 }
 
-/// A space, a tab, or a carriage return.
+/// Returns whether a byte is a space, a tab, or a carriage return.
 pub(crate) fn is_blank(byte: u8) -> bool
     ensures { result ≡ is_blank byte }
 {
     byte == b' ' || (byte == b'\t' || byte == b'\r')
 }
 
-/// Whether a byte parts two pieces.
+/// Returns whether a byte separates two pieces.
 fn parts(separator: Separator, byte: u8) -> bool
     ensures { result ≡ parts separator byte }
 {
@@ -45,10 +47,11 @@ fn parts(separator: Separator, byte: u8) -> bool
         Separator::Blank => is_blank(byte),
         Separator::Mark => is_blank(byte) || (byte == b':' || byte == b','),
         Separator::Equals => byte == b'=',
+        Separator::Colon => byte == b':',
     }
 }
 
-/// Some pieces and one more; no word stands between two blanks.
+/// Appends one piece; there is no word between two blanks.
 fn with_piece<'a>(
     mut pieces: Vec<&'a [u8]>,
     separator: Separator,
@@ -57,7 +60,7 @@ fn with_piece<'a>(
     ensures { IfOk result (λ all. map (λ p. p.now) all.items ≡ map (λ p. p.now) pieces.entry.items ++ piece separator text.now) }
 {
     match separator {
-        Separator::LineFeed | Separator::Equals => pieces.push(text)?,
+        Separator::LineFeed | Separator::Equals | Separator::Colon => pieces.push(text)?,
         Separator::Blank | Separator::Mark => {
             if !text.is_empty() {
                 pieces.push(text)?;
@@ -67,7 +70,7 @@ fn with_piece<'a>(
     Ok(pieces)
 }
 
-/// The pieces of a text.
+/// Returns the pieces of a text.
 pub(crate) fn pieces_of<'a>(
     alloc: Global,
     separator: Separator,
@@ -87,7 +90,7 @@ pub(crate) fn pieces_of<'a>(
     with_piece(pieces, separator, &text[start..])
 }
 
-/// A text behind its byte order mark, where it begins with one.
+/// Returns a text without its byte order mark, if it begins with one.
 fn behind_byte_order_mark(text: &[u8]) -> &[u8]
     ensures { result.now ≡ behind_byte_order_mark text.now }
 {
@@ -97,14 +100,14 @@ fn behind_byte_order_mark(text: &[u8]) -> &[u8]
     }
 }
 
-/// The lines of a text. A line feed ends one, and a byte order mark at the front is passed over.
+/// Returns the lines of a text. A line feed ends a line, and a leading byte order mark is skipped.
 pub(crate) fn lines_of(alloc: Global, text: &[u8]) -> Result<Vec<&[u8]>, AllocError>
     ensures { IfOk result (λ lines. map (λ p. p.now) lines.items ≡ lines_of text.now) }
 {
     pieces_of(alloc, Separator::LineFeed, behind_byte_order_mark(text))
 }
 
-/// What stands on a line.
+/// Returns the kind of a line.
 pub(crate) fn kind_of(line: &[u8]) -> LineKind
     ensures { result ≡ kind_of line.now }
 {

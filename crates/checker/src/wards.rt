@@ -1,17 +1,27 @@
-//! The ward that a file describes.
+//! The ward described by a file.
 
 ghost use Rattle.std.specs.Prelude.{◌≡◌, ◌≤◌, length, map, string_bytes, IfOk};
-ghost use Rattle.paper.specs.Columns.{IsColumnSet, max_candidates};
+ghost use Rattle.paper.specs.Columns.{IsCandidateSet, max_candidates};
 ghost use Rattle.sheet.specs.Wards.{CanBePrinted, HasFewPapers};
 ghost use Rattle.sheet.specs.Entries.{shown};
-ghost use Rattle.checker.specs.Wards.{candidates_of, numbers_of, poll_by};
+ghost use Rattle.checker.specs.Values.{reading_of};
+ghost use Rattle.checker.specs.Wards.{candidates_of, candidates_told, numbers_of, poll_by, ward_told};
 
+use crate::file_content::Reader;
 use count::Bundles;
 use paper::Columns;
 use sheet::{Poll, Ward};
 use std::alloc::{AllocError, Global};
 
-/// The candidates of some names, whose numbers go on from 1; numbers at which nobody stands are passed over.
+/// A ward, the bundles of its papers, and the lots by which it is counted, each as a stage, counted from 1, and a candidate.
+#[derive(Clone, Copy)]
+pub(crate) struct Election<'a> {
+    pub(crate) ward: Ward<'a>,
+    pub(crate) bundles: &'a Bundles,
+    pub(crate) lots: &'a [(u8, u8)],
+}
+
+/// Returns the candidates with some names, numbered consecutively from 1; withdrawn numbers are skipped.
 pub(crate) fn candidates_of(
     alloc: Global,
     withdrawn: &Columns,
@@ -19,7 +29,7 @@ pub(crate) fn candidates_of(
 ) -> Result<Vec<(u8, String)>, AllocError>
     requires { length names.now ≤ max_candidates }
     ensures is { IfOk result (λ candidates. map (λ candidate. (candidate.0, string_bytes candidate.1)) candidates.items ≡ candidates_of withdrawn.now (map string_bytes names.now)) }
-    ensures set { IfOk result (λ candidates. IsColumnSet (map (λ candidate. candidate.0) candidates.items)) }
+    ensures set { IfOk result (λ candidates. IsCandidateSet (map (λ candidate. candidate.0) candidates.items)) }
 {
     let mut candidates = Vec::new(alloc);
     for (i, name) in names.iter().enumerate() {
@@ -32,7 +42,7 @@ pub(crate) fn candidates_of(
     Ok(candidates)
 }
 
-/// The numbers of a ward's candidates.
+/// Returns the numbers of a ward's candidates.
 pub(crate) fn numbers_of(ward: &Ward) -> Columns
     requires { CanBePrinted ward.now }
     ensures { result ≡ numbers_of (shown ward.now) }
@@ -44,7 +54,7 @@ pub(crate) fn numbers_of(ward: &Ward) -> Columns
     columns
 }
 
-/// The poll of a ward with so many candidates and seats.
+/// Returns the poll of a ward, given its numbers of candidates and seats.
 pub(crate) fn poll_by(
     rejected: Option<[u32; 5]>,
     bundles: &Bundles,
@@ -66,5 +76,27 @@ pub(crate) fn poll_by(
                 rejected: [0; 5],
             })
         }
+    }
+}
+
+/// Returns the ward described by a file, given its candidates.
+pub(crate) fn ward_in<'a>(told: &'a Reader, candidates: &'a [(u8, String)]) -> Ward<'a>
+    requires candidates { map (λ candidate. (candidate.0, string_bytes candidate.1)) candidates.now ≡ candidates_told (reading_of told.now) }
+    requires set { IsCandidateSet (map (λ candidate. candidate.0) candidates.now) }
+    ensures is { shown result ≡ ward_told (reading_of told.now) }
+    ensures printable { CanBePrinted result }
+{
+    let seats = told.papers.seats;
+    Ward {
+        number: told.comments.ward.unwrap_or(1),
+        name: told.names.ward.as_str(),
+        seats,
+        candidates,
+        poll: poll_by(
+            told.comments.rejected,
+            &told.papers.bundles,
+            candidates.len(),
+            seats,
+        ),
     }
 }

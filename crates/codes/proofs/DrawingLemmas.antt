@@ -6,9 +6,9 @@ use Rattle.std.specs.Io.KnownBytes.{append_known}
 use Rattle.std.proofs.lemmas.Bool.{and_from, eq-eqb}
 use Rattle.std.proofs.lemmas.List.Elements.{filter_map-append}
 use Rattle.std.proofs.lemmas.List.Folds.{concat-append, list_all-append}
-use Rattle.codes.specs.Drawing.{AreDrawn, AreTooFew, IsDraw, IsDrawn, IsInVain, IsMadeOf, IsShort, IsUndrawn, IsUnmade, IsUnwritten, is_vain, letters_for, most_bytes, most_files}
-use Rattle.codes.specs.Files.{codes_in}
-use Rattle.codes.specs.Making.{clerks_of, is_file_for, letter_of, letters_drawn, text_of}
+use Rattle.codes.specs.Drawing.{AreDrawn, IsDraw, IsDrawn, IsInVain, IsMadeByDraws, IsShort, IsUndrawn, IsUnmadeByDraws, IsUnwritten, is_vain, most_bytes, most_files}
+use Rattle.codes.specs.Files.{file_in}
+use Rattle.codes.specs.Making.{is_file_for, letter_of, letters_drawn, letters_with, text_with}
 use Rattle.codes.specs.declared.fault.CodesFault.TheVariants.{BadRandom, NoRandom}
 use Rattle.codes.specs.declared.fault.CodesError.{CodesError}
 use Rattle.codes.specs.declared.fault.CodesError.TheVariants.{Fault, Memory}
@@ -68,48 +68,48 @@ draw_grows old new before after one =
     ap (λ (ls : List ℕ). length ls) one.letters ∙ length-append before (letters_drawn (one.byte ∷ [])) in
     omega (arith, longer, one_letter one.byte)
 
-pub all_drawn : (clerks : ClerkRange) (old new : Option (List ℕ)) (letters : List ℕ) (most left : ℕ)
-    → IsDrawing old new letters most left → length letters ≡ letters_for clerks → AreDrawn clerks old new letters
-all_drawn clerks old new letters most left it enough = record { own = it.own; drew = it.drew; are = it.are; enough = enough }
+pub all_drawn : (clerks : ClerkRange) (office : Bool) (old new : Option (List ℕ)) (letters : List ℕ) (most left : ℕ)
+    → IsDrawing old new letters most left → length letters ≡ letters_with clerks office → AreDrawn clerks office old new letters
+all_drawn clerks office old new letters most left it enough = record { own = it.own; drew = it.drew; are = it.are; enough = enough }
 
-pub too_few : (clerks : ClerkRange) (old new : Option (List ℕ)) (letters : List ℕ) (most left : ℕ)
-    → IsDrawing old new letters most left → left ≡ 0 → most ≡ most_bytes * letters_for clerks → length letters < letters_for clerks → IsShort clerks old new
-too_few clerks old new letters most left it none all few =
+pub too_few : (clerks : ClerkRange) (office : Bool) (old new : Option (List ℕ)) (letters : List ℕ) (most left : ℕ)
+    → IsDrawing old new letters most left → left ≡ 0 → most ≡ most_bytes * letters_with clerks office → length letters < letters_with clerks office → IsShort clerks office old new
+too_few clerks office old new letters most left it none all few =
     let same : length letters ≡ length (letters_drawn it.own) = ap (λ (ls : List ℕ). length ls) it.are in
     let many : length it.own ≡ most = omega (arith, it.spent, none) in
     record { own = it.own; drew = it.drew; few = record { many = many ∙ all; few = omega (arith, same, few) } }
 
 -- ---- texts
 
-pub text_drawn : (clerks : ClerkRange) (old new : Option (List ℕ)) (letters text : List ℕ)
-    → AreDrawn clerks old new letters → text ≡ text_of (clerks_of clerks) letters → IsDrawn clerks old new text
-text_drawn clerks old new letters text it is =
+pub text_drawn : (clerks : ClerkRange) (office : Bool) (old new : Option (List ℕ)) (letters text : List ℕ)
+    → AreDrawn clerks office old new letters → text ≡ text_with clerks office letters → IsDrawn clerks office old new text
+text_drawn clerks office old new letters text it is =
     record {
       own = it.own;
       drew = it.drew;
       enough = ap (λ (ls : List ℕ). length ls) (sym it.are) ∙ it.enough;
-      is = is ∙ ap (text_of (clerks_of clerks)) it.are;
+      is = is ∙ ap (text_with clerks office) it.are;
     }
 
 -- so many texts were drawn of those that may be, and none of them is a file of codes
-pub record HasDrawn (clerks : ClerkRange) (old new : Option (List ℕ)) (left : ℕ) : Type 0 where
+pub record HasDrawn (clerks : ClerkRange) (office : Bool) (old new : Option (List ℕ)) (left : ℕ) : Type 0 where
   pub earlier : List (List ℕ)
   pub drew : new ≡ append_known old (concat earlier)
-  pub vain : list_all (is_vain clerks) earlier ≡ true
+  pub vain : list_all (is_vain clerks office) earlier ≡ true
   pub many : length earlier + left ≡ most_files
 
-pub none_drawn : (clerks : ClerkRange) (old : Option (List ℕ)) → HasDrawn clerks old old most_files
-none_drawn clerks old = record { earlier = []; drew = known_none old; vain = refl; many = refl }
+pub none_drawn : (clerks : ClerkRange) (office : Bool) (old : Option (List ℕ)) → HasDrawn clerks office old old most_files
+none_drawn clerks office old = record { earlier = []; drew = known_none old; vain = refl; many = refl }
 
-is_not : (clerks : ClerkRange) (text own : List ℕ) → length (letters_drawn own) ≡ letters_for clerks → text ≡ text_of (clerks_of clerks) (letters_drawn own)
-    → is_file_for clerks (codes_in text) ≡ false → is_vain clerks own ≡ true
-is_not clerks text own enough is bad =
-    and_from _ _ (eq-eqb (length (letters_drawn own)) (letters_for clerks) enough)
-    (ap not (ap (λ (t : List ℕ). is_file_for clerks (codes_in t)) (sym is) ∙ bad))
+is_not : (clerks : ClerkRange) (office : Bool) (text own : List ℕ) → length (letters_drawn own) ≡ letters_with clerks office → text ≡ text_with clerks office (letters_drawn own)
+    → is_file_for clerks office (file_in text) ≡ false → is_vain clerks office own ≡ true
+is_not clerks office text own enough is bad =
+    and_from _ _ (eq-eqb (length (letters_drawn own)) (letters_with clerks office) enough)
+    (ap not (ap (λ (t : List ℕ). is_file_for clerks office (file_in t)) (sym is) ∙ bad))
 
-pub one_more : (clerks : ClerkRange) (old mid new : Option (List ℕ)) (text : List ℕ) (left : ℕ)
-    → HasDrawn clerks old mid left → IsDrawn clerks mid new text → is_file_for clerks (codes_in text) ≡ false → 0 < left → HasDrawn clerks old new (left - 1)
-one_more clerks old mid new text left it one bad some =
+pub one_more : (clerks : ClerkRange) (office : Bool) (old mid new : Option (List ℕ)) (text : List ℕ) (left : ℕ)
+    → HasDrawn clerks office old mid left → IsDrawn clerks office mid new text → is_file_for clerks office (file_in text) ≡ false → 0 < left → HasDrawn clerks office old new (left - 1)
+one_more clerks office old mid new text left it one bad some =
     let joined : concat (it.earlier ++ one.own ∷ []) ≡ concat it.earlier ++ one.own =
     concat-append it.earlier (one.own ∷ []) ∙ ap (λ (bs : List ℕ). concat it.earlier ++ bs) (append-nil one.own) in
     let longer : length (it.earlier ++ one.own ∷ []) ≡ length it.earlier + 1 = length-append it.earlier (one.own ∷ []) in
@@ -117,14 +117,14 @@ one_more clerks old mid new text left it one bad some =
       earlier = it.earlier ++ one.own ∷ [];
       drew = known_more old mid new (concat it.earlier) one.own it.drew one.drew ∙ ap (append_known old) (sym joined);
       vain =
-          list_all-append (is_vain clerks) it.earlier (one.own ∷ [])
-          ∙ and_from _ _ it.vain (and_from _ _ (is_not clerks text one.own one.enough one.is bad) refl);
+          list_all-append (is_vain clerks office) it.earlier (one.own ∷ [])
+          ∙ and_from _ _ it.vain (and_from _ _ (is_not clerks office text one.own one.enough one.is bad) refl);
       many = omega (arith, longer, it.many, some);
     }
 
-pub made_of : (clerks : ClerkRange) (old mid new : Option (List ℕ)) (text : List ℕ) (left : ℕ)
-    → HasDrawn clerks old mid left → IsDrawn clerks mid new text → IsMadeOf clerks old new text
-made_of clerks old mid new text left it one =
+pub made_of : (clerks : ClerkRange) (office : Bool) (old mid new : Option (List ℕ)) (text : List ℕ) (left : ℕ)
+    → HasDrawn clerks office old mid left → IsDrawn clerks office mid new text → IsMadeByDraws clerks office old new text
+made_of clerks office old mid new text left it one =
     record {
       earlier = it.earlier;
       own = one.own;
@@ -134,24 +134,24 @@ made_of clerks old mid new text left it one =
       is = one.is;
     }
 
-pub all_vain : (clerks : ClerkRange) (old new : Option (List ℕ)) (left : ℕ) → HasDrawn clerks old new left → left ≤ 0 → IsInVain clerks old new
-all_vain clerks old new left it none =
+pub all_vain : (clerks : ClerkRange) (office : Bool) (old new : Option (List ℕ)) (left : ℕ) → HasDrawn clerks office old new left → left ≤ 0 → IsInVain clerks office old new
+all_vain clerks office old new left it none =
     let many : length it.earlier ≡ most_files = omega (arith, it.many, none) in
     record { earlier = it.earlier; own = []; drew = it.drew ∙ ap (append_known old) (sym (append-nil (concat it.earlier))); vain = it.vain; ends = inl (many, refl) }
 
 -- ---- errors
 
-pub undrawn : (clerks : ClerkRange) (failed failed_mid failed_then : ℕ) (old new : Option (List ℕ)) (why : CodesError)
-    → failed_mid ≡ failed → IsUndrawn failed_mid failed_then why → IsUnwritten clerks failed failed_then old new why
-undrawn clerks failed failed_mid failed_then old new Memory same is = is ∙ same
-undrawn clerks failed failed_mid failed_then old new (Fault NoRandom) same is = is ∙ ap (λ n. n + 1) same
-undrawn clerks failed failed_mid failed_then old new (Fault other) same is = absurd is
+pub undrawn : (clerks : ClerkRange) (office : Bool) (failed failed_mid failed_then : ℕ) (old new : Option (List ℕ)) (why : CodesError)
+    → failed_mid ≡ failed → IsUndrawn failed_mid failed_then why → IsUnwritten clerks office failed failed_then old new why
+undrawn clerks office failed failed_mid failed_then old new Memory same is = is ∙ same
+undrawn clerks office failed failed_mid failed_then old new (Fault NoRandom) same is = is ∙ ap (λ n. n + 1) same
+undrawn clerks office failed failed_mid failed_then old new (Fault other) same is = absurd is
 
-pub unmade : (clerks : ClerkRange) (failed failed_mid failed_then : ℕ) (old mid new : Option (List ℕ)) (left : ℕ) (why : CodesError)
-    → HasDrawn clerks old mid left → failed_mid ≡ failed → IsUnwritten clerks failed_mid failed_then mid new why → IsUnmade clerks failed failed_then old new why
-unmade clerks failed failed_mid failed_then old mid new left Memory it same is = is ∙ same
-unmade clerks failed failed_mid failed_then old mid new left (Fault NoRandom) it same is = is ∙ ap (λ n. n + 1) same
-unmade clerks failed failed_mid failed_then old mid new left (Fault BadRandom) it same is = (
+pub unmade : (clerks : ClerkRange) (office : Bool) (failed failed_mid failed_then : ℕ) (old mid new : Option (List ℕ)) (left : ℕ) (why : CodesError)
+    → HasDrawn clerks office old mid left → failed_mid ≡ failed → IsUnwritten clerks office failed_mid failed_then mid new why → IsUnmadeByDraws clerks office failed failed_then old new why
+unmade clerks office failed failed_mid failed_then old mid new left Memory it same is = is ∙ same
+unmade clerks office failed failed_mid failed_then old mid new left (Fault NoRandom) it same is = is ∙ ap (λ n. n + 1) same
+unmade clerks office failed failed_mid failed_then old mid new left (Fault BadRandom) it same is = (
   is.0 ∙ same,
   record {
     earlier = it.earlier;
@@ -161,4 +161,4 @@ unmade clerks failed failed_mid failed_then old mid new left (Fault BadRandom) i
     ends = inr is.1.few;
   },
 )
-unmade clerks failed failed_mid failed_then old mid new left (Fault other) it same is = absurd is
+unmade clerks office failed failed_mid failed_then old mid new left (Fault other) it same is = absurd is

@@ -1,5 +1,6 @@
 -- Clerks in a row, and their lines.
-use Rattle.std.proofs.Common.{◌≡◌, ◌∙◌, ◌+◌, ◌-◌, ◌<◌, ◌≤◌, ◌++◌, ◌∷◌, ◌&&◌, ◌==◌, true, [], List, ap, append-nil, append_assoc, arith, drop, length, map, refl, sym, suc, take, zero, ℕ}
+use Rattle.std.proofs.Common.{◌≡◌, ◌∙◌, ◌+◌, ◌-◌, ◌<◌, ◌≤◌, ◌++◌, ◌∷◌, ◌==◌, true, [], List, ℕ, suc, zero}
+use Rattle.std.proofs.Common.{ap, append-nil, append_assoc, arith, drop, length, map, refl, sym, take}
 use Rattle.std.proofs.lemmas.Bool.{and_parts}
 use Rattle.std.proofs.lemmas.Bool.Decides.{nat_tests}
 use Rattle.codes.specs.Files.{CodeEntry}
@@ -61,9 +62,17 @@ all_lines first index count text all rest done it =
 pub joined : (text front a hyphen b c end : List ℕ) → ((((((text ++ front) ++ a) ++ hyphen) ++ b) ++ hyphen) ++ c) ++ end ≡ text ++ ((((((front ++ a) ++ hyphen) ++ b) ++ hyphen) ++ c) ++ end)
 joined text front a hyphen b c end = simp append_assoc refl
 
+-- the same of the office's code, and of its line
+pub groups_joined : (text a hyphen b c d : List ℕ)
+    → ((((((text ++ a) ++ hyphen) ++ b) ++ hyphen) ++ c) ++ hyphen) ++ d ≡ text ++ ((((((a ++ hyphen) ++ b) ++ hyphen) ++ c) ++ hyphen) ++ d)
+groups_joined text a hyphen b c d = simp append_assoc refl
+
+pub line_joined : (text name blank code end : List ℕ) → (((text ++ name) ++ blank) ++ code) ++ end ≡ text ++ (((name ++ blank) ++ code) ++ end)
+line_joined text name blank code end = simp append_assoc refl
+
 -- ---- clerks of entries
 
-same_number : (m n : ℕ) → (m == n) ≡ true → m ≡ n
+pub same_number : (m n : ℕ) → (m == n) ≡ true → m ≡ n
 same_number m n is = grind (arith, nat_tests)
 
 from_below : (next end : ℕ) (entries : List CodeEntry) → are_from next end entries ≡ true → next ≤ end

@@ -3,19 +3,23 @@ use Rattle.std.specs.Prelude.{List, Option, Some, None, codes, ℕ}
 use Rattle.codes.specs.declared.fault.CodesFault.{CodesFault}
 use Rattle.codes.specs.declared.fault.CodesFault.TheVariants.{BadRandom, Line, NoClerks, NoRandom, OpenToOthers, Unmade, Unread}
 use Rattle.codes.specs.declared.fault.CodeFlaw.{CodeFlaw}
-use Rattle.codes.specs.declared.fault.CodeFlaw.TheVariants.{BadCode, ClerkTwice, CodeTwice, NoEntry}
+use Rattle.codes.specs.declared.fault.CodeFlaw.TheVariants.{BadCode, ClerkTwice, CodeTwice, NoEntry, OfficeTwice, ShortOffice}
 
 abbrev pub flaw_number : CodeFlaw → ℕ
 flaw_number NoEntry = 1
 flaw_number BadCode = 2
 flaw_number ClerkTwice = 3
 flaw_number CodeTwice = 4
+flaw_number OfficeTwice = 11
+flaw_number ShortOffice = 12
 
 abbrev pub flaw_text : CodeFlaw → List ℕ
 flaw_text NoEntry = codes "no clerk and code"
 flaw_text BadCode = codes "bad code"
 flaw_text ClerkTwice = codes "clerk twice"
 flaw_text CodeTwice = codes "code twice"
+flaw_text OfficeTwice = codes "office twice"
+flaw_text ShortOffice = codes "office code too short"
 
 abbrev pub fault_number : CodesFault → ℕ
 fault_number (Line number flaw) = flaw_number flaw

@@ -1,14 +1,15 @@
--- A file of codes: for each clerk a line with the clerk's number, a blank, and the code.
-use Rattle.std.specs.Prelude.{◌∷◌, ◌++◌, ◌+◌, ◌-◌, ◌*◌, ◌==◌, ◌&&◌, ◌||◌, Bool, List, [], Option, Some, None, Result, Ok, Err}
-use Rattle.std.specs.Prelude.{bytes_eq, count_by, drop, if◌then◌else◌, length, map, nat_le, nat_lt, not, option_and_then, option_map, slice_index, take, ℕ}
+-- A file of codes: for each clerk a line with the clerk's number, a blank, and the code; and at most one line for the office, with its name instead of a number.
+use Rattle.std.specs.Prelude.{◌∷◌, ◌++◌, ◌+◌, ◌-◌, ◌*◌, ◌==◌, ◌&&◌, ◌||◌, Bool, false, List, [], Option, Some, None, Result, Ok, Err}
+use Rattle.std.specs.Prelude.{bytes_eq, count_by, drop, if◌then◌else◌, is_some, length, map, nat_le, nat_lt, not, option_and_then, option_map, slice_index, take, ℕ}
 use Rattle.std.specs.Char.{is_ascii_digit}
 use Rattle.std.specs.List.{list_all, list_any, prefix_len}
-use Rattle.codes.specs.Codes.{Holder, credentials_of}
+use Rattle.codes.specs.Codes.{Holder, credentials_of, office_credentials, office_name}
 use Rattle.codes.specs.declared.fault.CodeFlaw.{CodeFlaw}
-use Rattle.codes.specs.declared.fault.CodeFlaw.TheVariants.{BadCode, ClerkTwice, CodeTwice, NoEntry}
+use Rattle.codes.specs.declared.fault.CodeFlaw.TheVariants.{BadCode, ClerkTwice, CodeTwice, NoEntry, OfficeTwice, ShortOffice}
 use Rattle.codes.specs.declared.fault.CodesFault.{CodesFault}
 use Rattle.codes.specs.declared.fault.CodesFault.TheVariants as fault
 use Rattle.codes.specs.declared.reading.CodeLine.{CodeLine}
+use Rattle.codes.specs.declared.reading.FileLines.{FileLines}
 
 -- ---- a code
 
@@ -38,6 +39,14 @@ fewest_strong_bytes = 12
 -- a code is strong: it has at least so many bytes other than hyphens
 abbrev pub is_strong : List ℕ → Bool
 is_strong code = nat_le fewest_strong_bytes (count_by is_no_hyphen code)
+
+-- the fewest bytes of the office's code, hyphens left out
+abbrev pub fewest_office_bytes : ℕ
+fewest_office_bytes = 16
+
+-- a code is long enough for the office: it has at least so many bytes other than hyphens
+abbrev pub is_for_office : List ℕ → Bool
+is_for_office code = nat_le fewest_office_bytes (count_by is_no_hyphen code)
 
 -- ---- a clerk's number
 
@@ -83,34 +92,109 @@ abbrev pub entry_by : Option ℕ → List ℕ → Result CodeEntry CodeFlaw
 entry_by None code = Err NoEntry
 entry_by (Some clerk) code = if is_code code then Ok (record { clerk = clerk; code = code }) else Err BadCode
 
--- the entry of a line
-abbrev pub entry_in : List ℕ → Result CodeEntry CodeFlaw
-entry_in line = entry_by (clerk_in (take (prefix_len is_no_blank line) line)) (drop (prefix_len is_no_blank line + 1) line)
+-- what comes before the first blank of a line
+abbrev pub front_of : List ℕ → List ℕ
+front_of line = take (prefix_len is_no_blank line) line
 
--- an entry after others, none of which has its clerk or its code
-abbrev pub entry_behind : List CodeEntry → Result CodeEntry CodeFlaw → Result CodeEntry CodeFlaw
+-- what comes after it
+abbrev pub rest_of : List ℕ → List ℕ
+rest_of line = drop (prefix_len is_no_blank line + 1) line
+
+-- a line is the office's
+abbrev pub is_office_line : List ℕ → Bool
+is_office_line line = bytes_eq (front_of line) office_name
+
+-- the entry of a clerk's line
+abbrev pub entry_in : List ℕ → Result CodeEntry CodeFlaw
+entry_in line = entry_by (clerk_in (front_of line)) (rest_of line)
+
+-- ---- a line after others
+
+-- the codes of some lines: those of clerks, and the office's, if one of them is the office's
+pub record FileEntry : Type 0 where
+  pub clerks : List CodeEntry
+  pub office : Option (List ℕ)
+
+abbrev pub file_entry : FileLines → FileEntry
+file_entry lines = record { clerks = map code_entry lines.clerks.items; office = option_map (λ code. code.now) lines.office }
+
+-- no codes
+abbrev pub no_codes : FileEntry
+no_codes = record { clerks = []; office = None }
+
+-- the office has this code
+abbrev pub is_offices : Option (List ℕ) → List ℕ → Bool
+is_offices None code = false
+is_offices (Some own) code = bytes_eq own code
+
+-- a clerk or the office has this code
+abbrev pub has_code : FileEntry → List ℕ → Bool
+has_code before code = list_any (λ other. bytes_eq other.code code) before.clerks || is_offices before.office code
+
+-- a clerk's entry after others, none of which has its clerk or its code
+abbrev pub entry_behind : FileEntry → Result CodeEntry CodeFlaw → Result CodeEntry CodeFlaw
 entry_behind before (Err flaw) = Err flaw
 entry_behind before (Ok entry) =
-    if list_any (λ other. other.clerk == entry.clerk) before then Err ClerkTwice else
-    (if list_any (λ other. bytes_eq other.code entry.code) before then Err CodeTwice else Ok entry)
+    if list_any (λ other. other.clerk == entry.clerk) before.clerks then Err ClerkTwice else
+    (if has_code before entry.code then Err CodeTwice else Ok entry)
+
+-- The office's code after other lines, none of which is the office's, or has its code. A second line for the office has a flaw of its own,
+-- since what is said of a clerk's second line, that a clerk is there twice, would send its reader to the clerks' numbers.
+abbrev pub office_behind : FileEntry → List ℕ → Result (List ℕ) CodeFlaw
+office_behind before code =
+    if not (is_code code) then Err BadCode else
+    (if not (is_for_office code) then Err ShortOffice else
+    (if is_some before.office then Err OfficeTwice else
+    (if has_code before code then Err CodeTwice else Ok code)))
+
+-- codes with those of one line more: a clerk's
+abbrev pub with_clerk : FileEntry → Result CodeEntry CodeFlaw → Result FileEntry CodeFlaw
+with_clerk before (Err flaw) = Err flaw
+with_clerk before (Ok entry) = Ok (record { clerks = before.clerks ++ entry ∷ []; office = before.office })
+
+-- the same of the office's line
+abbrev pub with_office : FileEntry → Result (List ℕ) CodeFlaw → Result FileEntry CodeFlaw
+with_office before (Err flaw) = Err flaw
+with_office before (Ok code) = Ok (record { clerks = before.clerks; office = Some code })
+
+-- the same of any line
+abbrev pub with_line : FileEntry → List ℕ → Result FileEntry CodeFlaw
+with_line before line =
+    if is_office_line line then with_office before (office_behind before (rest_of line)) else with_clerk before (entry_behind before (entry_in line))
 
 -- ---- all lines
 
--- the result continues after an entry, or ends with what is wrong with the line of this number
-abbrev pub entries_by : (List CodeEntry → Result (List CodeEntry) CodesFault) → ℕ → List CodeEntry → Result CodeEntry CodeFlaw → Result (List CodeEntry) CodesFault
-entries_by others number before (Err flaw) = Err (fault.Line number flaw)
-entries_by others number before (Ok entry) = others (before ++ entry ∷ [])
+-- the result continues after a line, or ends with what is wrong with the line of this number
+abbrev pub file_by : (FileEntry → Result FileEntry CodesFault) → ℕ → Result FileEntry CodeFlaw → Result FileEntry CodesFault
+file_by others number (Err flaw) = Err (fault.Line number flaw)
+file_by others number (Ok before) = others before
 
--- the entries of lines from one number on, after those before; an empty line is skipped
-abbrev pub entries_from : ℕ → List CodeEntry → List (List ℕ) → Result (List CodeEntry) CodesFault
-entries_from number before [] = Ok before
-entries_from number before (line ∷ lines) =
-    if length (without_return line) == 0 then entries_from (number + 1) before lines else
-    entries_by (λ all. entries_from (number + 1) all lines) number before (entry_behind before (entry_in (without_return line)))
+-- the codes of lines from one number on, after those before; an empty line is skipped
+abbrev pub file_from : ℕ → FileEntry → List (List ℕ) → Result FileEntry CodesFault
+file_from number before [] = Ok before
+file_from number before (line ∷ lines) =
+    if length (without_return line) == 0 then file_from (number + 1) before lines else
+    file_by (λ all. file_from (number + 1) all lines) number (with_line before (without_return line))
 
--- the entries of a file's text, or the first line that is wrong
+-- the codes of a file's text, or the first line that is wrong
+abbrev pub file_in : List ℕ → Result FileEntry CodesFault
+file_in text = file_from 1 no_codes (lines_from [] text)
+
+-- those of its clerks
+abbrev pub clerks_by : Result FileEntry CodesFault → Result (List CodeEntry) CodesFault
+clerks_by (Err fault) = Err fault
+clerks_by (Ok file) = Ok file.clerks
+
 abbrev pub codes_in : List ℕ → Result (List CodeEntry) CodesFault
-codes_in text = entries_from 1 [] (lines_from [] text)
+codes_in text = clerks_by (file_in text)
+
+-- the office's, if it has a line for the office
+abbrev pub office_by : Result FileEntry CodesFault → Option (List ℕ)
+office_by (Err fault) = None
+office_by (Ok file) = file.office
+
+abbrev pub office_in : List ℕ → Option (List ℕ)
+office_in text = office_by (file_in text)
 
 -- the clerks whose codes aren't strong, in order
 abbrev pub weak_clerks : List CodeEntry → List ℕ
@@ -120,3 +204,7 @@ weak_clerks (entry ∷ entries) = if is_strong entry.code then weak_clerks entri
 -- the holders of the codes of some entries
 abbrev pub holders_by : List CodeEntry → List Holder
 holders_by entries = map (λ (e : CodeEntry). record { clerk = e.clerk; text = credentials_of e.clerk e.code }) entries
+
+-- the credentials of the office with such a code
+abbrev pub office_held : Option (List ℕ) → Option (List ℕ)
+office_held code = option_map office_credentials code

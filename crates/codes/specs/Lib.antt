@@ -1,4 +1,4 @@
--- Clerks' codes.
+-- The codes of clerks and of the office.
 pub mod Codes
 pub mod Drawing
 pub mod Faults

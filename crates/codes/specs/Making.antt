@@ -1,8 +1,9 @@
--- New codes, and the clerks for whom they are made.
-use Rattle.std.specs.Prelude.{◌≡◌, ◌∷◌, ◌++◌, ◌+◌, ◌-◌, ◌==◌, ◌&&◌, ◌%◌, Bool, true, false, zero, suc, List, [], Option, Some, None, Result, Ok, Err}
-use Rattle.std.specs.Prelude.{codes, decimal, drop, if◌then◌else◌, length, map, nat_le, nat_lt, not, slice_index, slice_range, take, ℕ}
+-- New codes, and for whom they are made: some clerks, and the office or not.
+use Rattle.std.specs.Prelude.{◌≡◌, ◌∷◌, ◌++◌, ◌+◌, ◌-◌, ◌*◌, ◌==◌, ◌&&◌, ◌%◌, Bool, true, false, zero, suc, List, [], Option, Some, None, Result, Ok, Err}
+use Rattle.std.specs.Prelude.{bytes_eq, codes, decimal, drop, if◌then◌else◌, is_none, length, map, nat_le, nat_lt, slice_index, slice_range, take, ℕ}
 use Rattle.std.specs.List.{filter_map, list_all, list_any, prefix_len}
-use Rattle.codes.specs.Files.{CodeEntry, clerk_in, codes_in, is_no_hyphen}
+use Rattle.codes.specs.Codes.{office_name}
+use Rattle.codes.specs.Files.{CodeEntry, FileEntry, clerk_in, codes_in, is_no_hyphen, office_in}
 use Rattle.codes.specs.declared.fault.CodesFault.{CodesFault}
 use Rattle.codes.specs.declared.range.ClerkRange.{ClerkRange}
 
@@ -38,6 +39,19 @@ is_made code =
     (length code == 14)
     && ((slice_index code 4 == 45)
     && ((slice_index code 9 == 45) && (list_all is_letter (take 4 code) && (list_all is_letter (slice_range code 5 9) && list_all is_letter (drop 10 code)))))
+
+-- how many letters the office's code has
+abbrev pub office_letters : ℕ
+office_letters = 16
+
+-- a code of sixteen letters: in groups of four, with hyphens between them
+abbrev pub is_made_for_office : List ℕ → Bool
+is_made_for_office code =
+    (length code == 19)
+    && ((slice_index code 4 == 45)
+    && ((slice_index code 9 == 45)
+    && ((slice_index code 14 == 45)
+    && (list_all is_letter (take 4 code) && (list_all is_letter (slice_range code 5 9) && (list_all is_letter (slice_range code 10 14) && list_all is_letter (drop 15 code)))))))
 
 -- ---- clerks
 
@@ -76,15 +90,30 @@ pub record IsMadeFor (clerks : List ℕ) (text : List ℕ) : Type 0 where
   pub each : map (λ (e : CodeEntry). e.clerk) entries ≡ clerks
   pub made : list_all (λ (e : CodeEntry). is_made e.code) entries ≡ true
 
+-- a text is such a file, in which the office has a code of sixteen letters, and no clerk has the same
+pub record IsMadeWithOffice (clerks : List ℕ) (text : List ℕ) : Type 0 where
+  pub of_clerks : IsMadeFor clerks text
+  pub code : List ℕ
+  pub is : office_in text ≡ Some code
+  pub made : is_made_for_office code ≡ true
+  pub own : list_any (λ (e : CodeEntry). bytes_eq e.code code) of_clerks.entries ≡ false
+
 -- entries are of the clerks from one on to the one before another
 abbrev pub are_from : ℕ → ℕ → List CodeEntry → Bool
 are_from next end [] = next == end
 are_from next end (entry ∷ entries) = (entry.clerk == next) && are_from (next + 1) end entries
 
--- the same test of what was read of a text
-abbrev pub is_file_for : ClerkRange → Result (List CodeEntry) CodesFault → Bool
-is_file_for clerks (Err fault) = false
-is_file_for clerks (Ok entries) = are_from clerks.first (clerks.last + 1) entries && list_all (λ (e : CodeEntry). is_made e.code) entries
+-- the office has a code of sixteen letters; or it has none, if none is made for it
+abbrev pub is_made_at : Bool → Option (List ℕ) → Bool
+is_made_at false code = is_none code
+is_made_at true None = false
+is_made_at true (Some code) = is_made_for_office code
+
+-- the same test of what was read of a text, with a code for the office or without one
+abbrev pub is_file_for : ClerkRange → Bool → Result FileEntry CodesFault → Bool
+is_file_for clerks office (Err fault) = false
+is_file_for clerks office (Ok file) =
+    are_from clerks.first (clerks.last + 1) file.clerks && (list_all (λ (e : CodeEntry). is_made e.code) file.clerks && is_made_at office file.office)
 
 -- ---- its text
 
@@ -97,3 +126,25 @@ line_of clerk own =
 abbrev pub text_of : List ℕ → List ℕ → List ℕ
 text_of [] own = []
 text_of (clerk ∷ clerks) own = line_of clerk (take code_letters own) ++ text_of clerks (drop code_letters own)
+
+-- how many letters the codes of these clerks have
+abbrev pub letters_for : ClerkRange → ℕ
+letters_for clerks = code_letters * length (clerks_of clerks)
+
+-- the office's code of these letters
+abbrev pub office_code : List ℕ → List ℕ
+office_code own = (((((take 4 own ++ codes "-") ++ slice_range own 4 8) ++ codes "-") ++ slice_range own 8 12) ++ codes "-") ++ drop 12 own
+
+-- the office's line: its name, a blank, and the code of these letters
+abbrev pub office_line : List ℕ → List ℕ
+office_line own = ((office_name ++ codes " ") ++ office_code own) ++ codes "\n"
+
+-- the lines of clerks, and the office's after them, if a code is made for it: its letters are those after the clerks'
+abbrev pub text_with : ClerkRange → Bool → List ℕ → List ℕ
+text_with clerks false own = text_of (clerks_of clerks) own
+text_with clerks true own = text_of (clerks_of clerks) (take (letters_for clerks) own) ++ office_line (drop (letters_for clerks) own)
+
+-- how many letters these codes have
+abbrev pub letters_with : ClerkRange → Bool → ℕ
+letters_with clerks false = letters_for clerks
+letters_with clerks true = letters_for clerks + office_letters

@@ -7,8 +7,8 @@ ghost use Rattle.std.specs.Io.KnownBytes.{append_known};
 #[derive(Clone, Copy, Debug, PartialEq, Eq, Drop)]
 pub struct DrawFailed;
 
-/// Draws random bytes, and counts the draws that failed.
-pub trait Draws {
+/// A source of random bytes, which counts the draws that failed.
+pub trait RandomSource {
     /// The bytes drawn so far, as far as they are known.
     ghost drawn: { Self → Option (List ℕ) };
 

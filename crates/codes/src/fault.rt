@@ -9,7 +9,7 @@ use std::alloc::AllocError;
 /// What is wrong with a line.
 #[derive(Clone, Copy, Debug, PartialEq, Eq, Drop)]
 pub enum CodeFlaw {
-    /// The line doesn't begin with a clerk's number, 1 to 999, and a blank.
+    /// The line begins neither with a clerk's number, 1 to 999, and a blank, nor with `office` and a blank.
     NoEntry,
     /// The rest of the line isn't a code: 8 to 64 letters, digits and signs.
     BadCode,
@@ -17,6 +17,10 @@ pub enum CodeFlaw {
     ClerkTwice,
     /// An earlier line has the same code.
     CodeTwice,
+    /// An earlier line is the office's too.
+    OfficeTwice,
+    /// The office's code has fewer than 16 bytes other than hyphens.
+    ShortOffice,
 }
 
 /// Why codes weren't read or made.
@@ -48,6 +52,8 @@ impl CodeFlaw {
             CodeFlaw::BadCode => 2,
             CodeFlaw::ClerkTwice => 3,
             CodeFlaw::CodeTwice => 4,
+            CodeFlaw::OfficeTwice => 11,
+            CodeFlaw::ShortOffice => 12,
         }
     }
 
@@ -60,6 +66,8 @@ impl CodeFlaw {
             CodeFlaw::BadCode => "bad code",
             CodeFlaw::ClerkTwice => "clerk twice",
             CodeFlaw::CodeTwice => "code twice",
+            CodeFlaw::OfficeTwice => "office twice",
+            CodeFlaw::ShortOffice => "office code too short",
         }
     }
 }

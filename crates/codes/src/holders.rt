@@ -1,28 +1,33 @@
-//! The clerks who hold codes.
+//! The clerks who hold codes, and the office's code.
 
-ghost use Rattle.std.specs.Prelude.{◌≡◌, ◌&&◌, ◌==◌, IfOk, bytes_eq, map, string_bytes};
+ghost use Rattle.std.specs.Prelude.{◌≡◌, ◌&&◌, ◌==◌, IfOk, bytes_eq, is_some, map, option_map, string_bytes};
 ghost use Rattle.sha2.specs.Sha256.{sha256};
-ghost use Rattle.codes.specs.Codes.{credentials_of, holder, holders_of, is_of};
-ghost use Rattle.codes.specs.Files.{code_entry, holders_by};
+ghost use Rattle.codes.specs.Codes.{basic_of, credentials_of, holder, holders_of, is_of, is_office, office_of};
+ghost use Rattle.codes.specs.Files.{code_entry, holders_by, office_held};
+ghost use Rattle.codes.specs.declared.credentials.Basic.{Basic};
 
-use crate::credentials::Credentials;
+use crate::credentials::{Basic, Credentials};
 use crate::reading::CodeLine;
 use base64::engine::general_purpose::STANDARD;
 use sha2::{Digest, Sha256};
 use std::alloc::{AllocError, Global};
 
-/// The codes of clerks, as browsers send them, and the clerks whose codes are weak.
+/// The codes of clerks, as browsers send them, the clerks whose codes are weak, and the office's code, if it has one.
 #[derive(Drop)]
 pub struct Codes {
     pub all: Vec<Credentials>,
     pub weak: Vec<u32>,
+    pub office: Option<Basic>,
 }
 
-/// Returns the credentials of a clerk, as a text.
-fn credentials_text(alloc: Global, clerk: u32, code: &[u8]) -> Result<String, AllocError>
-    ensures { IfOk result (λ text. string_bytes text ≡ credentials_of clerk code.now) }
+/// The office's name, as its line in a file has it, and as a browser sends it.
+pub(crate) const OFFICE_USER_NAME: &str = "office";
+
+/// Returns the credentials of a name with a code, as a text.
+fn basic_text(alloc: Global, name: &str, code: &[u8]) -> Result<String, AllocError>
+    ensures { IfOk result (λ text. string_bytes text ≡ basic_of name.now code.now) }
 {
-    let mut pair = format!(in alloc; "{clerk}:")?.into_bytes();
+    let mut pair = format!(in alloc; "{name}:")?.into_bytes();
     pair.extend_from_slice(code)?;
     let mut text = String::from_str(alloc, "Basic ")?;
     STANDARD.encode_string(pair.as_slice(), &mut text)?;
@@ -36,18 +41,14 @@ fn digest_of(text: &[u8]) -> [u8; 32]
     Sha256::digest(text)
 }
 
-impl Credentials {
-    /// Returns the credentials of a clerk with a code.
-    fn new(alloc: Global, clerk: u32, code: &[u8]) -> Result<Credentials, AllocError>
-        ensures { IfOk result (λ its. (its.clerk ≡ clerk) × (string_bytes its.text ≡ credentials_of clerk code.now)) }
+impl Basic {
+    /// Returns the credentials of a name with a code.
+    fn new(alloc: Global, name: &str, code: &[u8]) -> Result<Basic, AllocError>
+        ensures { IfOk result (λ its. string_bytes its.text ≡ basic_of name.now code.now) }
     {
-        let text = credentials_text(alloc, clerk, code)?;
+        let text = basic_text(alloc, name, code)?;
         let digest = digest_of(text.as_bytes());
-        Ok(Credentials {
-            clerk,
-            text,
-            digest,
-        })
+        Ok(Basic { text, digest })
     }
 
     /// Returns whether a text is these credentials. It compares digests first, and the texts only if these are equal, so that
@@ -60,13 +61,24 @@ impl Credentials {
     }
 }
 
+impl Credentials {
+    /// Returns the credentials of a clerk with a code.
+    fn new(alloc: Global, clerk: u32, code: &[u8]) -> Result<Credentials, AllocError>
+        ensures { IfOk result (λ its. (its.clerk ≡ clerk) × (string_bytes its.basic.text ≡ credentials_of clerk code.now)) }
+    {
+        let name = format!(in alloc; "{clerk}")?;
+        let basic = Basic::new(alloc, name.as_str(), code)?;
+        Ok(Credentials { clerk, basic })
+    }
+}
+
 /// Returns whether a text is the credentials of this clerk.
 fn is_of(all: &[Credentials], clerk: u32, text: &[u8]) -> bool
     ensures { result ≡ is_of (map holder all.now) clerk text.now }
 {
     let digest = digest_of(text);
     for one in all {
-        if one.are(text, &digest) && one.clerk == clerk {
+        if one.basic.are(text, &digest) && one.clerk == clerk {
             return true;
         }
     }
@@ -87,6 +99,16 @@ pub(crate) fn credentials_by(
     Ok(all)
 }
 
+/// Returns the credentials of the office with a code, if it has one.
+pub(crate) fn office_by(alloc: Global, code: Option<&[u8]>) -> Result<Option<Basic>, AllocError>
+    ensures { IfOk result (λ own. option_map (λ (o : Basic). string_bytes o.text) own ≡ office_held (option_map (λ c. c.now) code.entry)) }
+{
+    let Some(code) = code else {
+        return Ok(None);
+    };
+    Ok(Some(Basic::new(alloc, OFFICE_USER_NAME, code)?))
+}
+
 impl Codes {
     /// Returns whether a text is the credentials of this clerk. It hashes the whole text and compares digests first, so that
     /// the time doesn't show how much of the text is right.
@@ -94,6 +116,25 @@ impl Codes {
         ensures { result ≡ is_of (holders_of self.now) clerk text.now }
     {
         is_of(self.all.as_slice(), clerk, text)
+    }
+
+    /// Returns whether the office has a code.
+    pub fn has_office(&self) -> bool
+        ensures { result ≡ is_some (office_of self.now) }
+    {
+        self.office.is_some()
+    }
+
+    /// Returns whether a text is the office's credentials; none is, if it has no code. It hashes the whole text and compares digests
+    /// first, so that the time doesn't show how much of the text is right.
+    pub fn admits_office(&self, text: &[u8]) -> bool
+        ensures { result ≡ is_office (office_of self.now) text.now }
+    {
+        let digest = digest_of(text);
+        match &self.office {
+            Some(own) => own.are(text, &digest),
+            None => false,
+        }
     }
 
     /// Returns the clerks whose codes are weak, in the order of the file: such a code has fewer than 12 bytes other than hyphens,

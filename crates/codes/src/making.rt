@@ -1,15 +1,15 @@
 //! New codes.
 
-ghost use Rattle.std.specs.Prelude.{◌≡◌, ◌+◌, ◌-◌, ◌^◌, ◌<◌, IfErr, IfOk, OnOk, map, string_bytes};
+ghost use Rattle.std.specs.Prelude.{◌≡◌, ◌+◌, ◌-◌, ◌^◌, ◌<◌, IfErr, IfOk, None, OnOk, true, map, option_map, string_bytes};
 ghost use Rattle.std.specs.List.{list_all};
-ghost use Rattle.codes.specs.Drawing.{IsMadeOf, IsUnmade};
-ghost use Rattle.codes.specs.Files.{CodeEntry, code_entry, codes_in};
-ghost use Rattle.codes.specs.Making.{IsMadeFor, are_from, clerks_of, is_file_for, is_letter, is_made};
+ghost use Rattle.codes.specs.Drawing.{IsMadeByDraws, IsMadeOf, IsUnmade, IsUnmadeByDraws};
+ghost use Rattle.codes.specs.Files.{CodeEntry, code_entry, file_in, office_in};
+ghost use Rattle.codes.specs.Making.{IsMadeFor, IsMadeWithOffice, are_from, clerks_of, is_file_for, is_letter, is_made, is_made_at, is_made_for_office};
 ghost use Rattle.codes.specs.declared.fault.CodesError.TheVariants.{Memory};
 
-use crate::drawing::Draws;
-use crate::drawn::{LETTERS, draw_lines};
+use crate::drawing::RandomSource;
 use crate::fault::{CodesError, CodesFault};
+use crate::random_letters::{LETTERS, draw_lines};
 use crate::range::ClerkRange;
 use crate::reading::{CodeLine, entries_of, lines_of};
 use std::alloc::Global;
@@ -17,8 +17,11 @@ use std::alloc::Global;
 /// The most files that are drawn.
 const MOST_FILES: u32 = 100;
 
-/// How many bytes a code has.
+/// How many bytes a clerk's code has.
 const CODE_BYTES: usize = 14;
+
+/// How many bytes the office's code has.
+const OFFICE_BYTES: usize = 19;
 
 /// Returns whether a byte is one of the letters of codes.
 fn is_letter(byte: u8) -> bool
@@ -44,6 +47,30 @@ fn is_made(code: &[u8]) -> bool
         && are_letters(&code[..4])
         && are_letters(&code[5..9])
         && are_letters(&code[10..])
+}
+
+/// Returns whether a code has sixteen letters, in groups of four with hyphens between them.
+fn is_made_for_office(code: &[u8]) -> bool
+    ensures { result ≡ is_made_for_office code.now }
+{
+    code.len() == OFFICE_BYTES
+        && code[4] == b'-'
+        && code[9] == b'-'
+        && code[14] == b'-'
+        && are_letters(&code[..4])
+        && are_letters(&code[5..9])
+        && are_letters(&code[10..14])
+        && are_letters(&code[15..])
+}
+
+/// Returns whether the office has such a code; or whether it has none, if none is made for it.
+fn is_made_at(office: bool, code: Option<&[u8]>) -> bool
+    ensures { result ≡ is_made_at office (option_map (λ c. c.now) code.entry) }
+{
+    match code {
+        Some(code) => office && is_made_for_office(code),
+        None => !office,
+    }
 }
 
 /// Returns whether the codes of some lines are all such codes.
@@ -72,17 +99,51 @@ fn are_of(all: &[CodeLine<'_>], clerks: ClerkRange) -> bool
     next == u64::from(clerks.last) + 1
 }
 
-/// Returns whether a text is a file of new codes for exactly these clerks. The only error is a failed allocation.
-fn is_made_for(alloc: Global, text: &[u8], clerks: ClerkRange) -> Result<bool, CodesError>
-    ensures ok { IfOk result (λ is. is ≡ is_file_for clerks (codes_in text.now)) }
+/// Returns whether a text is a file of new codes for exactly these clerks, and for the office or not. The only error is a failed
+/// allocation.
+fn is_made_for(
+    alloc: Global,
+    text: &[u8],
+    clerks: ClerkRange,
+    office: bool,
+) -> Result<bool, CodesError>
+    ensures ok { IfOk result (λ is. is ≡ is_file_for clerks office (file_in text.now)) }
     ensures err { IfErr result (λ why. why ≡ Memory) }
 {
     let lines = lines_of(alloc, text)?;
     match entries_of(alloc, lines.as_slice()) {
-        Ok(entries) => Ok(are_of(entries.as_slice(), clerks) && all_made(entries.as_slice())),
+        Ok(found) => Ok(
+            are_of(found.clerks.as_slice(), clerks)
+                && all_made(found.clerks.as_slice())
+                && is_made_at(office, found.office),
+        ),
         Err(CodesError::Fault(_)) => Ok(false),
         Err(CodesError::Memory) => Err(CodesError::Memory),
     }
+}
+
+/// Returns the text of a file of new codes for some clerks, and for the office or not.
+fn make_file<D: RandomSource>(
+    alloc: Global,
+    draws: &mut D,
+    clerks: ClerkRange,
+    office: bool,
+) -> Result<String, CodesError>
+    requires { D.failed draws.old < 2 ^ 64 - 1 }
+    ensures reads { IfOk result (λ text. is_file_for clerks office (file_in (string_bytes text)) ≡ true) }
+    ensures drawn { IfOk result (λ text. IsMadeByDraws clerks office (D.drawn draws.old) (D.drawn draws.new) (string_bytes text)) }
+    ensures ok { OnOk result (D.failed draws.new ≡ D.failed draws.old) }
+    ensures err { IfErr result (IsUnmadeByDraws clerks office (D.failed draws.old) (D.failed draws.new) (D.drawn draws.old) (D.drawn draws.new)) }
+{
+    let mut left = MOST_FILES;
+    while left > 0 {
+        left -= 1;
+        let text = draw_lines(alloc, draws, clerks, office)?;
+        if is_made_for(alloc, text.as_bytes(), clerks, office)? {
+            return Ok(text);
+        }
+    }
+    Err(CodesError::Fault(CodesFault::BadRandom))
 }
 
 /// Returns the text of a file of new codes for some clerks, one line each. Its letters are those that the last bytes draw. The
@@ -90,24 +151,33 @@ fn is_made_for(alloc: Global, text: &[u8], clerks: ClerkRange) -> Result<bool, C
 ///
 /// `NoRandom` comes only from the source, whose failures rose by one. `BadRandom` comes if 100 bytes for each letter draw too few
 /// letters, or if 100 texts are no files of codes. The only other error is that an allocation failed.
-pub fn make<D: Draws>(
+pub fn make<D: RandomSource>(
     alloc: Global,
     draws: &mut D,
     clerks: ClerkRange,
 ) -> Result<String, CodesError>
     requires { D.failed draws.old < 2 ^ 64 - 1 }
     ensures reads { IfOk result (λ text. IsMadeFor (clerks_of clerks) (string_bytes text)) }
+    ensures alone { IfOk result (λ text. office_in (string_bytes text) ≡ None) }
     ensures drawn { IfOk result (λ text. IsMadeOf clerks (D.drawn draws.old) (D.drawn draws.new) (string_bytes text)) }
     ensures ok { OnOk result (D.failed draws.new ≡ D.failed draws.old) }
     ensures err { IfErr result (IsUnmade clerks (D.failed draws.old) (D.failed draws.new) (D.drawn draws.old) (D.drawn draws.new)) }
 {
-    let mut left = MOST_FILES;
-    while left > 0 {
-        left -= 1;
-        let text = draw_lines(alloc, draws, clerks)?;
-        if is_made_for(alloc, text.as_bytes(), clerks)? {
-            return Ok(text);
-        }
-    }
-    Err(CodesError::Fault(CodesFault::BadRandom))
+    make_file(alloc, draws, clerks, false)
+}
+
+/// Returns the text of a file of new codes for some clerks, one line each, and for the office, whose line is the last one and whose
+/// code has sixteen letters. It is made as [`make`] makes one, with the same errors.
+pub fn make_with_office<D: RandomSource>(
+    alloc: Global,
+    draws: &mut D,
+    clerks: ClerkRange,
+) -> Result<String, CodesError>
+    requires { D.failed draws.old < 2 ^ 64 - 1 }
+    ensures reads { IfOk result (λ text. IsMadeWithOffice (clerks_of clerks) (string_bytes text)) }
+    ensures drawn { IfOk result (λ text. IsMadeByDraws clerks true (D.drawn draws.old) (D.drawn draws.new) (string_bytes text)) }
+    ensures ok { OnOk result (D.failed draws.new ≡ D.failed draws.old) }
+    ensures err { IfErr result (IsUnmadeByDraws clerks true (D.failed draws.old) (D.failed draws.new) (D.drawn draws.old) (D.drawn draws.new)) }
+{
+    make_file(alloc, draws, clerks, true)
 }

@@ -1,6 +1,6 @@
 //! The clerks for whom codes are made.
 
-ghost use Rattle.std.specs.Prelude.{◌≡◌, ◌≤◌, ◌+◌, ◌-◌, ◌^◌, length, option_map};
+ghost use Rattle.std.specs.Prelude.{◌≡◌, ◌≤◌, ◌+◌, ◌-◌, ◌^◌, IfSome, length, option_map};
 ghost use Rattle.std.specs.List.{prefix_len};
 ghost use Rattle.codes.specs.Files.{is_no_hyphen};
 ghost use Rattle.codes.specs.Making.{clerks_entry, clerks_in, clerks_of};
@@ -40,9 +40,10 @@ impl ClerkRange {
         (self.last as usize + 1).saturating_sub(self.first as usize)
     }
 
-    /// Returns the clerks that a text such as `1-40` names, or None if it names none.
+    /// Returns the clerks that a text such as `1-40` names, none of them above 999; or None if it names none.
     pub fn parse(text: &str) -> Option<ClerkRange>
-        ensures { option_map clerks_entry result ≡ clerks_in text.now }
+        ensures is { option_map clerks_entry result ≡ clerks_in text.now }
+        ensures bound { IfSome result (λ clerks. clerks.last ≤ 999) }
     {
         let text = text.as_bytes();
         let length = front_length(text);

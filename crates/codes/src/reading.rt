@@ -1,14 +1,17 @@
 //! The text of a file of codes, read line by line.
 
 ghost use Rattle.std.specs.Prelude.{◌≡◌, ◌≤◌, ◌⊎◌, ◌*◌, ◌+◌, ◌==◌, [], IfErr, IfOk, IfSome, List, Ok, Err, bytes_eq, length, map, option_and_then, option_map, ℕ};
-ghost use Rattle.std.specs.List.{list_all, list_any, prefix_len};
-ghost use Rattle.codes.specs.Codes.{holders_of};
-ghost use Rattle.codes.specs.Files.{CodeEntry, clerk_in, code_entry, codes_in, digit_in, entries_from, entry_behind, entry_in, holders_by, is_code, is_no_blank, is_strong, is_visible};
-ghost use Rattle.codes.specs.Files.{lines_from, weak_clerks, without_return};
+ghost use Rattle.std.specs.List.{count_by, list_all, list_any, prefix_len};
+ghost use Rattle.codes.specs.Codes.{AreApart, holders_of, office_of};
+ghost use Rattle.codes.specs.Files.{CodeEntry, FileEntry, clerk_in, code_entry, codes_in, digit_in, entry_behind, entry_in, file_entry, file_from, front_of, has_code, holders_by, is_code};
+ghost use Rattle.codes.specs.Files.{is_for_office, is_no_blank, is_no_hyphen, is_office_line, is_offices, is_strong, is_visible, lines_from, no_codes, office_behind, office_held, office_in};
+ghost use Rattle.codes.specs.Files.{rest_of, weak_clerks, with_line, without_return};
+ghost use Rattle.codes.specs.declared.fault.CodeFlaw.{CodeFlaw};
+ghost use Rattle.codes.specs.declared.fault.CodesFault.TheVariants.{Line};
 ghost use Rattle.codes.specs.declared.fault.CodesError.TheVariants as read_error;
 
 use crate::fault::{CodeFlaw, CodesError, CodesFault};
-use crate::holders::{Codes, credentials_by};
+use crate::holders::{Codes, OFFICE_USER_NAME, credentials_by, office_by};
 use std::alloc::{AllocError, Global};
 use std::mem;
 
@@ -21,11 +24,21 @@ const MOST_BYTES: usize = 64;
 /// The fewest bytes of a strong code, hyphens left out.
 const FEWEST_STRONG_BYTES: usize = 12;
 
+/// The fewest bytes of the office's code, hyphens left out.
+const FEWEST_OFFICE_BYTES: usize = 16;
+
 /// A line of a file of codes: a clerk and that clerk's code.
 #[derive(Clone, Copy)]
 pub struct CodeLine<'a> {
     pub clerk: u32,
     pub code: &'a [u8],
+}
+
+/// What the lines of a file of codes have: the clerks' lines, and the office's code, if there is a line of the office.
+#[derive(Drop)]
+pub struct FileLines<'a> {
+    pub clerks: Vec<CodeLine<'a>>,
+    pub office: Option<&'a [u8]>,
 }
 
 /// Returns the value of a digit.
@@ -45,6 +58,7 @@ fn with_digit(value: Option<u32>, byte: u8) -> Option<u32>
     requires { IfSome value (λ v. v ≤ 99) }
     ensures is { result ≡ option_and_then (λ v. option_map (λ d. v * 10 + d) (digit_in byte)) value }
     ensures bound { IfSome value (λ v. v ≤ 9) → IfSome result (λ v. v ≤ 99) }
+    ensures top { IfSome result (λ v. v ≤ 999) }
 {
     match (value, digit_in(byte)) {
         (Some(value), Some(digit)) => Some(value * 10 + digit),
@@ -54,7 +68,8 @@ fn with_digit(value: Option<u32>, byte: u8) -> Option<u32>
 
 /// Parses a clerk's number: 1 to 3 digits, the first not 0.
 pub(crate) fn clerk_in(text: &[u8]) -> Option<u32>
-    ensures { result ≡ clerk_in text.now }
+    ensures is { result ≡ clerk_in text.now }
+    ensures bound { IfSome result (λ clerk. clerk ≤ 999) }
 {
     match text {
         [b'0', ..] => None,
@@ -86,11 +101,25 @@ fn is_code(text: &[u8]) -> bool
     text.len() >= FEWEST_BYTES && text.len() <= MOST_BYTES && all_visible(text)
 }
 
+/// Returns how many bytes of a code aren't hyphens.
+fn count_other_bytes(code: &[u8]) -> usize
+    ensures { result ≡ count_by is_no_hyphen code.now }
+{
+    code.iter().filter(|byte| **byte != b'-').count()
+}
+
 /// Returns whether a code is strong: it has at least twelve bytes other than hyphens.
 fn is_strong(code: &[u8]) -> bool
     ensures { result ≡ is_strong code.now }
 {
-    code.iter().filter(|byte| **byte != b'-').count() >= FEWEST_STRONG_BYTES
+    count_other_bytes(code) >= FEWEST_STRONG_BYTES
+}
+
+/// Returns whether a code is long enough for the office: it has at least sixteen bytes other than hyphens.
+fn is_for_office(code: &[u8]) -> bool
+    ensures { result ≡ is_for_office code.now }
+{
+    count_other_bytes(code) >= FEWEST_OFFICE_BYTES
 }
 
 /// Returns the clerks whose codes aren't strong.
@@ -121,16 +150,31 @@ fn front_length(line: &[u8]) -> usize
     length
 }
 
-/// Parses a line: a clerk's number, a blank, and a code.
+/// Splits a line at its first blank, which is in neither part.
+fn parts_of(line: &[u8]) -> (&[u8], &[u8])
+    ensures front { result.0.now ≡ front_of line.now }
+    ensures rest { result.1.now ≡ rest_of line.now }
+{
+    let length = front_length(line);
+    (&line[..length], &line[line.len().min(length + 1)..])
+}
+
+/// Returns whether a line is the office's.
+fn is_office_line(line: &[u8]) -> bool
+    ensures { result ≡ is_office_line line.now }
+{
+    parts_of(line).0 == OFFICE_USER_NAME.as_bytes()
+}
+
+/// Parses a clerk's line: a clerk's number, a blank, and a code.
 fn entry_in(line: &[u8]) -> Result<CodeLine<'_>, CodeFlaw>
     ensures ok { IfOk result (λ found. entry_in line.now ≡ Ok (code_entry found)) }
     ensures err { IfErr result (λ flaw. entry_in line.now ≡ Err flaw) }
 {
-    let length = front_length(line);
-    let Some(clerk) = clerk_in(&line[..length]) else {
+    let (front, code) = parts_of(line);
+    let Some(clerk) = clerk_in(front) else {
         return Err(CodeFlaw::NoEntry);
     };
-    let code = &line[line.len().min(length + 1)..];
     if is_code(code) {
         Ok(CodeLine { clerk, code })
     } else {
@@ -161,8 +205,8 @@ fn has_clerk(before: &[CodeLine<'_>], clerk: u32) -> bool
     false
 }
 
-/// Returns whether one of these lines has this code.
-fn has_code(before: &[CodeLine<'_>], code: &[u8]) -> bool
+/// Returns whether one of these clerks' lines has this code.
+fn clerk_has_code(before: &[CodeLine<'_>], code: &[u8]) -> bool
     ensures { result ≡ list_any (λ (other : CodeEntry). bytes_eq other.code code.now) (map code_entry before.now) }
 {
     for other in before {
@@ -173,19 +217,86 @@ fn has_code(before: &[CodeLine<'_>], code: &[u8]) -> bool
     false
 }
 
-/// Parses a line after others, of which none may have its clerk or its code.
-fn entry_behind<'a>(before: &[CodeLine<'_>], line: &'a [u8]) -> Result<CodeLine<'a>, CodeFlaw>
-    ensures ok { IfOk result (λ found. entry_behind (map code_entry before.now) (entry_in line.now) ≡ Ok (code_entry found)) }
-    ensures err { IfErr result (λ flaw. entry_behind (map code_entry before.now) (entry_in line.now) ≡ Err flaw) }
+/// Returns whether the office has this code.
+fn is_offices(office: Option<&[u8]>, code: &[u8]) -> bool
+    ensures { result ≡ is_offices (option_map (λ c. c.now) office.entry) code.now }
+{
+    match office {
+        Some(own) => own == code,
+        None => false,
+    }
+}
+
+/// Returns whether a clerk or the office has this code.
+fn has_code(before: &FileLines<'_>, code: &[u8]) -> bool
+    ensures { result ≡ has_code (file_entry before.now) code.now }
+{
+    clerk_has_code(before.clerks.as_slice(), code) || is_offices(before.office, code)
+}
+
+/// Parses a clerk's line after others, of which none may have its clerk or its code.
+fn entry_behind<'a>(before: &FileLines<'_>, line: &'a [u8]) -> Result<CodeLine<'a>, CodeFlaw>
+    ensures ok { IfOk result (λ found. entry_behind (file_entry before.now) (entry_in line.now) ≡ Ok (code_entry found)) }
+    ensures err { IfErr result (λ flaw. entry_behind (file_entry before.now) (entry_in line.now) ≡ Err flaw) }
 {
     let found = entry_in(line)?;
-    if has_clerk(before, found.clerk) {
+    if has_clerk(before.clerks.as_slice(), found.clerk) {
         return Err(CodeFlaw::ClerkTwice);
     }
     if has_code(before, found.code) {
         return Err(CodeFlaw::CodeTwice);
     }
     Ok(found)
+}
+
+/// Parses the office's line after others, of which none may be the office's or have its code.
+fn office_behind<'a>(before: &FileLines<'_>, line: &'a [u8]) -> Result<&'a [u8], CodeFlaw>
+    ensures ok { IfOk result (λ code. office_behind (file_entry before.now) (rest_of line.now) ≡ Ok code.now) }
+    ensures err { IfErr result (λ flaw. office_behind (file_entry before.now) (rest_of line.now) ≡ Err flaw) }
+{
+    let (_, code) = parts_of(line);
+    if !is_code(code) {
+        return Err(CodeFlaw::BadCode);
+    }
+    if !is_for_office(code) {
+        return Err(CodeFlaw::ShortOffice);
+    }
+    if before.office.is_some() {
+        return Err(CodeFlaw::OfficeTwice);
+    }
+    if has_code(before, code) {
+        return Err(CodeFlaw::CodeTwice);
+    }
+    Ok(code)
+}
+
+impl<'a> FileLines<'a> {
+    /// Parses one line more. The errors are that an allocation failed, and what is wrong with the line, whose number is given.
+    fn add(&mut self, number: usize, line: &'a [u8]) -> Result<(), CodesError>
+        ensures ok { IfOk result (λ _. with_line (file_entry self.old) line.now ≡ Ok (file_entry self.new)) }
+        ensures err { IfErr result (λ why. (why ≡ read_error.Memory)
+            ⊎ ((flaw : CodeFlaw) × (why ≡ read_error.Fault (Line number flaw)) × (with_line (file_entry self.old) line.now ≡ Err flaw))) }
+    {
+        if is_office_line(line) {
+            match office_behind(self, line) {
+                Ok(code) => {
+                    self.office = Some(code);
+                    Ok(())
+                }
+                Err(flaw) => Err(CodesError::Fault(CodesFault::Line(number, flaw))),
+            }
+        } else {
+            match entry_behind(self, line) {
+                Ok(entry) => {
+                    if self.clerks.push(entry).is_err() {
+                        return Err(CodesError::Memory);
+                    }
+                    Ok(())
+                }
+                Err(flaw) => Err(CodesError::Fault(CodesFault::Line(number, flaw))),
+            }
+        }
+    }
 }
 
 /// Splits a text into lines.
@@ -206,22 +317,19 @@ pub(crate) fn lines_of(alloc: Global, text: &[u8]) -> Result<Vec<Vec<u8>>, Alloc
 }
 
 /// Parses all lines. The errors are that an allocation failed, and the first line that is wrong.
-pub(crate) fn entries_of(alloc: Global, lines: &[Vec<u8>]) -> Result<Vec<CodeLine<'_>>, CodesError>
-    ensures ok { IfOk result (λ found. entries_from 1 [] (map (λ line. line.items) lines.now) ≡ Ok (map code_entry found.items)) }
-    ensures err { IfErr result (λ why. (why ≡ read_error.Memory) ⊎ ((fault : CodesFault) × (why ≡ read_error.Fault fault) × (entries_from 1 [] (map (λ line. line.items) lines.now) ≡ Err fault))) }
+pub(crate) fn entries_of(alloc: Global, lines: &[Vec<u8>]) -> Result<FileLines<'_>, CodesError>
+    ensures ok { IfOk result (λ found. file_from 1 no_codes (map (λ line. line.items) lines.now) ≡ Ok (file_entry found)) }
+    ensures err { IfErr result (λ why. (why ≡ read_error.Memory)
+        ⊎ ((fault : CodesFault) × (why ≡ read_error.Fault fault) × (file_from 1 no_codes (map (λ line. line.items) lines.now) ≡ Err fault))) }
 {
-    let mut found: Vec<CodeLine<'_>> = Vec::new(alloc);
+    let mut found = FileLines {
+        clerks: Vec::new(alloc),
+        office: None,
+    };
     for (index, line) in lines.iter().enumerate() {
         let line = without_return(line);
         if !line.is_empty() {
-            match entry_behind(found.as_slice(), line) {
-                Ok(entry) => {
-                    if found.push(entry).is_err() {
-                        return Err(CodesError::Memory);
-                    }
-                }
-                Err(flaw) => return Err(CodesError::Fault(CodesFault::Line(index + 1, flaw))),
-            }
+            found.add(index + 1, line)?;
         }
     }
     Ok(found)
@@ -231,13 +339,16 @@ impl Codes {
     /// Reads the codes of a file's text. The errors are that an allocation failed, and the first line that is wrong.
     pub fn read(alloc: Global, text: &[u8]) -> Result<Codes, CodesError>
         ensures ok { IfOk result (λ own. (entries : List CodeEntry) × (codes_in text.now ≡ Ok entries) × (holders_of own ≡ holders_by entries) × (own.weak.items ≡ weak_clerks entries)) }
+        ensures office { IfOk result (λ own. office_of own ≡ office_held (office_in text.now)) }
+        ensures apart { IfOk result (λ own. AreApart (holders_of own) (office_of own)) }
         ensures err { IfErr result (λ why. (why ≡ read_error.Memory) ⊎ ((fault : CodesFault) × (why ≡ read_error.Fault fault) × (codes_in text.now ≡ Err fault))) }
     {
         let lines = lines_of(alloc, text)?;
-        let entries = entries_of(alloc, lines.as_slice())?;
+        let found = entries_of(alloc, lines.as_slice())?;
         Ok(Codes {
-            all: credentials_by(alloc, entries.as_slice())?,
-            weak: weak_clerks(alloc, entries.as_slice())?,
+            all: credentials_by(alloc, found.clerks.as_slice())?,
+            weak: weak_clerks(alloc, found.clerks.as_slice())?,
+            office: office_by(alloc, found.office)?,
         })
     }
 }

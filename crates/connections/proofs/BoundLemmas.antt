@@ -9,7 +9,7 @@ use Rattle.connections.specs.Tables.{NetworkEntry, answer_bytes, bytes_held, byt
 use Rattle.connections.specs.declared.client.PendingResponse.{PendingResponse}
 use Rattle.connections.specs.declared.client.Client.{Client}
 use Rattle.connections.specs.declared.client.Accepted.{Accepted}
-use Rattle.connections.specs.declared.table.ConnectionTable.{ConnectionTable}
+use Rattle.connections.specs.declared.connection_table.ConnectionTable.{ConnectionTable}
 use Rattle.connections.specs.declared.removed.Removed.{Removed}
 use Rattle.connections.specs.Closing.{AreClosedByRule, IsWithin}
 use Rattle.connections.proofs.ClosingLemmas.{Outs}

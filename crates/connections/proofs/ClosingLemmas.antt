@@ -14,7 +14,7 @@ use Rattle.connections.specs.declared.client.Listener.TheVariants.{Clients, Orde
 use Rattle.connections.specs.declared.removed.Removed.{Removed}
 use Rattle.connections.specs.declared.removed.CloseReason.{CloseReason}
 use Rattle.connections.specs.declared.removed.CloseReason.TheVariants.{Closing}
-use Rattle.connections.specs.declared.table.ConnectionTable.{ConnectionTable}
+use Rattle.connections.specs.declared.connection_table.ConnectionTable.{ConnectionTable}
 use Rattle.connections.specs.Closing.{MayBeClosed, AreFull, AreClosedByRule, IsClosed, IsClosedAt, IsClosedByRule, IsClosedForBytes, IsClosedForRoom}
 use Rattle.connections.specs.Closing.{IsOut, ClosesOne, OneIsClosed, byte_limit_rule, eviction_rule, timeout_rule, timeout, with_all_removed}
 use Rattle.connections.specs.declared.closing.Rule.{Rule}

@@ -17,7 +17,7 @@ use Rattle.connections.specs.declared.client.Accepted.{Accepted}
 use Rattle.connections.specs.declared.network.AcceptOutcome.TheVariants.{Full, One}
 use Rattle.connections.specs.declared.removed.Removed.{Removed}
 use Rattle.connections.specs.declared.removed.CloseReason.{CloseReason}
-use Rattle.connections.specs.declared.table.ConnectionTable.{ConnectionTable}
+use Rattle.connections.specs.declared.connection_table.ConnectionTable.{ConnectionTable}
 use Rattle.connections.proofs.ClosingLemmas.{folds_then, more_then, none_more}
 
 -- what happened at doors, where one was named, the clock may have shown a moment at the gate, and so it went on

@@ -79,7 +79,7 @@ pub record IsNew {L : Type 0} (accepted : Accepted L) (number now : ℕ) (client
   pub since : client.since ≡ now
   pub unheard : client.got.items ≡ []
   pub unanswered : client.answer ≡ None
-  pub all_read : client.unread ≡ 0
+  pub all_read : client.unread_body_bytes ≡ 0
 
 -- it is the same connection, whatever was read of its stream
 abbrev pub IsSameButReceived : {L : Type 0} → Client L → Client L → Type 0

@@ -9,7 +9,7 @@ use Rattle.connections.specs.declared.closing.Rule.{Rule}
 use Rattle.connections.specs.declared.removed.Removed.{Removed}
 use Rattle.connections.specs.declared.removed.CloseReason.{CloseReason}
 use Rattle.connections.specs.declared.removed.CloseReason.TheVariants.{Done, Broken, Unreadable, TimedOut, Evicted, Closing}
-use Rattle.connections.specs.declared.table.ConnectionTable.{ConnectionTable}
+use Rattle.connections.specs.declared.connection_table.ConnectionTable.{ConnectionTable}
 
 -- ---- when a connection may be closed
 

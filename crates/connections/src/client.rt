@@ -48,7 +48,7 @@ pub struct Client<L> {
     pub since: u64,
     pub got: Vec<u8>,
     pub answer: Option<PendingResponse>,
-    pub unread: usize,
+    pub unread_body_bytes: usize,
 }
 
 /// How far a request was read.
@@ -157,19 +157,19 @@ pub fn deliver<L: Stream>(stream: &mut L, answer: &mut PendingResponse) -> Resul
     Ok(true)
 }
 
-/// Reads and drops up to `unread` bytes of a stream, as far as they have arrived, and counts them down. Returns whether no more
+/// Reads and drops up to `unread_body_bytes` bytes of a stream, as far as they have arrived, and counts them down. Returns whether no more
 /// of them will come.
-fn drop_bytes<L: Stream>(stream: &mut L, unread: &mut usize) -> Result<bool, Broken>
+fn drop_bytes<L: Stream>(stream: &mut L, unread_body_bytes: &mut usize) -> Result<bool, Broken>
     ensures untold { L.taken stream.new ≡ L.taken stream.old }
-    ensures less { unread.new ≤ unread.old }
-    ensures all { result ≡ Ok true → (unread.new ≡ 0) ⊎ IsAtEnd (L.held stream.new) }
+    ensures less { unread_body_bytes.new ≤ unread_body_bytes.old }
+    ensures all { result ≡ Ok true → (unread_body_bytes.new ≡ 0) ⊎ IsAtEnd (L.held stream.new) }
     ensures failed { L.failed stream.new ≡ failed_after result (L.failed stream.old) }
     ensures idle { L.idle stream.new ≡ idle_after_put result (L.idle stream.old) }
 {
     let mut room = [0; CHUNK];
-    while *unread > 0 {
+    while *unread_body_bytes > 0 {
         match stream.fetch(&mut room)? {
-            Received::Bytes(count) => *unread = unread.saturating_sub(count),
+            Received::Bytes(count) => *unread_body_bytes = unread_body_bytes.saturating_sub(count),
             Received::Nothing => return Ok(false),
             Received::End => return Ok(true),
         }
@@ -192,7 +192,7 @@ impl<L: Stream> Client<L> {
             since,
             got: Vec::new(alloc),
             answer: None,
-            unread: 0,
+            unread_body_bytes: 0,
         }
     }
 
@@ -233,11 +233,11 @@ impl<L: Stream> Client<L> {
         requires { IsSome self.old.answer }
         ensures is { (start : L) → IsOf (stream_of L.held L.taken L.failed) start self.old → IsOf (stream_of L.held L.taken L.failed) start self.new }
         ensures same { IsSameButReceived self.old self.new × (self.new.answer ≡ self.old.answer) × (self.new.got ≡ self.old.got) }
-        ensures less { self.new.unread ≤ self.old.unread }
-        ensures all { result ≡ Ok true → (self.new.unread ≡ 0) ⊎ IsAtEnd (L.held self.new.stream) }
+        ensures less { self.new.unread_body_bytes ≤ self.old.unread_body_bytes }
+        ensures all { result ≡ Ok true → (self.new.unread_body_bytes ≡ 0) ⊎ IsAtEnd (L.held self.new.stream) }
         ensures failed { L.failed self.new.stream ≡ failed_after result (L.failed self.old.stream) }
         ensures idle { L.idle self.new.stream ≡ idle_after_put result (L.idle self.old.stream) }
     {
-        drop_bytes(&mut self.stream, &mut self.unread)
+        drop_bytes(&mut self.stream, &mut self.unread_body_bytes)
     }
 }

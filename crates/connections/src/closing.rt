@@ -7,9 +7,11 @@ ghost use Rattle.connections.specs.Tables.{bytes_held, is_among, most_bytes, mos
 ghost use Rattle.connections.specs.Closing.{AreClosedByRule, IsClosed, IsClosedAt, IsFull, IsClosedByRule, IsClosedForBytes, IsClosedForRoom};
 ghost use Rattle.connections.specs.Closing.{IsWithin, ClosesOne, byte_limit_rule, eviction_rule, grace, timeout_rule, timeout};
 
+use crate::connection_table::{
+    ConnectionTable, MAX_BUFFERED_BYTES, MAX_CLIENTS, bytes_held, longest_waiting,
+};
 use crate::network::Network;
 use crate::removed::CloseReason;
-use crate::table::{ConnectionTable, MAX_BYTES, MAX_CLIENTS, bytes_held, longest_waiting};
 
 /// How long a connection may take to send its request, and as long again to accept its response, in milliseconds.
 pub const TIMEOUT: u64 = 30_000;
@@ -130,7 +132,7 @@ pub fn keep_within<D: Network>(network: &mut D, table: &mut ConnectionTable<D::S
     ensures within { length table.old.clients.items ≤ most_clients → bytes_held table.new.clients.items ≤ most_bytes }
 {
     for turn in 0..MAX_CLIENTS {
-        if bytes_held(table.clients.as_slice()) <= MAX_BYTES {
+        if bytes_held(table.clients.as_slice()) <= MAX_BUFFERED_BYTES {
             return;
         }
         let _ = close_one_for_bytes(network, table);
@@ -142,7 +144,7 @@ fn is_full<L>(table: &ConnectionTable<L>) -> bool
     ensures full { result ≡ true → IsFull table.now }
     ensures spare { result ≡ false → length table.now.clients.items < most_clients }
 {
-    table.clients.len() >= MAX_CLIENTS || bytes_held(table.clients.as_slice()) >= MAX_BYTES
+    table.clients.len() >= MAX_CLIENTS || bytes_held(table.clients.as_slice()) >= MAX_BUFFERED_BYTES
 }
 
 /// Closes a client for the next connection, because the system has no room for both. Returns whether one was closed.

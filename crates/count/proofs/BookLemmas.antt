@@ -1,4 +1,4 @@
--- The laws of a count hold of each book, and a book that advances stays one.
+-- The laws of a count hold for every book, and a book that advances remains one.
 use Rattle.std.proofs.Common.{◌≡◌, ℕ, ◌<◌, List, [], ◌∷◌, length, reverse, Option, arith, subst, sym, Some}
 use Rattle.std.proofs.lemmas.List.{length-reverse}
 use Rattle.paper.proofs.ColumnSets.{length_columns}
@@ -7,7 +7,7 @@ use Rattle.count.specs.Law.Due.{drawn, due_after}
 use Rattle.count.specs.Law.Right.{IsNext, IsRightByItself, candidate_of}
 use Rattle.count.specs.Advance.{Adds, Advances, IsDue}
 use Rattle.count.specs.Law.Laws.{IsConserved, IsShort, FillsSeats, OnlyCandidatesHaveVotes, IsAmongSeveral}
-use Rattle.count.specs.Inside.Keeping.{AreHeld, IsBook}
+use Rattle.count.specs.Inside.BookInvariants.{AreHeld, IsBook}
 use Rattle.count.specs.declared.stages.Action.{Action}
 use Rattle.count.specs.declared.stages.Stage.{Stage}
 use Rattle.count.specs.declared.stages.Due.TheVariants.{Finished}
@@ -22,13 +22,13 @@ use Rattle.count.proofs.Law.OwnLotLemmas.{drawn-own}
 by_itself : History → Stage → Option ℕ
 by_itself before s = candidate_of s.action
 
--- the stages of a book can be numbered in a byte
+-- the stages of a book can be numbered in one byte
 pub book-few : (contest : Contest) (stages : List Stage) (holdings : List Holding) → IsBook contest (reverse stages) holdings → length stages < 255
 unfolding by_itself
 book-few contest stages holdings book =
     omega (arith, stages-bound contest by_itself (reverse stages) book.fair book.right, length-reverse stages, length_columns contest.candidates book.fair.candidate_set)
 
--- the laws of a count hold of a book
+-- the laws of a count hold for a book
 pub book-conserved : (contest : Contest) (history : History) (holdings : List Holding) → IsBook contest history holdings → IsConserved contest history
 unfolding by_itself
 book-conserved contest [] holdings book = tt
@@ -51,7 +51,7 @@ pub book-filled : (contest : Contest) (history : History) (holdings : List Holdi
 unfolding by_itself
 book-filled contest history holdings book h = finished-elected contest by_itself history book.fair book.right h
 
--- a stage of the action that a lot drew comes next, for that lot and for the one that it names itself
+-- a stage of the action drawn by a lot is next for that lot, and for the one that the action itself names
 adds-next : (contest : Contest) (before : History) (lot : Option ℕ) (action : Action) (after : History) → drawn contest before lot (due_after contest before) ≡ Some action →
     (adds : Adds contest before action after) → IsNext contest before lot adds.stage
 adds-next contest before lot action after was adds =
@@ -61,7 +61,7 @@ pub adds-advances : (contest : Contest) (before : History) (lot : Option ℕ) (a
     Adds contest before action after → Advances contest before lot after
 adds-advances contest before lot action after was adds = record { stage = adds.stage; one_more = adds.one_more; next = adds-next contest before lot action after was adds }
 
--- and the history stays right for the lots that its own actions name
+-- and the history remains right for the lots that its own actions name
 pub adds-right : (contest : Contest) (before : History) (lot : Option ℕ) (action : Action) (after : History) → IsRightByItself contest before →
     drawn contest before lot (due_after contest before) ≡ Some action →
     Adds contest before action after → IsRightByItself contest after

@@ -1,4 +1,4 @@
--- The laws of a count hold of each book by bundles, and one that advances stays one.
+-- The laws of a count hold for every book by bundles, and one that advances remains one.
 use Rattle.std.proofs.Common.{◌≡◌, ℕ, suc, zero, ◌+◌, ◌<◌, ◌≤◌, List, [], ◌∷◌, ◌++◌, length, map, replicate, reverse, Option, sym, ap, ◌∙◌, arith, subst, Some}
 use Rattle.std.specs.List.{AllByRecursion}
 use Rattle.std.proofs.lemmas.List.{length-reverse}
@@ -14,9 +14,9 @@ use Rattle.count.specs.Law.Due.{drawn, due_after, lot_for}
 use Rattle.count.specs.Law.Figures.{votes_after, non_transferable_after, lost_after}
 use Rattle.count.specs.Law.Laws.{IsConserved, IsShort, FillsSeats, OnlyCandidatesHaveVotes, IsAmongSeveral}
 use Rattle.count.specs.Law.Right.{IsRightBy, IsRightByItself, IsRightForSome, candidate_of}
-use Rattle.count.specs.Inside.Keeping.{with_newly, IsAdded}
+use Rattle.count.specs.Inside.BookInvariants.{with_newly_elected, IsAdded}
 use Rattle.count.specs.Inside.Holdings.{newest_lost}
-use Rattle.count.specs.Kept.{places_after}
+use Rattle.count.specs.StoredCounts.{places_after}
 use Rattle.count.specs.Inside.Placing.{contest_on, IsBundled, IsFigured, IsSound}
 use Rattle.votes.specs.Units.{max_units}
 use Rattle.count.specs.declared.placed.Placed.{Placed}
@@ -28,7 +28,7 @@ use Rattle.count.specs.declared.terms.Terms.{Terms}
 use Rattle.count.proofs.BookLemmas.{adds-advances, adds-right, drawn-due}
 use Rattle.count.proofs.BundleLaws.{same-bundles}
 use Rattle.count.proofs.PlaceLemmas.{sound-places}
-use Rattle.count.proofs.WeightLemmas.{lost-few}
+use Rattle.count.proofs.BundleFigureLemmas.{lost-few}
 use Rattle.count.proofs.Law.ActionLemmas.{stages-bound}
 use Rattle.count.proofs.Law.ConservedLemmas.{all-conserved}
 use Rattle.count.proofs.Law.FinishLemmas.{finished-elected, lots-several}
@@ -51,13 +51,13 @@ rankings_of (b ∷ bs) each = rankings_more b.1 b.0 (papers_of bs) each.0.2 (ran
 rankings-book : (contest : Contest) (history : History) (bundles : List Bundle) (places : List Placed) → IsBundled contest history bundles places → AreRankings contest.papers
 rankings-book contest history bundles places book = subst AreRankings (sym book.papers_are) (rankings_of bundles book.bundles_are.each)
 
--- the stages of a book can be numbered in a byte
+-- the stages of a book can be numbered in one byte
 pub bundled-few : (contest : Contest) (stages : List Stage) (bundles : List Bundle) (places : List Placed) → IsBundled contest (reverse stages) bundles places → length stages < 255
 unfolding by_itself
 bundled-few contest stages bundles places book =
     omega (arith, stages-bound contest by_itself (reverse stages) book.fair book.right, length-reverse stages, length_columns contest.candidates book.fair.candidate_set)
 
--- the laws of a count hold of a book
+-- the laws of a count hold for a book
 pub bundled-conserved : (contest : Contest) (history : History) (bundles : List Bundle) (places : List Placed) → IsBundled contest history bundles places → IsConserved contest history
 unfolding by_itself
 bundled-conserved contest history bundles places book = all-conserved contest by_itself history book.fair book.right (rankings-book contest history bundles places book)
@@ -79,13 +79,13 @@ pub bundled-filled : (contest : Contest) (history : History) (bundles : List Bun
 unfolding by_itself
 bundled-filled contest history bundles places book h = finished-elected contest by_itself history book.fair book.right h
 
--- a stage with its figures, to which the newly elected are added, is what the law tells of its action
+-- a stage with its figures and its newly elected is what the law states for its action
 pub figured-adds : (terms : Terms) (bundles : List Bundle) (old new : History) (action : Action) (bare : Stage) → IsFigured (contest_on terms bundles) old action bare → IsAdded terms old bare new →
     Adds (contest_on terms bundles) old action new
 figured-adds terms bundles old new action bare figured is_added =
     let contest : Contest = contest_on terms bundles in
     record {
-      stage = with_newly bare is_added.newly;
+      stage = with_newly_elected bare is_added.newly;
       one_more = is_added.one_more;
       of_action = figured.of_action;
       tells = record {
@@ -96,14 +96,14 @@ figured-adds terms bundles old new action bare figured is_added =
       };
     }
 
--- the places that the action gives are those after its stage
+-- the places after the action are those after its stage
 pub places-adds : (contest : Contest) (old new : History) (action : Action) (bundles : List Bundle) → Adds contest old action new →
     places_after contest (begun action [] ∷ old) bundles ≡ places_after contest new bundles
 places-adds contest old new action bundles adds =
     ap (λ (a : Action). places_after contest (begun a [] ∷ old) bundles) (sym adds.of_action)
     ∙ ap (λ (h : History). places_after contest h bundles) (sym adds.one_more)
 
--- a book that advances stays one
+-- a book that advances remains one
 pub adds-bundled : (contest : Contest) (before : History) (lot : Option ℕ) (action : Action) (after : History) (bundles : List Bundle) (old new : List Placed) →
     IsBundled contest before bundles old → drawn contest before lot (due_after contest before) ≡ Some action →
     Adds contest before action after → new ≡ places_after contest after bundles → IsBundled contest after bundles new
@@ -135,7 +135,7 @@ pub ruleset book_laws = (bundled-conserved, bundled-others, bundled-short)
 
 pub ruleset book_facts = (bundled-filled, adds-advances)
 
--- a lot that is due is among several, over stages that are lent
+-- a lot that is due is among several, on borrowed stages
 pub due-several : (contest : Contest) (lent stages : List Stage) (bundles : List Bundle) (places : List Placed) (due : Due) → lent ≡ stages → due ≡ due_after contest (reverse lent) →
     IsBundled contest (reverse stages) bundles places → IsAmongSeveral due
 due-several contest lent stages bundles places due same is book =

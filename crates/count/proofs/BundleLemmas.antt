@@ -1,4 +1,4 @@
--- On bundles: how a tree's change adds papers, and what papers bundles stand for.
+-- Bundles: how a change of the tree adds papers, and which papers bundles represent.
 use Rattle.std.proofs.Common.{◌≡◌, ℕ, ◌+◌, ◌≤◌, Bool, true, false, cond, List, [], ◌∷◌, ◌++◌, length, replicate, Option, Some, unwrap_or, refl, sym, ap, ◌∙◌, subst, append_assoc, length-append, arith}
 use Rattle.std.specs.List.{AllByRecursion}
 use Rattle.std.specs.List.Sorted.{IsStrictlySortedBy, IsPermutation}
@@ -16,11 +16,11 @@ use Rattle.std.proofs.lemmas.Map.Keys.{sorted_tail}
 use Rattle.std.proofs.lemmas.Map.Lookups.{exact_bytes}
 use Rattle.count.specs.Bundles.{Bundle, list_cmp, papers_of, with_papers, IsBundle, AreBundles}
 
--- how many papers have a list
+-- the number of papers with a list
 abbrev pub number_of : List ℕ → List Bundle → ℕ
 number_of list bs = unwrap_or (lookup (is_at (list_cmp list)) bs) 0
 
--- the number of one list's papers is no more than all papers
+-- the number of papers with one list is at most that of all papers
 number_at : (b : Bundle) (bs : List Bundle) (found : Option ℕ) (here : Bool) → unwrap_or found 0 ≤ length (papers_of bs) →
     unwrap_or (cond here (Some b.1) found) 0 ≤ length (papers_of (b ∷ bs))
 number_at b bs found true behind = omega (arith, length-append (replicate b.1 b.0) (papers_of bs), length-replicate b.1 b.0)
@@ -30,7 +30,7 @@ pub number-le-papers : (list : List ℕ) (bs : List Bundle) → number_of list b
 number-le-papers list [] = omega arith
 number-le-papers list (b ∷ bs) = number_at b bs (lookup (is_at (list_cmp list)) bs) (is_at (list_cmp list) b.0) (number-le-papers list bs)
 
--- a list's number that rises by n, or n put at its place, is n papers more of it
+-- increasing a list's number by n, or inserting n in its place, adds n papers with the list
 inserted_at : (list : List ℕ) (n : ℕ) (b : Bundle) (bs : List Bundle) (o : Ordering) → list_cmp list b.0 ≡ o → IsStrictlySortedBy list_cmp (keys_of (b ∷ bs)) →
     insert_entry list_cmp bs list (number_of list bs + n) ≡ with_papers bs list n →
     match_ordering o ((list, number_of list (b ∷ bs) + n) ∷ b ∷ bs) ((b.0, number_of list (b ∷ bs) + n) ∷ bs) (b ∷ insert_entry list_cmp bs list (number_of list (b ∷ bs) + n))
@@ -50,7 +50,7 @@ inserted-with_papers list n [] rise = let same : 0 + n ≡ n = omega arith in ap
 inserted-with_papers list n (b ∷ bs) rise =
     inserted_at list n b bs (list_cmp list b.0) refl rise (inserted-with_papers list n bs (sorted_tail list_cmp b.0 (keys_of bs) rise))
 
--- bundles stay bundles with a bundle more
+-- bundles remain bundles when a bundle is added
 each_at : (list : List ℕ) (n : ℕ) (b : Bundle) (bs : List Bundle) (o : Ordering) → IsBundle (list, n) → AllByRecursion IsBundle (b ∷ bs) →
     AllByRecursion IsBundle (with_papers bs list n) →
     AllByRecursion IsBundle (match_ordering o ((list, n) ∷ b ∷ bs) ((b.0, b.1 + n) ∷ bs) (b ∷ with_papers bs list n))
@@ -62,7 +62,7 @@ pub each-with_papers : (list : List ℕ) (n : ℕ) (bs : List Bundle) → IsBund
 each-with_papers list n [] new all = (new, tt)
 each-with_papers list n (b ∷ bs) new all = each_at list n b bs (list_cmp list b.0) new all (each-with_papers list n bs new all.1)
 
--- lists stay in their order with a list more
+-- lists remain in order when a list is added
 above_at : (x list : List ℕ) (n : ℕ) (b : Bundle) (bs : List Bundle) (o : Ordering) → list_cmp x list ≡ Less → AllByRecursion (λ y. list_cmp x y ≡ Less) (keys_of (b ∷ bs)) →
     AllByRecursion (λ y. list_cmp x y ≡ Less) (keys_of (with_papers bs list n)) →
     AllByRecursion (λ y. list_cmp x y ≡ Less) (keys_of (match_ordering o ((list, n) ∷ b ∷ bs) ((b.0, b.1 + n) ∷ bs) (b ∷ with_papers bs list n)))
@@ -75,7 +75,7 @@ above-with_papers : (x list : List ℕ) (n : ℕ) (bs : List Bundle) → list_cm
 above-with_papers x list n [] new all = (new, tt)
 above-with_papers x list n (b ∷ bs) new all = above_at x list n b bs (list_cmp list b.0) new all (above-with_papers x list n bs new all.1)
 
--- what is below a list is below those above it
+-- a list below another is below those above that
 above_both : (x y : List ℕ) (zs : List (List ℕ)) → list_cmp x y ≡ Less → AllByRecursion (λ z. list_cmp y z ≡ Less) zs → AllByRecursion (λ z. list_cmp x z ≡ Less) zs
 above_both x y [] below all = tt
 above_both x y (z ∷ zs) below all = (nat_list_cmp_total.trans x y z below all.0, above_both x y zs below all.1)
@@ -93,18 +93,18 @@ unfolding IsStrictlySortedBy
 rise-with_papers list n [] rise = (tt, tt)
 rise-with_papers list n (b ∷ bs) rise = rise_at list n b bs (list_cmp list b.0) refl rise (rise-with_papers list n bs rise.1)
 
--- bundles with papers more of a list are bundles
+-- bundles with papers of a list added are bundles
 pub bundles-with_papers : (list : List ℕ) (n : ℕ) (bs : List Bundle) → IsBundle (list, n) → AreBundles bs → AreBundles (with_papers bs list n)
 bundles-with_papers list n bs new all = record { rise = rise-with_papers list n bs all.rise; each = each-with_papers list n bs new all.each }
 
--- papers between others come to the front
+-- papers between others can be moved to the front
 to_front : (xs ys zs : List (List ℕ)) → IsPermutation (xs ++ (ys ++ zs)) (ys ++ (xs ++ zs))
 to_front xs ys zs =
     subst (λ l. IsPermutation l (ys ++ (xs ++ zs))) (append_assoc xs ys zs)
     (subst (λ l. IsPermutation ((xs ++ ys) ++ zs) l) (append_assoc ys xs zs)
     (IsPermutation-append_left zs (xs ++ ys) (ys ++ xs) (IsPermutation-append_comm xs ys)))
 
--- the papers are those that were there and the new ones
+-- the papers are the old and the new ones
 papers_at : (list : List ℕ) (n : ℕ) (b : Bundle) (bs : List Bundle) (o : Ordering) → list_cmp list b.0 ≡ o →
     IsPermutation (replicate n list ++ papers_of bs) (papers_of (with_papers bs list n)) →
     IsPermutation (replicate n list ++ papers_of (b ∷ bs)) (papers_of (match_ordering o ((list, n) ∷ b ∷ bs) ((b.0, b.1 + n) ∷ bs) (b ∷ with_papers bs list n)))
@@ -128,7 +128,7 @@ pub papers-with_papers : (list : List ℕ) (n : ℕ) (bs : List Bundle) → IsPe
 papers-with_papers list n [] = IsPermutation-refl (replicate n list ++ [])
 papers-with_papers list n (b ∷ bs) = papers_at list n b bs (list_cmp list b.0) refl (papers-with_papers list n bs)
 
--- so many papers more are there
+-- the number of papers increases by that of the new ones
 pub length-with_papers : (list : List ℕ) (n : ℕ) (bs : List Bundle) → length (papers_of (with_papers bs list n)) ≡ length (papers_of bs) + n
 length-with_papers list n bs =
     let same : length (papers_of (with_papers bs list n)) ≡ length (replicate n list ++ papers_of bs) = length_permutation _ _ (papers-with_papers list n bs) in

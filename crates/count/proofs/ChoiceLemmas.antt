@@ -1,8 +1,8 @@
--- Truth values, joined.
+-- Connectives of truth values.
 use Rattle.std.proofs.Common.{◌≡◌, ℕ, ◌≤◌, ◌||◌, ◌&&◌, Bool, true, false, not, cond, eqb, refl, sym, ap, arith}
 use Rattle.std.proofs.lemmas.Bool.{eq-eqb, eqb-true}
 
--- what tests that are joined say of each
+-- what a conjunction or disjunction of tests states about each of them
 pub or_later : (a b : Bool) → b ≡ true → (a || b) ≡ true
 or_later true b h = refl
 or_later false b h = h
@@ -24,7 +24,7 @@ either_or true b x y h k o = ap (λ z. z || y) (h refl)
 either_or false b true y h k o = refl
 either_or false b false y h k o = k o
 
--- a value that may be left out is within it
+-- a value or 0 is at most the value
 pub within_value : (b : Bool) (v : ℕ) → cond b v 0 ≤ v
 within_value true v = omega arith
 within_value false v = omega arith
@@ -35,6 +35,6 @@ swap_choice a b true false e f = let k = eq-eqb b a (sym (eqb-true a b e)) in cc
 swap_choice a b false true e f = let k = eq-eqb a b (sym (eqb-true b a f)) in cc
 swap_choice a b false false e f = refl
 
--- two numbers are equal either way round
+-- equality of numbers is symmetric
 pub eqb_swap : (a b : ℕ) → eqb a b ≡ eqb b a
 eqb_swap a b = swap_choice a b _ _ refl refl

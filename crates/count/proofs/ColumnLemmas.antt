@@ -1,4 +1,4 @@
--- Sets of numbers, and lists that are walked from either end.
+-- Sets of numbers, and lists read from either end.
 use Rattle.std.proofs.Common.{◌≡◌, ℕ, ◌+◌, ◌<◌, Bool, true, false, cond, nat_eq, List, [], ◌∷◌, ◌++◌, length, take, reverse, refl, sym, ap, ◌∙◌, arith, subst, slice_index}
 use Rattle.std.proofs.lemmas.List.{append-nil, reverse-append}
 use Rattle.std.specs.List.{list_any, filter}
@@ -6,26 +6,26 @@ use Rattle.std.proofs.lemmas.Bool.{eq-eqb}
 use Rattle.std.proofs.lemmas.List.Sorted.{list_any-IsPermutation, IsPermutation-reverse}
 use Rattle.std.proofs.lemmas.List.Folds.{list_any_at}
 use Rattle.std.proofs.lemmas.List.Kept.{IsStrictlyIncreasing-filter}
-use Rattle.paper.specs.Columns.{IsColumnSet, IsColumn}
+use Rattle.paper.specs.Columns.{IsCandidateSet, IsColumn}
 use Rattle.std.proofs.lemmas.List.{get_or-take, length-take}
 use Rattle.std.proofs.lemmas.List.Elements.{filter_more}
 use Rattle.count.specs.Inside.Holdings.{OnlyColumns}
 use Rattle.count.proofs.Law.ActionLemmas.{in-filter, column-in}
 
--- a test finds the same in either direction
+-- whether any element passes a test is independent of the direction
 pub any-reverse : {X : Type 0} (p : X → Bool) (xs : List X) → list_any p (reverse xs) ≡ list_any p xs
 any-reverse p xs = sym (list_any-IsPermutation p xs (reverse xs) (IsPermutation-reverse xs))
 
--- those of a set of columns that pass a test are one
-pub columns-filter : (p : ℕ → Bool) (xs : List ℕ) → IsColumnSet xs → IsColumnSet (filter p xs)
+-- the members of a set of columns that pass a test are a set of columns
+pub columns-filter : (p : ℕ → Bool) (xs : List ℕ) → IsCandidateSet xs → IsCandidateSet (filter p xs)
 columns-filter p xs set = record {
   ascending = IsStrictlyIncreasing-filter p xs set.ascending;
   within = λ k at. column-in (slice_index (filter p xs) k) xs set
       (in-filter (slice_index (filter p xs) k) p xs (list_any_at (nat_eq (slice_index (filter p xs) k)) (filter p xs) k 0 at (eq-eqb _ _ refl))).1;
 }
 
--- and so are its first
-pub columns-take : (n : ℕ) (xs : List ℕ) → IsColumnSet xs → IsColumnSet (take n xs)
+-- and so are the first ones
+pub columns-take : (n : ℕ) (xs : List ℕ) → IsCandidateSet xs → IsCandidateSet (take n xs)
 columns-take n xs set = record {
   ascending = λ k at.
       let size = length-take n xs in
@@ -39,16 +39,16 @@ columns-take n xs set = record {
 }
 
 -- one more that passes the test
-pub columns-more : (p : ℕ → Bool) (xs chosen : List ℕ) (i : ℕ) → IsColumnSet xs → chosen ≡ filter p (take i xs) → i < length xs → p (slice_index xs i) ≡ true →
-    IsColumnSet (chosen ++ slice_index xs i ∷ [])
+pub columns-more : (p : ℕ → Bool) (xs chosen : List ℕ) (i : ℕ) → IsCandidateSet xs → chosen ≡ filter p (take i xs) → i < length xs → p (slice_index xs i) ≡ true →
+    IsCandidateSet (chosen ++ slice_index xs i ∷ [])
 columns-more p xs chosen i set is within passes =
     let more : filter p (take (i + 1) xs) ≡ filter p (take i xs) ++ slice_index xs i ∷ [] =
     filter_more p xs i 0 within ∙ ap (λ b. filter p (take i xs) ++ cond b (slice_index xs i ∷ []) []) passes in
-    subst IsColumnSet (more ∙ ap (λ l. l ++ slice_index xs i ∷ []) (sym is)) (columns-filter p (take (i + 1) xs) (columns-take (i + 1) xs set))
+    subst IsCandidateSet (more ∙ ap (λ l. l ++ slice_index xs i ∷ []) (sym is)) (columns-filter p (take (i + 1) xs) (columns-take (i + 1) xs set))
 
--- those of the first of a set who pass a test, and one more who does, or doesn't
-pub chosen-yes : (p : ℕ → Bool) (xs chosen more : List ℕ) (i : ℕ) → IsColumnSet xs → i < length xs → p (slice_index xs i) ≡ true → chosen ≡ filter p (take i xs) →
-    (IsColumnSet (chosen ++ slice_index xs i ∷ []) → more ≡ chosen ++ slice_index xs i ∷ []) → more ≡ filter p (take (i + 1) xs)
+-- the first members of a set that pass a test, and one more that does, or doesn't
+pub chosen-yes : (p : ℕ → Bool) (xs chosen more : List ℕ) (i : ℕ) → IsCandidateSet xs → i < length xs → p (slice_index xs i) ≡ true → chosen ≡ filter p (take i xs) →
+    (IsCandidateSet (chosen ++ slice_index xs i ∷ []) → more ≡ chosen ++ slice_index xs i ∷ []) → more ≡ filter p (take (i + 1) xs)
 chosen-yes p xs chosen more i set within passes so_far last =
     last (columns-more p xs chosen i set so_far within passes) ∙ ap (λ (l : List ℕ). l ++ slice_index xs i ∷ []) so_far
     ∙ sym (filter_more p xs i 0 within ∙ ap (λ b. filter p (take i xs) ++ cond b (slice_index xs i ∷ []) []) passes)
@@ -57,12 +57,12 @@ pub chosen-no : (p : ℕ → Bool) (xs chosen : List ℕ) (i : ℕ) → i < leng
 chosen-no p xs chosen i within fails so_far =
     so_far ∙ sym (filter_more p xs i 0 within ∙ ap (λ b. filter p (take i xs) ++ cond b (slice_index xs i ∷ []) []) fails ∙ append-nil (filter p (take i xs)))
 
--- a list with one more at the end, the last first
+-- a list with one more element at the end, reversed
 pub reverse-newest : {X : Type 0} (xs before : List X) (newest : X) → xs ≡ before ++ newest ∷ [] → reverse xs ≡ newest ∷ reverse before
 reverse-newest xs before newest is = ap reverse is ∙ reverse-append before (newest ∷ [])
 
--- who is in a set of columns is one
-pub only-columns : (columns : List ℕ) (continues : ℕ → Bool) → IsColumnSet columns → ((c : ℕ) → continues c ≡ list_any (nat_eq c) columns) → OnlyColumns continues
+-- a member of a set of columns is a column
+pub only-columns : (columns : List ℕ) (continues : ℕ → Bool) → IsCandidateSet columns → ((c : ℕ) → continues c ≡ list_any (nat_eq c) columns) → OnlyColumns continues
 only-columns columns continues set is c h = column-in c columns set (sym (is c) ∙ h)
 
 pub ruleset only_columns = only-columns

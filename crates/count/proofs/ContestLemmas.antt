@@ -1,12 +1,12 @@
 -- The test of a contest, paper by paper.
 use Rattle.std.proofs.Common.{◌≡◌, ℕ, suc, zero, ◌+◌, ◌<◌, ◌≤◌, List, [], ◌∷◌, ◌++◌, length, take, get_or, replicate, refl, sym, ◌∙◌, arith, subst, Bool, true}
 use Rattle.std.specs.List.{AllByRecursion}
-use Rattle.paper.specs.Columns.{IsColumnSet}
+use Rattle.paper.specs.Columns.{IsCandidateSet}
 use Rattle.votes.specs.Units.{max_seats, max_papers}
 use Rattle.count.specs.Bundles.{Bundle, IsBundle, papers_of}
 use Rattle.count.specs.Law.Contest.{AreForCandidates, contest_for, IsContest}
 
--- one member more, all members, and one of them
+-- one more member, all members, and one of them
 pub all-more : {X : Type 0} (P : X → Type 0) (xs : List X) (i : ℕ) (x : X) → i < length xs → x ≡ get_or xs i x → P x → AllByRecursion P (take i xs) → AllByRecursion P (take (i + 1) xs)
 all-more P [] i x within is here sofar = absurd (omega arith)
 all-more P (y ∷ ys) zero x within is here sofar = (subst P is here, tt)
@@ -19,13 +19,13 @@ all-at P [] i x within is all = absurd (omega arith)
 all-at P (y ∷ ys) zero x within is all = all.0
 all-at P (y ∷ ys) (suc i) x within is all = all-at P ys i x (omega arith) is all.1
 
-pub contest-is : (candidates : List ℕ) (seats : ℕ) (papers : List (List ℕ)) → IsColumnSet candidates → 1 ≤ seats → seats ≤ max_seats → seats < length candidates → length papers ≤ max_papers →
+pub contest-is : (candidates : List ℕ) (seats : ℕ) (papers : List (List ℕ)) → IsCandidateSet candidates → 1 ≤ seats → seats ≤ max_seats → seats < length candidates → length papers ≤ max_papers →
     AreForCandidates candidates papers →
     IsContest (contest_for candidates seats papers)
 contest-is candidates seats papers set some few contested few_papers of =
     record { candidate_set = set; some_seats = some; few_seats = few; contested = contested; few_papers = few_papers; for_candidates = of; quota_is = refl }
 
--- where each bundle has a paper, something holds of all papers exactly where it holds of each bundle's list
+-- if each bundle has a paper, a property holds for all papers exactly if it holds for each bundle's list
 all-replicated : (P : List ℕ → Type 0) (n : ℕ) (list : List ℕ) (rest : List (List ℕ)) → P list → AllByRecursion P rest → AllByRecursion P (replicate n list ++ rest)
 all-replicated P zero list rest one all = all
 all-replicated P (suc n) list rest one all = (one, all-replicated P n list rest one all)
@@ -46,7 +46,7 @@ pub all-lists : (P : List ℕ → Type 0) (bundles : List Bundle) → AllByRecur
 all-lists P [] each all = tt
 all-lists P (b ∷ bs) each all = (first-replicated P b.1 b.0 (papers_of bs) each.0.0 all, all-lists P bs each.1 (all-behind P b.1 b.0 (papers_of bs) all))
 
--- tests that agree on each number agree on all of a list
+-- tests that agree on each number agree on a whole list
 pub all-alike : (f g : ℕ → Bool) (xs : List ℕ) → ((x : ℕ) → f x ≡ g x) → AllByRecursion (λ x. f x ≡ true) xs → AllByRecursion (λ x. g x ≡ true) xs
 all-alike f g [] alike all = tt
 all-alike f g (x ∷ xs) alike all = (sym (alike x) ∙ all.0, all-alike f g xs alike all.1)

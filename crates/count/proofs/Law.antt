@@ -1,4 +1,4 @@
--- What follows from the law of the count, whoever keeps the papers.
+-- Consequences of the law of the count, however the papers are stored.
 pub mod ActionLemmas
 pub mod CandidateSums
 pub mod ConservedLemmas

@@ -18,9 +18,9 @@ pub mod ReadingLemmas
 pub mod RecordLemmas
 pub mod RestLemmas
 pub mod SumLemmas
-pub mod TallyLemmas
+pub mod ParcelFigureLemmas
 pub mod WorthLemmas
 pub mod PlaceLemmas
-pub mod WeightLemmas
+pub mod BundleFigureLemmas
 pub mod BundleBookLemmas
-pub mod KeptLemmas
+pub mod StoredCountLemmas

@@ -1,4 +1,4 @@
--- What an action that is due may rely on.
+-- What an action that is due can assume.
 use Rattle.std.proofs.Common.{◌≡◌, ℕ, ◌<◌, ◌≤◌, ◌⊎◌, inl, inr, Bool, true, false, cond, nat_eq, List, [], ◌∷◌, sym, ap, ◌∙◌, arith, subst}
 use Rattle.std.specs.List.{list_any}
 use Rattle.paper.specs.Columns.{IsColumn}
@@ -7,7 +7,7 @@ use Rattle.count.specs.Law.Contest.{Contest, History, IsContest, In, newest_vote
 use Rattle.count.specs.Law.Right.{IsRightByItself, candidate_of}
 use Rattle.count.specs.Advance.{IsDue}
 use Rattle.count.specs.Books.{AreRankings}
-use Rattle.count.specs.Inside.Keeping.{HoldPapers, IsBook}
+use Rattle.count.specs.Inside.BookInvariants.{HoldPapers, IsBook}
 use Rattle.count.specs.declared.parcel.Holding.{Holding}
 use Rattle.count.specs.declared.stages.Action.{Action}
 use Rattle.count.specs.declared.stages.Action.TheVariants.{First, Surplus, Exclude, ExcludeLast}
@@ -16,12 +16,12 @@ use Rattle.count.proofs.Law.StepLemmas.{IsSurplus, IsExclusion, step-is, step-fi
 use Rattle.count.proofs.Law.QuotaLemmas.{values-conserved}
 use Rattle.count.proofs.Law.CandidateSums.{one-within}
 
--- the papers lie in holdings, and are rankings
+-- the papers are in holdings, and are rankings
 pub record IsUnderWay (contest : Contest) (stages : History) (holdings : List Holding) : Type 0 where
   pub hold : HoldPapers contest stages holdings
   pub rankings : AreRankings contest.papers
 
--- what a surplus that is due may rely on
+-- what a surplus that is due can assume
 pub record IsLawful (contest : Contest) (stages : History) (c : ℕ) : Type 0 where
   pub column : IsColumn c
   pub above : contest.quota < newest_votes stages c
@@ -34,7 +34,7 @@ number (Surplus d) = d
 number (Exclude d) = d
 number (ExcludeLast d) = d
 
--- an action is at most one thing
+-- an action is of at most one kind
 surplus_of_one : (contest : Contest) (stages : History) (c : ℕ) → IsSurplus contest stages (Surplus c) ⊎ IsExclusion contest stages (Surplus c) →
     (In c contest.candidates) × (contest.quota < newest_votes stages c)
 unfolding number
@@ -60,7 +60,7 @@ surplus-lawful contest (s ∷ before) c fair right due =
     let all = values-conserved contest (λ h t. candidate_of t.action) s before fair right in
     record { column = column; above = on.1; some = quota_some contest fair; few = omega (arith, own, within, all, fair.few_papers) }
 
--- only the first stage comes after none
+-- only the first stage follows none
 pub under-way : (contest : Contest) (stages : History) (holdings : List Holding) (action : Action) → IsBook contest stages holdings → IsDue contest stages action → (action ≡ First → ⊥) →
     IsUnderWay contest stages holdings
 under-way contest [] holdings action book due other = absurd (other (step-first contest due.lot action due.is))
@@ -74,7 +74,7 @@ not_first contest stages (inr on) = never _ on.is
     never true h = cc
     never false h = cc
 
--- the first stage comes after none, and there are no holdings then
+-- the first stage follows none, and there are no holdings then
 pub first-alone : (contest : Contest) (stages : History) (holdings : List Holding) → IsBook contest stages holdings → IsDue contest stages First → holdings ≡ []
 first-alone contest [] holdings book due = book.held
 first-alone contest (s ∷ before) holdings book due = absurd (not_first contest (s ∷ before) (step-is contest s before due.lot First due.is))

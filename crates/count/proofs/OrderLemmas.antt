@@ -1,4 +1,4 @@
--- Papers kept in bundles are the same papers, and their count is the same count.
+-- Papers stored in bundles are the same papers, and have the same count.
 use Rattle.std.proofs.Common.{◌≡◌, ℕ, List, [], ◌∷◌, ◌++◌, length, fold, refl, sym, ap, ◌∙◌, ◌+◌, subst, append-nil, append_assoc, arith}
 use Rattle.std.specs.List.{AllByRecursion}
 use Rattle.std.specs.List.Sorted.{IsPermutation}
@@ -15,7 +15,7 @@ use Rattle.count.proofs.BundleLemmas.{papers-with_papers}
 use Rattle.count.proofs.ContestLemmas.{all-papers}
 use Rattle.count.proofs.Law.CountLemmas.{stages_reordered}
 
--- the papers that are added one by one, with those that were there, are those of the bundles
+-- the old papers and those added one by one are those of the bundles
 bundled-from : (bs : List Bundle) (papers : List (List ℕ)) → IsPermutation (papers_of bs ++ papers) (papers_of (fold (λ cs paper. with_papers cs paper 1) bs papers))
 bundled-from bs [] = subst (λ l. IsPermutation l (papers_of bs)) (sym (append-nil (papers_of bs))) (IsPermutation-refl (papers_of bs))
 bundled-from bs (p ∷ ps) =
@@ -32,7 +32,7 @@ bundled-permutation papers = bundled-from [] papers
 pub bundled-length : (papers : List (List ℕ)) → length (papers_of (bundled papers)) ≡ length papers
 bundled-length papers = length_permutation papers (papers_of (bundled papers)) (bundled-permutation papers)
 
--- what holds of each list of some bundles, and of one more, holds of each list with that one
+-- a property of each list of some bundles, and of one more list, holds for each list with that one added
 lists_at : (P : List ℕ → Type 0) (list : List ℕ) (n : ℕ) (b : Bundle) (bs : List Bundle) (o : Ordering) → P list → AllByRecursion (λ (c : Bundle). P c.0) (b ∷ bs) →
     AllByRecursion (λ (c : Bundle). P c.0) (with_papers bs list n) → AllByRecursion (λ (c : Bundle). P c.0) (match_ordering o ((list, n) ∷ b ∷ bs) ((b.0, b.1 + n) ∷ bs) (b ∷ with_papers bs list n))
 lists_at P list n b bs Less one all behind = (one, all)

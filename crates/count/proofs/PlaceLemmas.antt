@@ -1,4 +1,4 @@
--- Where bundles lie: each place is sound, and an action brings it to where the law has it.
+-- The places of bundles: each is sound, and an action brings the bundle to the place that the law assigns.
 use Rattle.std.proofs.Common.{◌≡◌, ℕ, ◌≤◌, Bool, true, false, cond, eqb, List, [], ◌∷◌, ◌++◌, drop, refl, sym, ap, ◌∙◌, arith}
 use Rattle.std.specs.List.{AllByRecursion}
 use Rattle.std.proofs.lemmas.List.{append-nil}
@@ -14,7 +14,7 @@ use Rattle.count.specs.Law.Count.{begun}
 use Rattle.count.specs.Law.Elected.{is_continuing, continuing_after}
 use Rattle.count.specs.Law.Places.{Place, place, moved, passed_on, first_of, after, next_available, surplus_of}
 use Rattle.count.specs.Inside.Holdings.{new_value, IsTransferRule, OnlyColumns}
-use Rattle.count.specs.Kept.{places_after}
+use Rattle.count.specs.StoredCounts.{places_after}
 use Rattle.count.specs.Inside.Placing.{IsSound, first_places, passed_at, passed_places}
 use Rattle.count.specs.declared.parcel.TransferRule.{TransferRule}
 use Rattle.count.specs.declared.parcel.TransferRule.TheVariants.{AsReceived, Share}
@@ -24,7 +24,7 @@ use Rattle.count.specs.declared.stages.Action.TheVariants.{First, Surplus, Exclu
 use Rattle.count.proofs.ColumnLemmas.{columns-filter, only-columns}
 use Rattle.count.proofs.ParcelTotals.{first-known, from_first-same}
 
--- a part of a value is within it
+-- a part of a value is at most the value
 cut-small : (s v t : ℕ) → s ≤ t → cut s v t ≤ v
 cut-small s v t part = div-le_of_le-mul t (mul-le-mul_right v part)
 
@@ -66,7 +66,7 @@ moved_few contest before (Surplus c) p at fair r few = passed_few (eqb at.holder
 moved_few contest before (Exclude c) p at fair r few = passed_few (eqb at.holder c) (next_available contest before c p) _ at (next_few contest before c p fair) few
 moved_few contest before (ExcludeLast c) p at fair r few = few
 
--- whoever holds a paper has a candidate's number, or is no one
+-- the holder of a paper has a candidate's number, or is no one
 holder-few : (contest : Contest) (stages : History) (p : List ℕ) → IsContest contest → IsRanking p → (place contest stages p).holder ≤ max_candidates
 holder-few contest [] p fair r = omega arith
 holder-few contest (s ∷ before) p fair r = moved_few contest before s.action p (place contest before p) fair r (holder-few contest before p fair r)
@@ -85,7 +85,7 @@ passed-one : (contest : Contest) (before : History) (c : ℕ) (rule : TransferRu
     passed_at (is_continuing contest before) rule c p (placed at) ≡ placed (passed_on contest before c p at (new_value rule at.value))
 passed-one contest before c rule p at = passed_choice (eqb at.holder c) (next_available contest before c p) (new_value rule at.value) at
 
--- an action that passes a candidate's papers on brings bundles to where the law has them
+-- an action that passes a candidate's papers on brings bundles to the places that the law assigns
 passed-all : (contest : Contest) (before : History) (c : ℕ) (rule : TransferRule) (action : Action) (bundles : List Bundle) →
     ((p : List ℕ) (at : Place) → passed_on contest before c p at (new_value rule at.value) ≡ moved contest before action p at) →
     passed_places (is_continuing contest before) rule c (places_after contest before bundles) bundles ≡ places_after contest (begun action [] ∷ before) bundles
@@ -96,7 +96,7 @@ passed-all contest before c rule action (b ∷ bs) by =
     ap (λ (x : Placed). x ∷ passed_places (is_continuing contest before) rule c (places_after contest before bs) bs) here
     ∙ ap (λ (l : List Placed). placed (moved contest before action b.0 at) ∷ l) (passed-all contest before c rule action bs by)
 
--- who continues may be told by another test that says the same
+-- two tests that agree on who continues have the same result
 passed-same : (p q : ℕ → Bool) (rule : TransferRule) (c : ℕ) (places : List Placed) (bundles : List Bundle) → ((d : ℕ) → p d ≡ q d) →
     passed_places p rule c places bundles ≡ passed_places q rule c places bundles
 passed-same p q rule c [] bundles same = refl
@@ -107,7 +107,7 @@ passed-same p q rule c (at ∷ places) (b ∷ bs) same =
     (from_first-same p q rest same)
     ∙ ap (λ (l : List Placed). passed_at q rule c b.0 at ∷ l) (passed-same p q rule c places bs same)
 
--- what a surplus passes on, and what an exclusion does
+-- the papers passed on by a surplus, and by an exclusion
 pub surplus-places : (contest : Contest) (before : History) (c : ℕ) (continues : ℕ → Bool) (places : List Placed) (bundles : List Bundle) → ((d : ℕ) → continues d ≡ is_continuing contest before d) →
     places ≡ places_after contest before bundles →
     passed_places continues (Share (surplus_of contest before c) (newest_votes before c)) c places bundles ≡ places_after contest (begun (Surplus c) [] ∷ before) bundles
@@ -125,12 +125,12 @@ exclude-places contest before c continues places bundles same are =
     ∙ ap (λ (l : List Placed). passed_places (is_continuing contest before) AsReceived c l bundles) are
     ∙ passed-all contest before c AsReceived (Exclude c) bundles (λ p at. refl)
 
--- where no bundle is left, no place is
+-- if no bundle remains, no place does
 pub passed-none : (continues : ℕ → Bool) (rule : TransferRule) (c : ℕ) (places : List Placed) → passed_places continues rule c places [] ≡ []
 passed-none continues rule c [] = refl
 passed-none continues rule c (at ∷ places) = refl
 
--- once no bundle is left, all are made
+-- when no bundle remains, all places are complete
 pub passed-end : (continues : ℕ → Bool) (rule : TransferRule) (c : ℕ) (made all rest : List Placed) (left : List Bundle) → left ≡ [] →
     made ++ passed_places continues rule c rest left ≡ all → made ≡ all
 passed-end continues rule c made all rest left none so_far =
@@ -139,7 +139,7 @@ passed-end continues rule c made all rest left none so_far =
     ∙ ap (λ (l : List Bundle). made ++ passed_places continues rule c rest l) (sym none)
     ∙ so_far
 
--- places are sound after each pass:
+-- places remain sound when papers are passed on:
 pub sound-first : (bundles : List Bundle) → AllByRecursion IsBundle bundles → AllByRecursion IsSound (first_places bundles)
 sound-first [] each = tt
 sound-first (b ∷ bs) each = ((first_few b.0 each.0.2, omega arith), sound-first bs each.1)

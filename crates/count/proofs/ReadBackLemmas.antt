@@ -1,4 +1,4 @@
--- The figures of a right stage tell the stage back.
+-- The figures of a right stage determine the stage.
 use Rattle.std.proofs.Common.{◌≡◌, ℕ, ◌+◌, ◌<◌, ◌≤◌, ◌||◌, ◌⊎◌, inl, inr, Bool, true, false, not, cond, eqb, nat_eq, List, [], ◌∷◌, ◌++◌, length, map, take, drop, reverse, Option, Some}
 use Rattle.std.proofs.Common.{None, refl, sym, ap, ◌∙◌, arith, subst, append-nil, append_assoc, length-append}
 use Rattle.std.proofs.Math.Seq.{take-append_seam, drop-append_seam}
@@ -18,20 +18,20 @@ use Rattle.count.specs.declared.stages.Action.TheVariants.{First, Surplus, Exclu
 use Rattle.count.proofs.ColumnLemmas.{reverse-newest}
 use Rattle.count.proofs.FilterLemmas.{filter-cong}
 use Rattle.count.proofs.ReadingLemmas.{stage-made}
-use Rattle.count.proofs.TallyLemmas.{map-numbers}
+use Rattle.count.proofs.ParcelFigureLemmas.{map-numbers}
 use Rattle.count.proofs.Law.NamedLemmas.{none-elected, named-elected, excluded-unelected, surplus-elected}
 use Rattle.count.proofs.Law.NewlyLemmas.{newly-elected}
 use Rattle.count.proofs.Law.StepLemmas.{IsSurplus, IsExclusion, step-is, step-first, told-votes}
 use Rattle.count.proofs.Law.VotelessLemmas.{others-voteless}
 
--- ---- who is elected
+-- ---- the elected candidates
 
 standing_elected : (named gone : Bool) → is_elected_mark (cond named 1 (cond gone 2 0)) ≡ named
 standing_elected true gone = refl
 standing_elected false true = refl
 standing_elected false false = refl
 
--- a mark tells who is elected, whatever the action
+-- a mark shows who is elected, for any action
 elected_by : (a : Action) (c : ℕ) (named gone : Bool) → (transfers a c ≡ true → named ≡ true) → (excludes a c ≡ true → named ≡ false) →
     is_elected_mark (mark_by a c (cond named 1 (cond gone 2 0))) ≡ named
 elected_by First c named gone on out = standing_elected named gone
@@ -73,7 +73,7 @@ standing_none c true gone = refl
 standing_none c false true = refl
 standing_none c false false = refl
 
--- a mark tells the action on whom it acts, and no other
+-- a mark shows the action on its candidate, and no other
 action_at : (a : Action) (c : ℕ) (named gone : Bool) → action_by (mark_by a c (cond named 1 (cond gone 2 0))) c ≡ cond (acts_on a c) (Some a) None
 unfolding acts_on
 action_at First c named gone = standing_none c named gone
@@ -97,7 +97,7 @@ shown_choice : (a later : Action) (b any : Bool) → later ≡ cond any a First 
 shown_choice a later true any h = refl
 shown_choice a later false any h = h
 
--- the marks tell an action on one of the candidates
+-- the marks show an action on one of the candidates
 action_told : (f : ℕ → Figure) (a : Action) (xs : List ℕ) → ((c : ℕ) → action_by (f c).mark c ≡ cond (acts_on a c) (Some a) None) → action_shown f xs ≡ cond (list_any (acts_on a) xs) a First
 action_told f a [] h = refl
 action_told f a (x ∷ xs) h = ap (action_or (action_shown f xs)) (h x) ∙ shown_choice a (action_shown f xs) (acts_on a x) (list_any (acts_on a) xs) (action_told f a xs h)
@@ -146,7 +146,7 @@ votes-back contest handed s before fair right =
 
 -- ---- the stage
 
--- what a round reads of the figures of a stage: who is elected, and what it records
+-- what an iteration reads from the figures of a stage: the elected candidates, and what it records
 pub record IsReadOf (candidates elected : List ℕ) (s : Stage) (before : History) (now : List ℕ) (made : Stage) : Type 0 where
   pub now_is : now ≡ elected_shown (figure_of s (s ∷ before)) candidates
   pub action_is : made.action ≡ action_shown (figure_of s (s ∷ before)) candidates
@@ -169,12 +169,12 @@ stage-read contest handed s before elected now made fair right known read =
 
 -- ---- all stages
 
--- the figures of some stages, the first of them first, which come after others
+-- the figures of some stages in order, which follow others
 pub figures_from : List ℕ → History → List Stage → List Figure
 figures_from candidates before [] = []
 figures_from candidates before (s ∷ later) = figures_at candidates (s ∷ before) ++ figures_from candidates (s ∷ before) later
 
--- one stage more at the end
+-- one more stage at the end
 from-more : (candidates : List ℕ) (before : History) (xs : List Stage) (s : Stage) →
     figures_from candidates before (xs ++ s ∷ []) ≡ figures_from candidates before xs ++ figures_at candidates (s ∷ (reverse xs ++ before))
 unfolding figures_from
@@ -185,7 +185,7 @@ from-more candidates before (x ∷ xs) s =
     ∙ sym (append_assoc (figures_at candidates (x ∷ before)) (figures_from candidates (x ∷ before) xs) (figures_at candidates (s ∷ (reverse xs ++ (x ∷ before)))))
     ∙ ap (λ (b : History). (figures_at candidates (x ∷ before) ++ figures_from candidates (x ∷ before) xs) ++ figures_at candidates (s ∷ b)) turned
 
--- all figures are those of the stages from the first on
+-- all figures are those of the stages in order
 all-from : (candidates : List ℕ) (stages : History) → all_figures candidates stages ≡ figures_from candidates [] (reverse stages)
 unfolding figures_from
 all-from candidates [] = refl
@@ -196,7 +196,7 @@ all-from candidates (s ∷ before) =
     ∙ sym (from-more candidates [] (reverse before) s)
     ∙ ap (figures_from candidates []) (sym (reverse-append (s ∷ []) before))
 
--- how far stages are read: those read, who is elected after them, and the figures that are left
+-- the progress of reading: the stages read, the candidates elected after them, and the remaining figures
 pub record AreRead (contest : Contest) (history : History) (stages : List Stage) (elected : List ℕ) (rest : List Figure) : Type 0 where
   pub later : List Stage
   pub whole : stages ++ later ≡ reverse history
@@ -235,7 +235,7 @@ length-stage : (candidates : List ℕ) (s : Stage) (before : History) → length
 length-stage candidates s before =
     omega (arith, length-append (map (figure_of s (s ∷ before)) candidates) (record { candidate = fractions; units = s.lost; mark = 0 } ∷ []), length-map candidates (figure_of s (s ∷ before)))
 
--- a stage more
+-- one more stage
 read_stage : (contest : Contest) (handed : History → Stage → Option ℕ) (history : History) (stages later : List Stage) (rest : List Figure) (more : List ℕ) (grown : List Stage) (n : ℕ) →
     IsRightBy contest handed history → n ≡ length contest.candidates + 2 → n ≤ length rest →
     stages ++ later ≡ reverse history → rest ≡ figures_from contest.candidates (reverse stages) later →
@@ -267,7 +267,7 @@ pub read-more : (contest : Contest) (handed : History → Stage → Option ℕ) 
 read-more contest handed history stages rest elected more grown n right size enough read told =
     read_stage contest handed history stages read.later rest more grown n right size enough read.whole read.rest_is told
 
--- where fewer figures are left than a stage has, none is, and all stages are read
+-- if fewer figures remain than a stage has, none remain, and all stages are read
 few_left : (candidates : List ℕ) (before : History) (later : List Stage) → length (figures_from candidates before later) < length candidates + 2 → later ≡ []
 unfolding figures_from
 few_left candidates before [] few = refl

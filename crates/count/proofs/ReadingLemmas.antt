@@ -1,8 +1,8 @@
--- Stages read back from the figures that they show.
+-- Stages read from the figures that they show.
 use Rattle.std.proofs.Common.{◌≡◌, ℕ, suc, ◌+◌, ◌-◌, ◌<◌, ◌||◌, Bool, true, false, cond, nat_eq, List, [], ◌∷◌, ◌++◌, length, map, take, drop, set, get_or, inl, inr, Some, None, refl, sym}
 use Rattle.std.proofs.Common.{ap, ◌∙◌, arith, slice_index, get_or-set_same, get_or-set_other, length-set}
 use Rattle.std.specs.List.{list_any}
-use Rattle.paper.specs.Columns.{IsColumnSet}
+use Rattle.paper.specs.Columns.{IsCandidateSet}
 use Rattle.std.proofs.Math.Seq.{drop-cons, take-append_seam, get_or-append_seam}
 use Rattle.std.proofs.lemmas.Bool.{eq-eqb, ne_eqb, cases_eq}
 use Rattle.std.proofs.lemmas.Grind.{same_number_lists}
@@ -59,7 +59,7 @@ votes-more f xs votes i j v within at column own so_far =
               ∙ sym (at_place f (take (i + 1) xs) k small ∙ units_other f xs i (k + 1) within (λ same. other (omega (arith, same, at))))
         ]
 
--- the action that the candidates from a place on tell, by the mark at that place
+-- the action shown by the candidates from a place on, by the mark at that place
 action_at : (f : ℕ → Figure) (xs : List ℕ) (i mark : ℕ) → i < length xs → mark ≡ (f (slice_index xs i)).mark →
     action_shown f (drop i xs) ≡ action_or (action_shown f (drop (i + 1) xs)) (action_by mark (slice_index xs i))
 action_at f xs i mark within is =
@@ -75,11 +75,11 @@ pub action-some : (f : ℕ → Figure) (xs : List ℕ) (i mark : ℕ) (action : 
     action_shown f (drop i xs) ≡ action
 action-some f xs i mark action within is some = action_at f xs i mark within is ∙ ap (action_or (action_shown f (drop (i + 1) xs))) some
 
--- what figures that are told by a function have at a place
+-- the figure at a place, if the figures are a function of the candidates
 pub figure-at : (f : ℕ → Figure) (xs : List ℕ) (figures : List Figure) (i : ℕ) (d : Figure) → figures ≡ map f xs → i < length xs → get_or figures i d ≡ f (slice_index xs i)
 figure-at f xs figures i d are within = ap (λ (l : List Figure). get_or l i d) are ∙ get_or-map f xs i 0 d within
 
--- the figures of the candidates stand between the first and the last of a stage's
+-- the figures of the candidates are between the first and the last of a stage
 pub between : (f : ℕ → Figure) (xs : List ℕ) (first last : Figure) (figures : List Figure) (n : ℕ) → figures ≡ first ∷ (map f xs ++ last ∷ []) → n ≡ length xs →
     take (n + 1 - 1) (drop 1 figures) ≡ map f xs
 between f xs first last figures n are size =
@@ -94,7 +94,7 @@ last-shown f xs first last d figures n are size =
     let e : n + 1 ≡ suc (length (map f xs)) = omega (arith, size, length-map xs f) in
     ap (λ (l : List Figure). get_or l (n + 1) d) are ∙ ap (λ k. get_or (first ∷ (map f xs ++ last ∷ [])) k d) e ∙ get_or-append_seam (map f xs) last [] d
 
--- a stage is what it is made of
+-- a stage equals one with the same parts
 pub stage-made : (s : Stage) (a : Action) (v e : List ℕ) (n l : ℕ) → a ≡ s.action → v ≡ s.votes → e ≡ s.elected → n ≡ s.non_transferable → l ≡ s.lost →
     let made : Stage = record { action = a; votes = v; elected = e; non_transferable = n; lost = l } in made ≡ s
 stage-made s a v e n l of votes elected none lost =
@@ -104,10 +104,10 @@ stage-made s a v e n l of votes elected none lost =
     ∙ ap (λ (x : ℕ). let t : Stage = record { action = s.action; votes = s.votes; elected = s.elected; non_transferable = x; lost = l } in t) none
     ∙ ap (λ (x : ℕ). let t : Stage = record { action = s.action; votes = s.votes; elected = s.elected; non_transferable = s.non_transferable; lost = x } in t) lost
 
--- those who are marked as elected among the first candidates, and one more who is, or isn't
-pub elected-yes : (f : ℕ → Figure) (xs chosen more : List ℕ) (i mark : ℕ) → IsColumnSet xs → i < length xs → mark ≡ (f (slice_index xs i)).mark → is_elected_mark mark ≡ true →
+-- the first candidates that are marked as elected, and one more that is, or isn't
+pub elected-yes : (f : ℕ → Figure) (xs chosen more : List ℕ) (i mark : ℕ) → IsCandidateSet xs → i < length xs → mark ≡ (f (slice_index xs i)).mark → is_elected_mark mark ≡ true →
     chosen ≡ elected_shown f (take i xs) →
-    (IsColumnSet (chosen ++ slice_index xs i ∷ []) → more ≡ chosen ++ slice_index xs i ∷ []) → more ≡ elected_shown f (take (i + 1) xs)
+    (IsCandidateSet (chosen ++ slice_index xs i ∷ []) → more ≡ chosen ++ slice_index xs i ∷ []) → more ≡ elected_shown f (take (i + 1) xs)
 elected-yes f xs chosen more i mark set within is passes so_far last =
     chosen-yes (λ c. is_elected_mark (f c).mark) xs chosen more i set within (ap is_elected_mark (sym is) ∙ passes) so_far last
 

@@ -8,7 +8,7 @@ use Rattle.count.specs.Law.Places.{first_of}
 use Rattle.count.specs.Inside.Holdings.{passed_to}
 use Rattle.count.proofs.SumLemmas.{at_equal, at_other}
 
--- xs stands at the end of ys
+-- xs is a suffix of ys
 pub record IsSuffix (xs ys : List ℕ) : Type 0 where
   pub before : List ℕ
   pub is : ys ≡ before ++ xs
@@ -34,7 +34,7 @@ suffix-from_first : (test : ℕ → Bool) (xs : List ℕ) → IsSuffix (from_fir
 suffix-from_first test [] = suffix-self []
 suffix-from_first test (x ∷ xs) = suffix-choice test (test x) x xs (suffix-from_first test xs)
 
--- the first of a suffix is not what stands before it
+-- the first of a suffix differs from what precedes it
 before_differs : (y : ℕ) (before xs : List ℕ) → 1 ≤ y → list_any (λ z. z == y) (before ++ xs) ≡ false → y ≡ first_of xs → ⊥
 before_differs y [] [] some none same = omega (arith, some, same)
 before_differs y [] (x ∷ xs) some none same = let b : eqb x y ≡ true = eq-eqb x y (sym same) in cc
@@ -44,7 +44,7 @@ before_differs y (z ∷ zs) xs some none same = before_differs y zs xs some (lat
     later true b h = cc
     later false b h = h
 
--- in a ranking a suffix is what stands from its first on
+-- in a ranking, a suffix is the list from its first element on
 rest_again_at : (before xs : List ℕ) → IsRanking (before ++ xs) → from_first (λ d. d == first_of xs) (before ++ xs) ≡ xs
 rest_again_at [] [] h = refl
 rest_again_at [] (x ∷ xs) h = at_equal x x _ _ refl
@@ -53,7 +53,7 @@ rest_again_at (y ∷ before) xs h = at_other y (first_of xs) _ _ (before_differs
 pub rest_again : (paper xs : List ℕ) → IsRanking paper → IsSuffix xs paper → from_first (λ d. d == first_of xs) paper ≡ xs
 rest_again paper xs h s = ap (from_first (λ d. d == first_of xs)) s.is ∙ rest_again_at s.before xs (subst IsRanking s.is h)
 
--- a paper that is passed on lies at the preferences that are left
+-- a paper that is passed on is at the preferences that remain
 pub rest_passed : (continues : ℕ → Bool) (paper : List ℕ) (test : ℕ → Bool) → IsRanking paper →
     let left : List ℕ = passed_to continues (from_first test paper) in from_first (λ d. d == first_of left) paper ≡ left
 rest_passed continues paper test h =

@@ -1,4 +1,4 @@
--- Sums that are equal, or are nothing.
+-- Sums that are equal, or zero.
 use Rattle.std.proofs.Common.{◌≡◌, ℕ, ◌+◌, ◌*◌, Bool, true, false, cond, eqb, List, [], ◌∷◌, length, refl, ap, arith}
 use Rattle.std.specs.List.{sum_by}
 use Rattle.paper.specs.Ranking.{IsRanking}
@@ -6,7 +6,7 @@ use Rattle.count.specs.Books.{AreRankings}
 use Rattle.std.proofs.lemmas.List.Sums.{sum_by-cons}
 use Rattle.std.proofs.lemmas.Bool.{eq-eqb, eqb-true}
 
--- equal at each element, equal in sum
+-- functions that are equal on each element have equal sums
 pub sum_by-same : {X : Type 0} (f g : X → ℕ) (xs : List X) → ((x : X) → f x ≡ g x) → sum_by f xs ≡ sum_by g xs
 sum_by-same f g [] h = refl
 sum_by-same f g (x ∷ xs) h = omega (arith, sum_by-cons f x xs, sum_by-cons g x xs, h x, sum_by-same f g xs h)
@@ -19,7 +19,7 @@ pub sum_by-none : {X : Type 0} (f : X → ℕ) (xs : List X) → ((x : X) → f 
 sum_by-none f [] h = refl
 sum_by-none f (x ∷ xs) h = omega (arith, sum_by-cons f x xs, h x, sum_by-none f xs h)
 
--- what a test of equality decides
+-- the choice that a test of equality makes
 pub at_equal : {X : Type 0} (a b : ℕ) (x y : X) → a ≡ b → cond (eqb a b) x y ≡ x
 at_equal a b x y h = ap (λ t. cond t x y) (eq-eqb a b h)
 
@@ -34,7 +34,7 @@ pub sum_by-constant : {X : Type 0} (n : ℕ) (xs : List X) → sum_by (λ (x : X
 sum_by-constant n [] = omega arith
 sum_by-constant n (x ∷ xs) = omega (arith, sum_by-cons (λ x. n) x xs, sum_by-constant n xs)
 
--- equal at each ranking, equal in sum over the papers
+-- functions that are equal on rankings have equal sums over the papers
 pub sum-rankings : (papers : List (List ℕ)) → AreRankings papers → (g h : List ℕ → ℕ) → ((p : List ℕ) → IsRanking p → g p ≡ h p) → sum_by g papers ≡ sum_by h papers
 sum-rankings [] r g h e = refl
 sum-rankings (p ∷ ps) r g h e = omega (arith, sum_by-cons g p ps, sum_by-cons h p ps, e p r.0, sum-rankings ps r.1 g h e)

@@ -1,4 +1,4 @@
--- Each action moves the papers to where they lie after it.
+-- Each action moves the papers to their places after it.
 use Rattle.std.proofs.Common.{◌≡◌, ℕ, ◌+◌, ◌==◌, Bool, true, false, not, cond, eqb, List, [], ◌∷◌, ◌++◌, refl, sym, ap, ◌∙◌, arith, Bor}
 use Rattle.std.specs.List.{sum_by, filter}
 use Rattle.std.proofs.lemmas.List.Sums.{sum_by-cons, sum_by-append}
@@ -11,7 +11,7 @@ use Rattle.paper.specs.Standing.{from_first}
 use Rattle.count.specs.Law.Places.{Place, place, moved, passed_on, first_of, next_available, surplus_of}
 use Rattle.count.specs.Inside.Holdings.{total, total_of, total_passed, at_passed, new_value, passed_to, passes_on, kept_by}
 use Rattle.count.specs.Books.{AreRankings}
-use Rattle.count.specs.Inside.Keeping.{rest_at, at_place, HoldPapers, IsMovedBy}
+use Rattle.count.specs.Inside.BookInvariants.{rest_at, at_place, HoldPapers, IsMovedBy}
 use Rattle.count.specs.declared.parcel.Parcel.{Parcel}
 use Rattle.count.specs.declared.parcel.Holding.{Holding}
 use Rattle.count.specs.declared.parcel.TransferRule.{TransferRule}
@@ -22,7 +22,7 @@ use Rattle.count.proofs.SumLemmas.{sum_by-same, sum_by-add, sum_by-none, sum-ran
 use Rattle.count.proofs.RestLemmas.{rest_passed, rest_again, suffix-self}
 use Rattle.count.proofs.ChoiceLemmas.{eqb_swap}
 
--- a function where the papers of c are passed on, and the others stay
+-- a function after the papers of c are passed on, while the others stay
 abbrev after_passing : (ℕ → List ℕ → ℕ → ℕ) → ℕ → (ℕ → Bool) → TransferRule → ℕ → List ℕ → ℕ → ℕ
 after_passing f c cont rule h rest v = cond (eqb h c) (at_passed f cont rule rest v) (f h rest v)
 
@@ -37,7 +37,7 @@ passed_choice f contest before c rule paper at true r e =
     ap (λ (rest : List ℕ). f (first_of left) rest (new_value rule at.value)) (rest_passed (is_continuing contest before) paper (λ d. d == c) r)
     ∙ ap (λ (h : ℕ). at_passed f (is_continuing contest before) rule (from_first (λ d. d == h) paper) at.value) (sym same)
 
--- a paper that is passed on lies whole at the preferences that are left of it
+-- a paper that is passed on is at its remaining preferences, as a whole
 passed_at : (f : ℕ → List ℕ → ℕ → ℕ) (contest : Contest) (before : History) (c : ℕ) (rule : TransferRule) (paper : List ℕ) (at : Place) → IsRanking paper →
     at_place f paper (passed_on contest before c paper at (new_value rule at.value)) ≡ at_place (after_passing f c (is_continuing contest before) rule) paper at
 passed_at f contest before c rule paper at r = passed_choice f contest before c rule paper at (eqb at.holder c) r refl
@@ -48,7 +48,7 @@ split_choice true false x y e = cc
 split_choice false true x y e = cc
 split_choice false false x y e = omega arith
 
--- what is passed on and what stays are all
+-- what is passed on and what stays together are everything
 total-split : (f : ℕ → List ℕ → ℕ → ℕ) (c : ℕ) (cont : ℕ → Bool) (rule : TransferRule) (holdings : List Holding) →
     total (after_passing f c cont rule) holdings ≡ total_passed f c cont rule holdings + total (kept_by f (Exclude c)) holdings
 total-split f c cont rule holdings =
@@ -61,7 +61,7 @@ total-split f c cont rule holdings =
     ∙ sum_by-add (λ (q : Holding). total_of (λ rest v. cond (eqb q.holder c) (at_passed f cont rule rest v) 0) q.parcels.items)
     (λ (q : Holding). total_of (λ rest v. cond (eqb c q.holder) 0 (f q.holder rest v)) q.parcels.items) holdings
 
--- Each action moves the papers to where they lie after it. On an exclusion and a surplus all of a candidate's papers go on;
+-- Each action moves the papers to their places after it. On an exclusion and a surplus all of a candidate's papers are transferred;
 pub moved-exclude : (contest : Contest) (before : History) (c : ℕ) (holdings new : List Holding) → AreRankings contest.papers → HoldPapers contest before holdings →
     ((f : ℕ → List ℕ → ℕ → ℕ) → total f new ≡ total_passed f c (is_continuing contest before) AsReceived holdings) → IsMovedBy contest before (Exclude c) holdings new
 moved-exclude contest before c holdings new rankings hold passed f s is =
@@ -84,7 +84,7 @@ moved-surplus contest before c holdings new rankings hold passed f s is =
     ∙ total-split f c (is_continuing contest before) rule holdings
     ∙ ap (λ n. n + total (kept_by f (Surplus c)) holdings) (sym (passed f))
 
--- at the first stage each paper goes whole to its first preference, and nothing was there before;
+-- at the first stage each paper is credited to its first preference, as a whole, and nothing was there before;
 pub moved-first : (contest : Contest) (before : History) (holdings new : List Holding) → AreRankings contest.papers → holdings ≡ [] →
     ((f : ℕ → List ℕ → ℕ → ℕ) → total f new ≡ sum_by (λ p. f (first_of p) p one_vote) contest.papers) → IsMovedBy contest before First holdings new
 moved-first contest before holdings new rankings none dealt f s is =
@@ -118,7 +118,7 @@ total-kept f action (q ∷ qs) =
     ∙ kept_choice f (passes_on action q.holder) q _ _ (total-kept f action qs)
     ∙ sym (sum_by-cons (λ (p : Holding). total_of (λ rest v. kept_by f action p.holder rest v) p.parcels.items) q qs)
 
--- the holdings that stay, and those that were made behind them
+-- the holdings that stay, followed by those that were made
 pub kept-append : (f : ℕ → List ℕ → ℕ → ℕ) (action : Action) (holdings left made new : List Holding) →
     left ≡ filter (λ q. not (passes_on action q.holder)) holdings → new ≡ left ++ made → total f new ≡ total f made + total (kept_by f action) holdings
 kept-append f action holdings left made new is all =

@@ -1,4 +1,4 @@
--- What is done at a stage, in words.
+-- The actions of stages, in words.
 use Rattle.std.specs.Prelude.{ℕ, List, ◌++◌, codes}
 use Rattle.std.specs.Fmt.{decimal}
 use Rattle.count.specs.declared.stages.Action.{Action}

@@ -1,4 +1,4 @@
--- How a book advances: the stage that comes next, and why there is none.
+-- How a book advances: the next stage, or the reason why there is none.
 use Rattle.std.specs.Prelude.{◌≡◌, ℕ, ◌+◌, if◌then◌else◌, List, ◌∷◌, length, Option, Some, None, nat_eq}
 use Rattle.std.specs.List.{list_any}
 use Rattle.count.specs.Law.Contest.{Contest, History}
@@ -10,27 +10,27 @@ use Rattle.count.specs.declared.stages.Due.{Due}
 use Rattle.count.specs.declared.stages.Due.TheVariants.{Act, Lot, Finished}
 use Rattle.count.specs.declared.book.AdvanceError.{AdvanceError}
 use Rattle.count.specs.declared.book.AdvanceError.TheVariants.{Finished as is_finished, LotNeeded, LotNotAmong}
-use Rattle.count.specs.declared.run.CountEnd.{CountEnd}
-use Rattle.count.specs.declared.run.CountEnd.TheVariants.{Finished as has_finished, LotNeeded as needs_lot, LotNotAmong as misses_lot}
+use Rattle.count.specs.declared.count_to_end.CountEnd.{CountEnd}
+use Rattle.count.specs.declared.count_to_end.CountEnd.TheVariants.{Finished as has_finished, LotNeeded as needs_lot, LotNotAmong as misses_lot}
 
--- why a book can't advance on what is due, where a lot is handed
+-- the reason why a book can't advance, by the lot passed and what is due
 abbrev pub refusal : Option ℕ → Due → Option AdvanceError
 refusal lot (Act action) = None
 refusal lot Finished = Some is_finished
 refusal None (Lot stage kind tied) = Some LotNeeded
 refusal (Some c) (Lot stage kind tied) = if list_any (nat_eq c) tied then None else Some LotNotAmong
 
--- a history with the one stage more that comes next, where a lot is handed
+-- a history with one more stage, which is next for the lot passed
 pub record Advances (contest : Contest) (old : History) (lot : Option ℕ) (new : History) : Type 0 where
   pub stage : Stage
   pub one_more : new ≡ stage ∷ old
   pub next : IsNext contest old lot stage
 
--- the same, by the recorded lots
+-- the same, with the recorded lots
 abbrev pub AdvancesBy : Contest → List (ℕ × ℕ) → History → History → Type 0
 AdvancesBy contest lots old new = Advances contest old (lot_for lots (length old + 1)) new
 
--- a history with one stage more, of an action
+-- a history with one more stage, which is that of an action
 pub record Adds (contest : Contest) (old : History) (action : Action) (new : History) : Type 0 where
   pub stage : Stage
   pub one_more : new ≡ stage ∷ old
@@ -42,13 +42,13 @@ pub record IsDue (contest : Contest) (stages : History) (action : Action) : Type
   pub lot : Option ℕ
   pub is : drawn contest stages lot (due_after contest stages) ≡ Some action
 
--- why a count ends on what is due, where a lot is handed, if it does
+-- the reason why a count ends, by the lot passed and what is due, if it does
 abbrev pub end_of : Option ℕ → Due → Option CountEnd
 end_of lot (Act action) = None
 end_of lot Finished = Some has_finished
 end_of None (Lot stage kind tied) = Some (needs_lot stage tied)
 end_of (Some c) (Lot stage kind tied) = if list_any (nat_eq c) tied then None else Some (misses_lot stage)
 
--- why a count ends after some stages, if it does
+-- the reason why a count ends after some stages, if it does
 abbrev pub end_after : Contest → List (ℕ × ℕ) → History → Option CountEnd
 end_after contest lots stages = end_of (lot_for lots (length stages + 1)) (due_after contest stages)

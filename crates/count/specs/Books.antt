@@ -1,4 +1,4 @@
--- What a book is to its callers.
+-- Books as their callers see them.
 use Rattle.std.specs.Prelude.{ℕ, List, [], ◌∷◌, ⊤}
 use Rattle.paper.specs.Ranking.{IsRanking}
 use Rattle.count.specs.Bundles.{Bundle}
@@ -11,22 +11,22 @@ use Rattle.count.specs.declared.terms.Terms.{Terms}
 abbrev pub contest_of : Terms → List (List ℕ) → Contest
 contest_of terms papers = record { candidates = terms.candidates; seats = terms.seats; quota = terms.quota; papers = papers }
 
--- each paper lists numbers of candidates, each once
+-- each paper ranks candidates without duplicates
 abbrev pub AreRankings : List (List ℕ) → Type 0
 AreRankings [] = ⊤
 AreRankings (paper ∷ papers) = IsRanking paper × AreRankings papers
 
--- a count that is under way, as a contract sees it
+-- a count in progress, in contracts
 pub record Book : Type 0 where
   pub contest : Contest
   pub history : History
 
--- a count that is under way on bundles, as a contract sees it
+-- a count in progress on bundles, in contracts
 pub record BundledBook : Type 0 where
   pub contest : Contest
   pub history : History
   pub bundles : List Bundle
 
--- a place, as a book by bundles hands it out and takes it
+-- a place, as returned and accepted by a book by bundles
 abbrev pub placed : Place → Placed
 placed at = record { holder = at.holder; value = at.value }

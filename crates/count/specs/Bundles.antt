@@ -1,4 +1,4 @@
--- Equal papers kept once: each list of preferences with the number of papers that have it.
+-- Equal papers stored once: each list of preferences with the number of papers that have it.
 use Rattle.std.specs.Prelude.{◌≡◌, ℕ, ◌+◌, ◌≤◌, List, [], ◌∷◌, length, map, fold, replicate}
 use Rattle.std.specs.List.{AllByRecursion, flat_map}
 use Rattle.std.specs.List.Sorted.{IsStrictlySortedBy, IsPermutation}
@@ -11,15 +11,15 @@ use Rattle.paper.specs.Ranking.{IsRanking}
 abbrev pub Bundle : Type 0
 Bundle = List ℕ × ℕ
 
--- the order of lists: by their numbers from the first on, a list before those that it begins
+-- the order of lists: lexicographic, with a prefix before the lists that it begins
 abbrev pub list_cmp : List ℕ → List ℕ → Ordering
 list_cmp = slice_cmp nat_cmp
 
--- the papers that bundles stand for: each list as often as its number says
+-- the papers that bundles represent: each list as often as its number of papers
 abbrev pub papers_of : List Bundle → List (List ℕ)
 papers_of bundles = flat_map (λ (b : Bundle). replicate b.1 b.0) bundles
 
--- bundles with more papers of one list: the number of its papers rises, or the list comes to its place with that number
+-- bundles with more papers of one list: the number of its papers increases, or the list is inserted in its place with that number
 abbrev pub with_papers : List Bundle → List ℕ → ℕ → List Bundle
 with_papers [] list n = (list, n) ∷ []
 with_papers (b ∷ bs) list n = match_ordering (list_cmp list b.0) ((list, n) ∷ b ∷ bs) ((b.0, b.1 + n) ∷ bs) (b ∷ with_papers bs list n)
@@ -28,15 +28,15 @@ with_papers (b ∷ bs) list n = match_ordering (list_cmp list b.0) ((list, n) �
 abbrev pub bundled : List (List ℕ) → List Bundle
 bundled papers = fold (λ bs paper. with_papers bs paper 1) [] papers
 
--- a bundle has a paper at least, and its list is one of preferences: some candidates, each once
+-- a bundle has at least one paper, and its list ranks at least one candidate without duplicates
 abbrev pub IsBundle : Bundle → Type 0
 IsBundle b = (1 ≤ b.1) × (1 ≤ length b.0) × IsRanking b.0
 
--- each list stands once, in its order, and is that of a paper at least
+-- the lists are in ascending order without duplicates, and each is that of at least one paper
 pub record AreBundles (bundles : List Bundle) : Type 0 where
   pub rise : IsStrictlySortedBy list_cmp (map (λ (b : Bundle). b.0) bundles)
   pub each : AllByRecursion IsBundle bundles
 
--- the order of the papers doesn't matter: no other bundles stand for the same papers
+-- the order of the papers makes no difference: no other bundles represent the same papers
 abbrev pub AreToldByPapers : List Bundle → Type 0
 AreToldByPapers bundles = (others : List Bundle) → AreBundles others → IsPermutation (papers_of others) (papers_of bundles) → others ≡ bundles

@@ -1,6 +1,6 @@
--- How books work within, how a kept count is looked at, and how stages are read back: what private functions promise one another. No public promise rests on these words.
+-- The internals of books, the checks on a stored count, and the parsing of stages: contracts between private functions. No public contract depends on these terms.
 pub mod Holdings
-pub mod Keeping
+pub mod BookInvariants
 pub mod Placing
 pub mod Resuming
 pub mod Reading

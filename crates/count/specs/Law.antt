@@ -1,4 +1,4 @@
--- The law of the count, paper by paper: what the Order asks of stages, whoever keeps the papers.
+-- The law of the count, paper by paper: what the Order requires of stages, however the papers are stored.
 pub mod Contest
 pub mod Elected
 pub mod Places

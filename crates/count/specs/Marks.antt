@@ -1,4 +1,4 @@
--- What a stage shows of each candidate: his votes, and how he stands.
+-- What a stage shows of each candidate: the votes, and a mark.
 use Rattle.std.specs.Prelude.{ℕ, ◌==◌, Bool, nat_eq, if◌then◌else◌, List, [], ◌∷◌, ◌++◌, map}
 use Rattle.std.specs.List.{list_any}
 use Rattle.count.specs.Law.Contest.{History, votes_at}
@@ -8,7 +8,7 @@ use Rattle.count.specs.declared.stages.Action.{Action}
 use Rattle.count.specs.declared.stages.Action.TheVariants.{First, Surplus, Exclude, ExcludeLast}
 use Rattle.count.specs.declared.stages.Stage.{Stage}
 
--- the number under which the non-transferable stands, and the one under which stands what is lost by fractions
+-- the numbers of the non-transferable, and of the loss by fractions
 abbrev pub no_candidate : ℕ
 no_candidate = 0
 
@@ -21,53 +21,53 @@ is_named stages c = list_any (λ (s : Stage). list_any (nat_eq c) s.elected) sta
 
 -- ---- marks
 
--- he continues; this is also the mark of what is no candidate's
+-- the candidate continues; also the mark of figures that aren't a candidate's
 abbrev pub continuing : ℕ
 continuing = 0
 
--- he is elected
+-- the candidate is elected
 abbrev pub elected : ℕ
 elected = 1
 
--- he was excluded at an earlier stage
+-- the candidate was excluded at an earlier stage
 abbrev pub excluded : ℕ
 excluded = 2
 
--- he is elected, and his surplus is transferred at this stage
+-- the candidate is elected, and the surplus is transferred at this stage
 abbrev pub surplus_now : ℕ
 surplus_now = 3
 
--- he is excluded at this stage, and his papers are transferred
+-- the candidate is excluded at this stage, and the candidate's papers are transferred
 abbrev pub excluded_now : ℕ
 excluded_now = 4
 
--- he is excluded at this stage, so that the last vacancies are filled, and nothing is transferred
+-- the candidate is excluded at this stage so that the last vacancies are filled, and nothing is transferred
 abbrev pub excluded_last : ℕ
 excluded_last = 5
 
--- the mark of c at a stage that doesn't act on him
+-- the mark of c at a stage that doesn't act on c
 abbrev pub standing_mark : History → ℕ → ℕ
 standing_mark stages c = if is_named stages c then elected else if is_excluded stages c then excluded else continuing
 
--- the mark of c at a stage of an action: that of the action, where it is on him; else the other mark
+-- the mark of c at the stage of an action: the action's if it is on c, otherwise the other mark
 abbrev pub mark_by : Action → ℕ → ℕ → ℕ
 mark_by First c other = other
 mark_by (Surplus d) c other = if d == c then surplus_now else other
 mark_by (Exclude d) c other = if d == c then excluded_now else other
 mark_by (ExcludeLast d) c other = if d == c then excluded_last else other
 
--- the figure of c at a stage that is the newest of some
+-- the figure of c at the newest of some stages
 abbrev pub figure_of : Stage → History → ℕ → Figure
 figure_of newest stages c = record { candidate = c; units = votes_at newest c; mark = mark_by newest.action c (standing_mark stages c) }
 
--- the figures of the newest of some stages: of the non-transferable, of each candidate in ascending order, and of what is lost
+-- the figures of the newest of some stages: of the non-transferable, of each candidate in ascending order, and of the loss by fractions
 abbrev pub figures_at : List ℕ → History → List Figure
 figures_at candidates [] = []
 figures_at candidates (s ∷ before) =
     record { candidate = no_candidate; units = s.non_transferable; mark = continuing }
     ∷ map (figure_of s (s ∷ before)) candidates ++ record { candidate = fractions; units = s.lost; mark = continuing } ∷ []
 
--- the figures of all stages, from the first on
+-- the figures of all stages, in order
 abbrev pub all_figures : List ℕ → History → List Figure
 all_figures candidates [] = []
 all_figures candidates (s ∷ before) = all_figures candidates before ++ figures_at candidates (s ∷ before)

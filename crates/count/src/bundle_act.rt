@@ -5,20 +5,20 @@ ghost use Rattle.std.specs.List.{AllByRecursion};
 ghost use Rattle.votes.specs.Units.{max_units};
 ghost use Rattle.count.specs.Advance.{Adds};
 ghost use Rattle.count.specs.Inside.Holdings.{newest_lost};
-ghost use Rattle.count.specs.Kept.{places_after};
+ghost use Rattle.count.specs.StoredCounts.{places_after};
 ghost use Rattle.count.specs.Inside.Placing.{contest_on, IsDueInBook, IsSound};
 
+use crate::bundle_figures::figured;
 use crate::bundles::Bundles;
 use crate::placed::Placed;
 use crate::places::moved_places;
-use crate::record::add_stage;
+use crate::stage_adding::add_stage;
 use crate::stages::{Action, Stage};
 use crate::terms::Terms;
-use crate::weights::figured;
 use std::alloc::{AllocError, Global};
 
-/// The places of bundles and the stages, as an action leaves them; the old ones stay as they are. An action that isn't due leaves
-/// places and a stage too, which are those of no count.
+/// Returns the places of the bundles and the stages after an action; the old ones are unchanged. For an action that isn't due, the
+/// result belongs to no count. `AllocError` if an allocation fails.
 pub fn acted_on_bundles(
     alloc: Global,
     terms: &Terms,

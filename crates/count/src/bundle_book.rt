@@ -22,8 +22,8 @@ use paper::Columns;
 use std::alloc::{AllocError, Global};
 use std::marker::Model;
 
-/// A count whose equal papers lie together: with one holder, at one value, since the rules read no more of
-/// a paper than its preferences. So a stage costs what the bundles are, not what the papers are.
+/// A count that stores equal papers as one bundle, with one holder and at one value. This is sound because the rules read nothing
+/// of a paper but its preferences. So the cost of a stage depends on the number of bundles, not of papers.
 #[derive(Drop)]
 pub struct BundleBook<'a> {
     alloc: Global,
@@ -45,8 +45,8 @@ impl<'a> Model for BundleBook<'a> {
     ghost invariant = { λ a. IsBundled (contest_on a.terms a.bundles.now) (reverse a.stages.items) a.bundles.now a.places.items };
 }
 
-/// The law of a count by bundles, for its callers. The bundles of some papers stand for just these papers, in another order.
-/// Where a count may be held on the papers, it may be held on those of the bundles. Its stages are the same, by whatever lots.
+/// The law of a count by bundles, for its callers. The bundles of some papers represent exactly these papers, in another order.
+/// If a contest can be held on the papers, it can be held on those of the bundles, with the same stages for any lots.
 #[tactic(auto, using(crate::proofs::OrderLemmas::bundled_alike))]
 pub fn bundles_count_alike()
     ensures papers { (papers : List (List ℕ)) → IsPermutation papers (papers_of (bundled papers)) }
@@ -57,10 +57,10 @@ pub fn bundles_count_alike()
 {}
 
 impl<'a> BundleBook<'a> {
-    /// A count with no stage yet.
+    /// Returns a count without stages; `AllocError` if an allocation fails.
     ///
-    /// There are to be more candidates than seats, 1 to `MAX_SEATS` seats, and preferences for candidates
-    /// only: `is_bundled_contest` is the test.
+    /// Requires more candidates than seats, 1 to `MAX_SEATS` seats, and preferences only for candidates; `bundles_can_be_counted` is the
+    /// test.
     pub fn new(
         alloc: Global,
         candidates: Columns,
@@ -80,11 +80,10 @@ impl<'a> BundleBook<'a> {
         })
     }
 
-    /// A count that goes on from where another stood: with its stages, and its bundles at the places that
-    /// they had after them.
+    /// Resumes a count with its stages so far, and the places of its bundles after them.
     ///
-    /// What `new` asks of candidates, seats and preferences is asked here too. The stages have to be right for these papers and
-    /// some lots. The places have to be those of the bundles after these stages, in their order.
+    /// The requirements of `new` for candidates, seats and preferences apply here too. The stages must be right for these papers and
+    /// some lots. The places must be those of the bundles after these stages, in the same order. `AllocError` if an allocation fails.
     pub fn resume(
         alloc: Global,
         candidates: Columns,
@@ -110,8 +109,8 @@ impl<'a> BundleBook<'a> {
         })
     }
 
-    /// Where the papers of each bundle lie after the stages so far, in the order of the bundles: with these
-    /// and its stages another book goes on. The bundles are still those of its papers.
+    /// Returns the places of the bundles after the stages so far, in the order of the bundles. With these and the stages another book
+    /// can resume. The bundles are still those of the papers.
     pub fn places(&self) -> &[Placed]
         ensures places { result.now ≡ map (λ b. placed (place_of self.now.contest self.now.history b.0)) self.now.bundles }
         ensures bundles { (bundles : List Bundle) → AreBundles bundles → IsPermutation (papers_of bundles) self.now.contest.papers → bundles ≡ self.now.bundles }
@@ -119,7 +118,7 @@ impl<'a> BundleBook<'a> {
         &self.places
     }
 
-    /// Where the papers of a bundle lie after the stages so far.
+    /// Returns the place of a bundle after the stages so far.
     pub fn place(&self, i: usize) -> Placed
         requires { i < length self.now.bundles }
         ensures { result ≡ placed (place_of self.now.contest self.now.history (slice_index_or self.now.bundles i ([], 0)).0) }

@@ -1,5 +1,6 @@
-//! Equal papers kept once: a tree from each list of preferences to the number of papers that have it. So a bundle is found by its list, and
-//! whoever walks over all of them does so in the order of their lists. The number of all papers stands beside the tree, and takes no walk.
+//! Equal papers stored once, in a tree that maps each list of preferences to the number of papers with it. A bundle is looked up by
+//! its list, and iteration is in the order of the lists. The total number of papers is stored next to the tree, and costs no
+//! iteration.
 
 ghost use Rattle.std.specs.Prelude.{◌≡◌, ℕ, ◌+◌, ◌<◌, ◌≤◌, List, [], ◌∷◌, ◌++◌, length, replicate, slice_get, Some, OnOk, OnErr};
 ghost use Rattle.std.specs.List.Sorted.{IsPermutation};
@@ -13,8 +14,8 @@ use std::collections::BTreeMap;
 use std::collections::btree_map::Iter;
 use std::marker::Model;
 
-/// Equal papers kept once, seen as the list of their bundles: each list of preferences with the number of
-/// papers that have it, 1 at least, in the order of the lists. They are `MAX_PAPERS` papers at most.
+/// Equal papers stored once, modelled as the list of their bundles: each list of preferences with the number of papers that have it,
+/// at least 1, in the order of the lists. They contain at most `MAX_PAPERS` papers.
 #[derive(Drop)]
 pub struct Bundles {
     lists: BTreeMap<Prefs, u32>,
@@ -34,7 +35,7 @@ impl Model for Bundles {
 }
 
 impl Bundles {
-    /// No papers. Takes no memory.
+    /// Returns no bundles. Allocates nothing.
     pub fn new(alloc: Global) -> Bundles
         ensures { result ≡ [] }
     {
@@ -44,8 +45,7 @@ impl Bundles {
         }
     }
 
-    /// One paper more; there are to be fewer than `MAX_PAPERS`. Memory is taken for a list that isn't
-    /// there yet; where it is refused, all is as it was.
+    /// Adds one paper; there must be fewer than `MAX_PAPERS`. Allocates only for a new list; if that fails, nothing is changed.
     pub fn add(&mut self, list: Prefs) -> Result<(), AllocError>
         requires { length (papers_of self.old) < max_papers }
         ensures ok { OnOk result (self.new ≡ with_papers self.old list 1) }
@@ -55,8 +55,8 @@ impl Bundles {
         self.add_papers(list, 1)
     }
 
-    /// So many equal papers more, 1 at least; with those that are there, `MAX_PAPERS` at most. Memory is
-    /// taken for a list that isn't there yet; where it is refused, all is as it was.
+    /// Adds one or more equal papers; the total may be at most `MAX_PAPERS`. Allocates only for a new list; if that fails, nothing is
+    /// changed.
     pub fn add_papers(&mut self, list: Prefs, papers: u32) -> Result<(), AllocError>
         requires some { 1 ≤ papers }
         requires few { length (papers_of self.old) + papers ≤ max_papers }
@@ -64,14 +64,14 @@ impl Bundles {
         ensures adds { OnOk result (IsPermutation (replicate papers list ++ papers_of self.old) (papers_of self.new)) }
         ensures err { OnErr result (self.new ≡ self.old) }
     {
-        // by its clauses the proof knows that the list has some candidates, each once
+        // the clauses of `first` tell the proof that the list is a nonempty ranking
         let _ = list.first();
         add_to(&mut self.lists, list, papers)?;
         self.papers += papers;
         Ok(())
     }
 
-    /// How many papers there are, equal ones counted each.
+    /// Returns the number of papers, counting equal ones separately.
     pub fn papers(&self) -> u32
         ensures is { result ≡ length (papers_of self.now) }
         ensures few { result ≤ max_papers }
@@ -79,7 +79,7 @@ impl Bundles {
         self.papers
     }
 
-    /// How many bundles there are.
+    /// Returns the number of bundles.
     pub fn len(&self) -> usize
         ensures is { result ≡ length self.now }
         ensures bundles { AreBundles self.now }
@@ -87,8 +87,8 @@ impl Bundles {
         self.lists.len()
     }
 
-    /// The bundle that stands at a place in the order of the lists: its list and its number of papers. It
-    /// is walked to from the first; to walk all of them, take `iter`.
+    /// Returns the bundle at a place in the order of the lists: its list and its number of papers. Walks from the first bundle; to
+    /// visit all of them, use `iter`.
     pub fn get(&self, i: usize) -> (&Prefs, u32)
         requires { i < length self.now }
         ensures { slice_get self.now i ≡ Some (result.0.now, result.1) }
@@ -97,8 +97,7 @@ impl Bundles {
         (list, *papers)
     }
 
-    /// The bundles in the order of their lists, lent. They are the same in whatever order their papers
-    /// were added.
+    /// Iterates over the bundles in the order of their lists, by reference. The order in which papers were added makes no difference.
     pub fn iter(&self) -> Iter<'_, Prefs, u32>
         ensures rest { result ≡ self.now }
         ensures runs { ShowsInOrder (deref_pair {K = List ℕ} {X = ℕ}) }
@@ -109,7 +108,7 @@ impl Bundles {
     }
 }
 
-/// So many papers more of a list in a tree. Where memory is refused, all is as it was.
+/// Adds equal papers to a tree. `AllocError` if an allocation fails; the tree is then unchanged.
 fn add_to(lists: &mut BTreeMap<Prefs, u32>, list: Prefs, papers: u32) -> Result<(), AllocError>
     requires { length (papers_of lists.old.entries) + papers ≤ max_papers }
     ensures ok { OnOk result (lists.new.entries ≡ with_papers lists.old.entries list papers) }

@@ -1,4 +1,4 @@
-//! Whether a count may be held.
+//! Whether a count can be held.
 
 ghost use Rattle.std.specs.Prelude.{◌≡◌, ◌↔◌, ◌≤◌, ◌<◌, true, length, IsTrue};
 ghost use Rattle.votes.specs.Units.{max_seats};
@@ -11,7 +11,7 @@ use crate::bundles::Bundles;
 use paper::{Columns, Prefs, Standing};
 use votes::{MAX_PAPERS, MAX_SEATS};
 
-/// Whether all preferences of a paper are for those who continue.
+/// Returns whether all preferences of a paper are for continuing candidates.
 fn is_for(standing: &Standing, preferences: &[u8]) -> bool
     ensures { IsTrue result ↔ AllByRecursion (λ c. is_continuing standing.now c ≡ true) preferences.now }
 {
@@ -23,8 +23,8 @@ fn is_for(standing: &Standing, preferences: &[u8]) -> bool
     true
 }
 
-/// Whether all preferences of all papers are for candidates. Each is one look at the standing in which
-/// all candidates continue.
+/// Returns whether all preferences of all papers are for candidates, with one lookup each, in the standing in which all candidates
+/// continue.
 fn are_for_candidates(candidates: &Columns, papers: &[Prefs]) -> bool
     ensures { IsTrue result ↔ AreForCandidates candidates.now papers.now }
 {
@@ -37,7 +37,7 @@ fn are_for_candidates(candidates: &Columns, papers: &[Prefs]) -> bool
     true
 }
 
-/// Whether all preferences of all papers of some bundles are for candidates, list by list.
+/// Returns whether all preferences of all papers of some bundles are for candidates, list by list.
 fn lists_are_for_candidates(candidates: &Columns, bundles: &Bundles) -> bool
     ensures { IsTrue result ↔ AreForCandidates candidates.now (papers_of bundles.now) }
 {
@@ -50,7 +50,7 @@ fn lists_are_for_candidates(candidates: &Columns, bundles: &Bundles) -> bool
     true
 }
 
-/// Whether there are 1 to `MAX_SEATS` seats, and more candidates than seats.
+/// Returns whether there are 1 to `MAX_SEATS` seats, and more candidates than seats.
 fn is_contested(candidates: &Columns, seats: u8) -> bool
     ensures { IsTrue result ↔ ((1 ≤ seats) × (seats ≤ max_seats) × (seats < length candidates.now)) }
 {
@@ -60,11 +60,10 @@ fn is_contested(candidates: &Columns, seats: u8) -> bool
     candidates.len() > usize::from(seats)
 }
 
-/// Whether a count may be held: seats 1 to `MAX_SEATS`, more candidates than seats, at most
-/// `MAX_PAPERS` papers, and preferences for candidates only. The limits are the office's own; within
-/// them the "Quota" and all votes are exact.
+/// Returns whether a count can be held: 1 to `MAX_SEATS` seats, more candidates than seats, at most `MAX_PAPERS` papers, and
+/// preferences only for candidates. The limits are the office's own; within them the "Quota" and all votes are exact.
 #[tactic(auto, using(crate::proofs::ContestLemmas::contests))]
-pub fn is_contest(candidates: &Columns, seats: u8, papers: &[Prefs]) -> bool
+pub fn can_be_counted(candidates: &Columns, seats: u8, papers: &[Prefs]) -> bool
     ensures { IsTrue result ↔ IsContest (contest_for candidates.now seats papers.now) }
 {
     if !is_contested(candidates, seats) || papers.len() > MAX_PAPERS as usize {
@@ -74,9 +73,9 @@ pub fn is_contest(candidates: &Columns, seats: u8, papers: &[Prefs]) -> bool
     are_for_candidates(candidates, papers)
 }
 
-/// The same for the papers of bundles, which are `MAX_PAPERS` at most: each list is looked at once.
+/// The same for the papers of bundles, which are at most `MAX_PAPERS`: each list is checked once.
 #[tactic(auto, using(crate::proofs::ContestLemmas::contests))]
-pub fn is_bundled_contest(candidates: &Columns, seats: u8, bundles: &Bundles) -> bool
+pub fn bundles_can_be_counted(candidates: &Columns, seats: u8, bundles: &Bundles) -> bool
     ensures { IsTrue result ↔ IsContest (contest_for candidates.now seats (papers_of bundles.now)) }
 {
     if !is_contested(candidates, seats) {

@@ -8,14 +8,14 @@ ghost use Rattle.count.specs.Advance.{refusal};
 ghost use Rattle.count.specs.Books.{contest_of};
 
 use crate::book::AdvanceError;
+use crate::count_to_end::lot_at;
 use crate::elected::{continuing, elected, vacancies, with_surplus};
-use crate::run::lot_at;
 use crate::stages::{Action, Due, Stage, TiedFor};
 use crate::terms::Terms;
 use crate::ties::{highest, lowest};
 use paper::Columns;
 
-/// The exclusion of a candidate.
+/// Returns the exclusion of a candidate.
 fn exclusion(terms: &Terms, stages: &[Stage], c: u8) -> Action
     ensures { result ≡ exclusion_of (contest_of terms.now []) (reverse stages.now) c }
 {
@@ -25,7 +25,7 @@ fn exclusion(terms: &Terms, stages: &[Stage], c: u8) -> Action
     Action::Exclude(c)
 }
 
-/// The action of a kind on a candidate.
+/// Returns the action on a candidate, by what the group was chosen for.
 fn action_on(terms: &Terms, stages: &[Stage], kind: TiedFor, c: u8) -> Action
     ensures { result ≡ action_on_of (contest_of terms.now []) (reverse stages.now) kind c }
 {
@@ -35,7 +35,7 @@ fn action_on(terms: &Terms, stages: &[Stage], kind: TiedFor, c: u8) -> Action
     }
 }
 
-/// The action on the one candidate of a group, else a lot among those in it.
+/// Returns the action on the only candidate of a group, otherwise a lot among its members.
 #[tactic(auto, using(crate::proofs::Law::DueLemmas::among_sizes))]
 fn among(terms: &Terms, stages: &[Stage], kind: TiedFor, group: &Columns) -> Due
     requires few { length stages.now < 255 }
@@ -51,7 +51,7 @@ fn among(terms: &Terms, stages: &[Stage], kind: TiedFor, group: &Columns) -> Due
     }
 }
 
-/// What is due while a vacancy is left, where these have a surplus.
+/// Returns what is due while vacancies remain, if this group has surpluses.
 #[tactic(auto, using(crate::proofs::Law::DueLemmas::due_sizes))]
 fn due_for(terms: &Terms, stages: &[Stage], group: &Columns) -> Due
     requires few { length stages.now < 255 }
@@ -64,7 +64,7 @@ fn due_for(terms: &Terms, stages: &[Stage], group: &Columns) -> Due
     among(terms, stages, TiedFor::Surplus, &highest(stages, group))
 }
 
-/// What is due after some stages, whatever the papers: they aren't read.
+/// Returns what is due after some stages. Independent of the papers, which aren't read.
 pub fn due(terms: &Terms, stages: &[Stage]) -> Due
     requires few { length stages.now < 255 }
     ensures { (papers : List (List ℕ)) → result ≡ due_after (contest_of terms.now papers) (reverse stages.now) }
@@ -81,14 +81,14 @@ pub fn due(terms: &Terms, stages: &[Stage]) -> Due
     }
 }
 
-/// The candidates who are elected, whatever the papers: they aren't read.
+/// Returns the elected candidates. Independent of the papers, which aren't read.
 pub fn elected_with(terms: &Terms, stages: &[Stage]) -> Columns
     ensures { (papers : List (List ℕ)) → result ≡ elected_after (contest_of terms.now papers) (reverse stages.now) }
 {
     elected(terms, stages)
 }
 
-/// The action that is due, where a lot is handed, whatever the papers: they aren't read.
+/// Returns the action due, with this lot. Independent of the papers, which aren't read.
 pub fn action_by(terms: &Terms, stages: &[Stage], lot: Option<u8>) -> Result<Action, AdvanceError>
     requires few { length stages.now < 255 }
     ensures ok { IfOk result (λ a. (papers : List (List ℕ)) → drawn (contest_of terms.now papers) (reverse stages.now) lot (due_after (contest_of terms.now papers) (reverse stages.now)) ≡ Some a) }
@@ -109,7 +109,7 @@ pub fn action_by(terms: &Terms, stages: &[Stage], lot: Option<u8>) -> Result<Act
     }
 }
 
-/// The action that comes next by the recorded lots, where there is one, whatever the papers: they aren't read.
+/// Returns the next action by the recorded lots, if there is one. Independent of the papers, which aren't read.
 #[tactic(auto, using(crate::proofs::Law::CountLemmas::refused_none))]
 pub fn next_action(terms: &Terms, stages: &[Stage], lots: &[(u8, u8)]) -> Option<Action>
     requires few { length stages.now < 255 }
@@ -121,7 +121,7 @@ pub fn next_action(terms: &Terms, stages: &[Stage], lots: &[(u8, u8)]) -> Option
     }
 }
 
-/// What is due by the recorded lots, whatever the papers: they aren't read.
+/// Returns what is due by the recorded lots. Independent of the papers, which aren't read.
 pub fn due_with(terms: &Terms, stages: &[Stage], lots: &[(u8, u8)]) -> Due
     requires few { length stages.now < 255 }
     ensures { (papers : List (List ℕ)) → result ≡ due_by (contest_of terms.now papers) lots.now (reverse stages.now) }

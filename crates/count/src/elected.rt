@@ -1,4 +1,4 @@
-//! Who has reached the quota, is elected, continues or has a surplus after some stages.
+//! The candidates who have reached the quota, are elected, continue or have a surplus after some stages.
 
 ghost use Rattle.std.specs.Prelude.{◌≡◌, ℕ, ◌≤◌, Bool, ◌&&◌, ◌||◌, not, [], reverse, nat_lt, nat_eq};
 ghost use Rattle.paper.specs.Columns.{max_candidates};
@@ -16,7 +16,7 @@ use crate::terms::Terms;
 use paper::{Columns, Standing};
 use votes::Votes;
 
-/// A candidate's votes after a stage.
+/// Returns a candidate's votes after a stage.
 pub fn votes_after(stage: &Stage, c: u8) -> Votes
     requires some { 1 ≤ c }
     requires few { c ≤ max_candidates }
@@ -25,7 +25,7 @@ pub fn votes_after(stage: &Stage, c: u8) -> Votes
     stage.votes[usize::from(c - 1)]
 }
 
-/// A candidate's votes after the newest stage, none before the first.
+/// Returns a candidate's votes after the newest stage; none before the first.
 pub fn newest_votes(stages: &[Stage], c: u8) -> Votes
     requires some { 1 ≤ c }
     requires few { c ≤ max_candidates }
@@ -37,7 +37,7 @@ pub fn newest_votes(stages: &[Stage], c: u8) -> Votes
     }
 }
 
-/// Whether a candidate's votes were the quota or more at some stage.
+/// Returns whether a candidate's votes reached the quota at some stage.
 fn has_reached(terms: &Terms, stages: &[Stage], c: u8) -> bool
     requires some { 1 ≤ c }
     requires few { c ≤ max_candidates }
@@ -47,7 +47,7 @@ fn has_reached(terms: &Terms, stages: &[Stage], c: u8) -> bool
 }
 
 impl Action {
-    /// Whether it excludes a candidate.
+    /// Returns whether the action excludes a candidate.
     pub fn excludes(&self, c: u8) -> bool
         ensures { result ≡ excludes_of self.now c }
     {
@@ -57,7 +57,7 @@ impl Action {
         }
     }
 
-    /// Whether it transfers the surplus of a candidate.
+    /// Returns whether the action transfers a candidate's surplus.
     fn transfers(&self, c: u8) -> bool
         ensures { result ≡ transfers_of self.now c }
     {
@@ -68,21 +68,21 @@ impl Action {
     }
 }
 
-/// Whether a candidate has been excluded.
+/// Returns whether a candidate has been excluded.
 pub fn is_excluded(stages: &[Stage], c: u8) -> bool
     ensures { result ≡ is_excluded_of (reverse stages.now) c }
 {
     stages.iter().any(|stage| stage.action.excludes(c))
 }
 
-/// Whether the surplus of a candidate has been transferred.
+/// Returns whether a candidate's surplus has been transferred.
 fn is_transferred(stages: &[Stage], c: u8) -> bool
     ensures { result ≡ is_transferred_of (reverse stages.now) c }
 {
     stages.iter().any(|stage| stage.action.transfers(c))
 }
 
-/// Whether the surplus of a candidate has been transferred after one action more.
+/// Returns whether a candidate's surplus has been transferred, including by one more action.
 pub fn is_transferred_with(stages: &[Stage], action: &Action, c: u8) -> bool
     ensures { result ≡ (transfers_of action.now c || is_transferred_of (reverse stages.now) c) }
 {
@@ -92,7 +92,7 @@ pub fn is_transferred_with(stages: &[Stage], action: &Action, c: u8) -> bool
     is_transferred(stages, c)
 }
 
-/// Those of a set who pass a test.
+/// Returns the members of a set that pass a test.
 pub fn those<F: Fn(u8) -> bool>(set: &Columns, passes: F) -> Columns
     requires { (c : ℕ) → 1 ≤ c → c ≤ max_candidates → F.pre passes c }
     ensures { (test : ℕ → Bool) → ((c : ℕ) (passed : Bool) → 1 ≤ c → c ≤ max_candidates → F.post passes c passed → passed ≡ test c) → result ≡ filter test set.now }
@@ -106,7 +106,7 @@ pub fn those<F: Fn(u8) -> bool>(set: &Columns, passes: F) -> Columns
     chosen
 }
 
-/// Whether one of a set passes a test.
+/// Returns whether a member of a set passes a test.
 pub fn has_one<F: Fn(u8) -> bool>(set: &Columns, passes: F) -> bool
     requires { (c : ℕ) → 1 ≤ c → c ≤ max_candidates → F.pre passes c }
     ensures { (test : ℕ → Bool) → ((c : ℕ) (passed : Bool) → 1 ≤ c → c ≤ max_candidates → F.post passes c passed → passed ≡ test c) → result ≡ list_any test set.now }
@@ -119,14 +119,14 @@ pub fn has_one<F: Fn(u8) -> bool>(set: &Columns, passes: F) -> bool
     false
 }
 
-/// The candidates who have reached the quota.
+/// Returns the candidates who have reached the quota.
 fn with_quota(terms: &Terms, stages: &[Stage]) -> Columns
     ensures { result ≡ with_quota_of (contest_of terms.now []) (reverse stages.now) }
 {
     those(&terms.candidates, |c| has_reached(terms, stages, c))
 }
 
-/// Whether a candidate has neither reached the quota nor been excluded.
+/// Returns whether a candidate has neither reached the quota nor been excluded.
 fn is_undecided(terms: &Terms, stages: &[Stage], c: u8) -> bool
     requires some { 1 ≤ c }
     requires few { c ≤ max_candidates }
@@ -138,21 +138,21 @@ fn is_undecided(terms: &Terms, stages: &[Stage], c: u8) -> bool
     !is_excluded(stages, c)
 }
 
-/// The candidates who have neither reached the quota nor been excluded.
+/// Returns the candidates who have neither reached the quota nor been excluded.
 fn undecided(terms: &Terms, stages: &[Stage]) -> Columns
     ensures { result ≡ undecided_of (contest_of terms.now []) (reverse stages.now) }
 {
     those(&terms.candidates, |c| is_undecided(terms, stages, c))
 }
 
-/// Whether the undecided are as many as the seats that are left.
+/// Returns whether there are as many undecided candidates as remaining seats.
 fn undecided_fill(terms: &Terms, stages: &[Stage]) -> bool
     ensures { result ≡ fill_of (contest_of terms.now []) (reverse stages.now) }
 {
     with_quota(terms, stages).len() + undecided(terms, stages).len() == usize::from(terms.seats)
 }
 
-/// Whether a candidate is elected, where it is known whether the undecided fill the seats.
+/// Returns whether a candidate is elected, given whether the undecided fill the seats.
 fn is_elected(terms: &Terms, stages: &[Stage], fill: bool, c: u8) -> bool
     requires some { 1 ≤ c }
     requires few { c ≤ max_candidates }
@@ -167,7 +167,7 @@ fn is_elected(terms: &Terms, stages: &[Stage], fill: bool, c: u8) -> bool
     false
 }
 
-/// The candidates who are elected.
+/// Returns the elected candidates.
 pub fn elected(terms: &Terms, stages: &[Stage]) -> Columns
     ensures { result ≡ elected_after (contest_of terms.now []) (reverse stages.now) }
 {
@@ -175,7 +175,7 @@ pub fn elected(terms: &Terms, stages: &[Stage]) -> Columns
     those(&terms.candidates, |c| is_elected(terms, stages, fill, c))
 }
 
-/// Whether a candidate continues, where it is known whether the undecided fill the seats.
+/// Returns whether a candidate continues, given whether the undecided fill the seats.
 fn is_continuing(terms: &Terms, stages: &[Stage], fill: bool, c: u8) -> bool
     requires some { 1 ≤ c }
     requires few { c ≤ max_candidates }
@@ -187,7 +187,7 @@ fn is_continuing(terms: &Terms, stages: &[Stage], fill: bool, c: u8) -> bool
     !is_excluded(stages, c)
 }
 
-/// The candidates who continue: neither elected nor excluded.
+/// Returns the continuing candidates: neither elected nor excluded.
 pub fn continuing(terms: &Terms, stages: &[Stage]) -> Columns
     ensures { result ≡ continuing_after (contest_of terms.now []) (reverse stages.now) }
 {
@@ -195,7 +195,7 @@ pub fn continuing(terms: &Terms, stages: &[Stage]) -> Columns
     those(&terms.candidates, |c| is_continuing(terms, stages, fill, c))
 }
 
-/// How the candidates stand, as far as the next available preference asks: who continues.
+/// Returns the standing of the candidates as far as the next available preference depends on it: who continues.
 #[tactic(auto, using(crate::proofs::ColumnLemmas::only_columns))]
 pub fn standing(terms: &Terms, stages: &[Stage]) -> Standing
     ensures is { (c : ℕ) → continues_of result c ≡ is_continuing_of (contest_of terms.now []) (reverse stages.now) c }
@@ -208,21 +208,21 @@ pub fn standing(terms: &Terms, stages: &[Stage]) -> Standing
     )
 }
 
-/// The seats that are left.
+/// Returns the number of remaining seats.
 pub fn vacancies(terms: &Terms, stages: &[Stage]) -> usize
     ensures { result ≡ vacancies_after (contest_of terms.now []) (reverse stages.now) }
 {
     usize::from(terms.seats).saturating_sub(elected(terms, stages).len())
 }
 
-/// The elected who have more than the quota after a stage.
+/// Returns the elected candidates with more than the quota after a stage.
 pub fn with_surplus(elected: &Columns, quota: Votes, newest: &Stage) -> Columns
     ensures { result ≡ filter (λ c. nat_lt quota (votes_at newest.now c)) elected.now }
 {
     those(elected, |c| quota.units() < votes_after(newest, c).units())
 }
 
-/// Those of a set who are not in another.
+/// Returns the members of a set that aren't in another.
 pub fn without(set: &Columns, others: &Columns) -> Columns
     ensures { result ≡ filter (λ c. not (list_any (nat_eq c) others.now)) set.now }
 {

@@ -1,4 +1,4 @@
-//! The figures that a stage shows, of each candidate one, and stages read back from them.
+//! The figures that a stage shows, one for each candidate, and parsing stages from them.
 
 ghost use Rattle.std.specs.Prelude.{◌≡◌, ℕ, ◌+◌, ◌≤◌, [], ◌∷◌, ◌++◌, length, map, reverse, IfOk, IfSome, IsSome, OnOk};
 ghost use Rattle.paper.specs.Columns.{max_candidates};
@@ -14,34 +14,33 @@ use paper::{Columns, MAX_CANDIDATES};
 use std::alloc::{AllocError, Global};
 use votes::Votes;
 
-/// The number under which the non-transferable stands among a stage's figures.
+/// The number of the non-transferable among a stage's figures.
 pub const NO_CANDIDATE: u32 = 0;
 
-/// The number under which stands what is lost by fractions.
+/// The number of the loss by fractions among a stage's figures.
 pub const FRACTIONS: u32 = 99;
 
-/// The mark of a candidate who continues, and of what is no candidate's.
+/// The mark of a continuing candidate, and of figures that aren't a candidate's.
 const CONTINUING: u32 = 0;
 
-/// The mark of one who is elected.
+/// The mark of an elected candidate.
 const ELECTED: u32 = 1;
 
-/// The mark of one who was excluded at an earlier stage.
+/// The mark of a candidate excluded at an earlier stage.
 const EXCLUDED: u32 = 2;
 
-/// The mark of one who is elected, and whose surplus is transferred at this stage.
+/// The mark of an elected candidate whose surplus is transferred at this stage.
 const SURPLUS_NOW: u32 = 3;
 
-/// The mark of one who is excluded at this stage, and whose papers are transferred.
+/// The mark of a candidate excluded at this stage, whose papers are transferred.
 const EXCLUDED_NOW: u32 = 4;
 
-/// The mark of one who is excluded at this stage, so that the last vacancies are filled.
+/// The mark of a candidate excluded at this stage so that the last vacancies are filled.
 const EXCLUDED_LAST: u32 = 5;
 
-/// A figure of a stage: of a candidate his votes, in units, and his mark. Marks are 0 continuing, 1 elected,
-/// 2 excluded earlier, 3 elected and his surplus is transferred at this stage, 4 excluded at this stage with
-/// transfer, 5 excluded at this stage without. Under `NO_CANDIDATE` stands the non-transferable, and under
-/// `FRACTIONS` what is lost, both with mark 0.
+/// A figure of a stage: a candidate's votes, in units, and mark. Marks are 0 continuing, 1 elected, 2 excluded earlier, 3 elected
+/// with the surplus transferred at this stage, 4 excluded at this stage with transfer, 5 excluded at this stage without. The
+/// figures of the non-transferable, `NO_CANDIDATE`, and of the loss by fractions, `FRACTIONS`, have mark 0.
 #[derive(Clone, Copy, PartialEq, Eq)]
 pub struct Figure {
     pub candidate: u32,
@@ -49,14 +48,14 @@ pub struct Figure {
     pub mark: u32,
 }
 
-/// Whether a candidate was named as elected at some stage.
+/// Returns whether a candidate was named as elected at some stage.
 fn is_named(stages: &[Stage], c: u8) -> bool
     ensures { result ≡ is_named_of (reverse stages.now) c }
 {
     stages.iter().any(|stage| stage.elected.has(c))
 }
 
-/// The mark of a candidate at a stage that doesn't act on him.
+/// Returns the mark of a candidate at a stage that doesn't act on the candidate.
 fn standing_mark(stages: &[Stage], c: u8) -> u32
     ensures { result ≡ standing_mark_of (reverse stages.now) c }
 {
@@ -69,7 +68,7 @@ fn standing_mark(stages: &[Stage], c: u8) -> u32
     CONTINUING
 }
 
-/// The mark of a candidate at a stage of an action: that of the action, where it is on him; else the other mark.
+/// Returns the mark of a candidate at the stage of an action: the action's if it is on the candidate, otherwise the other mark.
 fn mark_by(action: &Action, c: u8, other: u32) -> u32
     ensures { result ≡ mark_by_of action.now c other }
 {
@@ -81,7 +80,7 @@ fn mark_by(action: &Action, c: u8, other: u32) -> u32
     }
 }
 
-/// The figure of a candidate at the newest of some stages.
+/// Returns the figure of a candidate at the newest of some stages.
 fn figure_of(newest: &Stage, stages: &[Stage], c: u8) -> Figure
     requires some { 1 ≤ c }
     requires few { c ≤ max_candidates }
@@ -94,8 +93,8 @@ fn figure_of(newest: &Stage, stages: &[Stage], c: u8) -> Figure
     }
 }
 
-/// The figures of the last of some stages: of the non-transferable, of each candidate in ascending order, and
-/// of what is lost. No figure where there is no stage. An error is want of memory.
+/// Returns the figures of the last of some stages: of the non-transferable, of each candidate in ascending order, and of the loss by
+/// fractions. Empty if there is no stage. `AllocError` if an allocation fails.
 pub fn figures_of(
     alloc: Global,
     candidates: &Columns,
@@ -123,14 +122,14 @@ pub fn figures_of(
     Ok(figures)
 }
 
-/// Whether a mark is that of one who is elected.
+/// Returns whether a mark is that of an elected candidate.
 fn is_elected_mark(mark: u32) -> bool
     ensures { result ≡ is_elected_mark_of mark }
 {
     mark == ELECTED || mark == SURPLUS_NOW
 }
 
-/// The candidates who are marked as elected.
+/// Returns the candidates who are marked as elected.
 fn elected_in(candidates: &Columns, figures: &[Figure]) -> Columns
     requires { length figures.now ≡ length candidates.now }
     ensures { (f : ℕ → Figure) → figures.now ≡ map f candidates.now → result ≡ elected_shown f candidates.now }
@@ -144,7 +143,7 @@ fn elected_in(candidates: &Columns, figures: &[Figure]) -> Columns
     chosen
 }
 
-/// The votes of all numbers, none for those that are no candidates.
+/// Returns the votes of all numbers; none for those that aren't candidates.
 fn votes_in(candidates: &Columns, figures: &[Figure]) -> [Votes; MAX_CANDIDATES]
     requires { length figures.now ≡ length candidates.now }
     ensures { (f : ℕ → Figure) → figures.now ≡ map f candidates.now → result ≡ votes_shown f candidates.now }
@@ -156,7 +155,7 @@ fn votes_in(candidates: &Columns, figures: &[Figure]) -> [Votes; MAX_CANDIDATES]
     votes
 }
 
-/// The action on a candidate that his mark shows, where it shows one.
+/// Returns the action that a candidate's mark shows, if it shows one.
 fn action_by(mark: u32, c: u8) -> Option<Action>
     ensures { result ≡ action_by_mark mark c }
 {
@@ -168,7 +167,7 @@ fn action_by(mark: u32, c: u8) -> Option<Action>
     }
 }
 
-/// The action that the candidates' marks show; where none does, the first stage's.
+/// Returns the action that the candidates' marks show; if none does, the action of the first stage.
 fn action_in(candidates: &Columns, figures: &[Figure]) -> Action
     requires { length figures.now ≡ length candidates.now }
     ensures { (f : ℕ → Figure) → figures.now ≡ map f candidates.now → result ≡ action_shown f candidates.now }
@@ -182,8 +181,8 @@ fn action_in(candidates: &Columns, figures: &[Figure]) -> Action
     Action::First
 }
 
-/// Reads the stage that its figures show, and puts it behind those before it. The elected are those after the
-/// stages before, and then those after this one.
+/// Appends the stage that its figures show. The elected candidates are those after the earlier stages, and are updated to those
+/// after this one.
 fn push_stage(
     candidates: &Columns,
     figures: &[Figure],
@@ -202,7 +201,7 @@ fn push_stage(
     stages.push(Stage {
         action: action_in(candidates, shown),
         votes: votes_in(candidates, shown),
-        // the elected stay elected, so whoever wasn't before is newly elected
+        // the elected stay elected, so those not elected before are newly elected
         elected: without(&now, elected),
         non_transferable: Votes::from_units(figures[0].units),
         lost: Votes::from_units(figures[last].units),
@@ -211,9 +210,9 @@ fn push_stage(
     Ok(())
 }
 
-/// The stages whose figures these are, from those of the first stage on. Each stage has as many figures as there are candidates,
-/// and two more. None where there are too few or too many figures for that. The figures of a count with these candidates give all
-/// its stages; others give what their marks and units come to. An error is want of memory.
+/// Returns the stages with these figures, in order. Each stage has two figures more than there are candidates; `None` if there are
+/// too few or too many figures for that. The figures of a count with these candidates yield all its stages. Other figures yield
+/// whatever their marks and units mean. `AllocError` if an allocation fails.
 pub fn stages_of_figures(
     alloc: Global,
     candidates: &Columns,

@@ -1,4 +1,4 @@
-//! Moving the papers that an action takes from their holder.
+//! Moving the papers that an action transfers from their holder.
 
 ghost use Rattle.std.specs.Prelude.{◌≡◌, ℕ, ◌+◌, ◌-◌, ◌<◌, ◌≤◌, List, not, reverse, vec_len, vec_capacity, IfOk, OnOk};
 ghost use Rattle.std.specs.List.{filter};
@@ -6,18 +6,18 @@ ghost use Rattle.votes.specs.Units.{max_units};
 ghost use Rattle.count.specs.Advance.{IsDue};
 ghost use Rattle.count.specs.Inside.Holdings.{total, passes_on as passes_on_of, kept_by, IsTransferRule};
 ghost use Rattle.count.specs.Books.{contest_of, AreRankings};
-ghost use Rattle.count.specs.Inside.Keeping.{IsMovedBy, IsBook};
+ghost use Rattle.count.specs.Inside.BookInvariants.{IsMovedBy, IsBook};
 
 use crate::elected::{newest_votes, standing};
 use crate::parcel::{Holding, TransferRule};
-use crate::sorting::{first_holdings, pass_on};
+use crate::sorting_papers::{first_holdings, pass_on};
 use crate::stages::{Action, Stage};
 use crate::terms::Terms;
 use paper::Prefs;
 use std::alloc::{AllocError, Global};
 use votes::Votes;
 
-/// What a surplus does to values: it multiplies each by the ratio of the surplus to the votes credited, and cuts it down.
+/// Returns the rule for values on a surplus: each is multiplied by the ratio of the surplus to the votes credited, and rounded down.
 pub fn surplus_rule(quota: Votes, credited: Votes) -> TransferRule
     requires some { 0 < quota }
     requires above { quota < credited }
@@ -29,7 +29,7 @@ pub fn surplus_rule(quota: Votes, credited: Votes) -> TransferRule
     TransferRule::Share { surplus, credited }
 }
 
-/// The holdings of the papers that a due action moves, at their new holders and values.
+/// Returns the holdings of the papers that the action due moves, with their new holders and values.
 pub fn moved_by<'a>(
     alloc: Global,
     terms: &Terms,
@@ -67,7 +67,7 @@ pub fn moved_by<'a>(
     }
 }
 
-/// Whether an action passes on the papers of a holder.
+/// Returns whether an action passes on the papers of a holder.
 pub fn passes_on(action: &Action, holder: u8) -> bool
     ensures { result ≡ passes_on_of action.now holder }
 {
@@ -77,7 +77,7 @@ pub fn passes_on(action: &Action, holder: u8) -> bool
     }
 }
 
-/// Leaves out the holdings whose papers an action passes on.
+/// Removes the holdings whose papers an action passes on.
 fn leave_out<'a>(holdings: &mut Vec<Holding<'a>>, action: &Action)
     ensures kept { holdings.new.items ≡ filter (λ holding. not (passes_on_of action.now holding.holder)) holdings.old.items }
     ensures capacity { vec_capacity holdings.new ≡ vec_capacity holdings.old }
@@ -86,7 +86,7 @@ fn leave_out<'a>(holdings: &mut Vec<Holding<'a>>, action: &Action)
     holdings.retain(|holding| !passes_on(action, holding.holder));
 }
 
-/// Puts the holdings that an action made in the place of those whose papers it passed on.
+/// Replaces the holdings whose papers an action passed on with those that it made.
 pub fn replace<'a>(holdings: &mut Vec<Holding<'a>>, action: &Action, moved: Vec<Holding<'a>>)
     requires { vec_len holdings.old + vec_len moved ≤ vec_capacity holdings.old }
     ensures { (f : ℕ → List ℕ → ℕ → ℕ) → total f holdings.new.items ≡ total f moved.entry.items + total (kept_by f action.now) holdings.old.items }

@@ -5,7 +5,7 @@ ghost use Rattle.votes.specs.Units.{one_vote};
 
 use votes::Votes;
 
-/// Papers that were received at one value: of each the preferences from its holder's on.
+/// Papers that were received at one value: of each, the preferences from its holder's on.
 #[derive(Drop)]
 pub struct Parcel<'a> {
     pub value: Votes,
@@ -13,18 +13,18 @@ pub struct Parcel<'a> {
     ghost small: { value ≤ one_vote },
 }
 
-/// The parcels that one stage brought to a candidate, or with 0 to no one.
+/// The parcels that one stage brought to a candidate, or to no one if the number is 0.
 #[derive(Drop)]
 pub struct Holding<'a> {
     pub holder: u8,
     pub parcels: Vec<Parcel<'a>>,
 }
 
-/// What becomes of the value of a paper that is passed on ("Transfer values").
+/// The rule for the value of a paper that is passed on ("Transfer values").
 #[derive(Clone, Copy)]
 pub enum TransferRule {
-    /// It keeps the value at which it was received.
+    /// The paper keeps the value at which it was received.
     AsReceived,
-    /// Its value is cut by the part that the surplus is of the votes credited.
+    /// The value is multiplied by the ratio of the surplus to the votes credited, and rounded down.
     Share { surplus: Votes, credited: Votes },
 }

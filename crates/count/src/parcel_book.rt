@@ -3,10 +3,10 @@
 ghost use Rattle.std.specs.Prelude.{◌≡◌, [], IfOk};
 ghost use Rattle.count.specs.Law.Contest.{contest_for, IsContest};
 
-use crate::act::act;
 use crate::book::{AdvanceError, CountBook};
 use crate::due::{action_by, due, elected_with};
 use crate::parcel::Holding;
+use crate::parcel_act::act;
 use crate::stages::{Action, Due, Stage};
 use crate::terms::Terms;
 use paper::{Columns, Prefs};
@@ -14,8 +14,8 @@ use std::alloc::{AllocError, Global};
 use std::marker::Model;
 use votes::quota;
 
-/// A count whose papers lie in parcels, as "Transfer of ballot papers" and "Exclusion of candidates" have them sorted. Each
-/// parcel holds preferences that are lent to it, from the place of their holder on, at the value at which they were received.
+/// A count whose papers are sorted into parcels, as in "Transfer of ballot papers" and "Exclusion of candidates". Each parcel borrows
+/// preferences, from that for their holder on, at the value at which they were received.
 #[derive(Drop)]
 pub struct ParcelBook<'a> {
     alloc: Global,
@@ -28,7 +28,7 @@ pub struct ParcelBook<'a> {
 impl<'a> Model for ParcelBook<'a> {
     ghost use Rattle.std.specs.Prelude.{reverse};
     ghost use Rattle.count.specs.Books.{Book, contest_of};
-    ghost use Rattle.count.specs.Inside.Keeping.{IsBook};
+    ghost use Rattle.count.specs.Inside.BookInvariants.{IsBook};
 
     ghost Value = { Book };
 
@@ -38,10 +38,10 @@ impl<'a> Model for ParcelBook<'a> {
 }
 
 impl<'a> ParcelBook<'a> {
-    /// A count with no stage yet.
+    /// Returns a count without stages; `AllocError` if an allocation fails.
     ///
-    /// There are to be more candidates than seats, 1 to `MAX_SEATS` seats, preferences for candidates
-    /// only, and at most `MAX_PAPERS` papers: `is_contest` is the test.
+    /// Requires more candidates than seats, 1 to `MAX_SEATS` seats, preferences only for candidates, and at most `MAX_PAPERS` papers;
+    /// `can_be_counted` is the test.
     pub fn new(
         alloc: Global,
         candidates: Columns,

@@ -1,11 +1,11 @@
-//! Where the papers of a bundle lie.
+//! The place of a bundle's papers.
 
 use votes::Votes;
 
-/// Where the papers of one list of preferences lie after some stages: all with one holder, at one value.
+/// The place of the papers of one list of preferences after some stages: all have one holder and one value.
 #[derive(Clone, Copy, PartialEq, Eq)]
 pub struct Placed {
-    /// Who holds them: a candidate's number, or 0 for no one.
+    /// The holder: a candidate's number, or 0 for no one.
     pub holder: u8,
     /// The value of each of them, at most one vote ("Transfer values").
     pub value: Votes,

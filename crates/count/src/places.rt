@@ -1,4 +1,4 @@
-//! Where bundles of equal papers go at a stage: each to its new place, in a vector of its own.
+//! The places of bundles of equal papers after a stage, in a new vector.
 
 ghost use Rattle.std.specs.Prelude.{◌≡◌, ℕ, ◌-◌, ◌<◌, ◌≤◌, ◌==◌, [], ◌∷◌, not, map, reverse, length, IfOk, IfSome, IsSome};
 ghost use Rattle.std.specs.List.{prefix_len, AllByRecursion};
@@ -8,7 +8,7 @@ ghost use Rattle.paper.specs.Standing.{is_continuing, from_first};
 ghost use Rattle.count.specs.Law.Count.{begun};
 ghost use Rattle.count.specs.Law.Contest.{newest_votes as newest_votes_of};
 ghost use Rattle.count.specs.Inside.Holdings.{IsTransferRule, OnlyColumns};
-ghost use Rattle.count.specs.Kept.{places_after};
+ghost use Rattle.count.specs.StoredCounts.{places_after};
 ghost use Rattle.count.specs.Inside.Placing.{contest_on, IsDueInBook, IsSound, nowhere, first_places, passed_at, passed_places as passed_places_of};
 
 use crate::bundles::Bundles;
@@ -16,17 +16,17 @@ use crate::elected::{newest_votes, standing};
 use crate::moving::surplus_rule;
 use crate::parcel::TransferRule;
 use crate::placed::Placed;
-use crate::sorting::{first_preference, value_by};
+use crate::sorting_papers::{first_preference, value_by};
 use crate::stages::{Action, Stage};
 use crate::terms::Terms;
 use paper::{MAX_CANDIDATES, Prefs, Standing, available_from};
 use std::alloc::{AllocError, Global};
 use votes::{MAX_PAPERS, ONE_VOTE, Votes};
 
-/// The most units that anyone is credited with: one vote for each of the most papers.
+/// The maximum number of units that can be credited: one vote for each of the maximum number of papers.
 const MAX_UNITS: u64 = ONE_VOTE * MAX_PAPERS as u64;
 
-/// The places of all bundles before the first stage: with no one, at no value.
+/// Returns the places of all bundles before the first stage: no holder, no value. `AllocError` if an allocation fails.
 pub fn no_places(alloc: Global, bundles: &Bundles) -> Result<Vec<Placed>, AllocError>
     ensures { IfOk result (λ none. none.items ≡ map (λ b. nowhere) bundles.now) }
 {
@@ -40,7 +40,7 @@ pub fn no_places(alloc: Global, bundles: &Bundles) -> Result<Vec<Placed>, AllocE
     Ok(none)
 }
 
-/// How many preferences stand before the one for a candidate.
+/// Returns how many preferences precede the one for a candidate.
 fn count_before(preferences: &[u8], c: u8) -> usize
     ensures is { result ≡ prefix_len (λ d. not (d == c)) preferences.now }
     ensures within { result ≤ length preferences.now }
@@ -48,15 +48,15 @@ fn count_before(preferences: &[u8], c: u8) -> usize
     preferences.iter().take_while(|d| **d != c).count()
 }
 
-/// The preferences from the one for a candidate on; none where there is no such.
+/// Returns the preferences from the one for a candidate on; empty if there is none.
 fn from_holder<'a>(preferences: &'a [u8], c: u8) -> &'a [u8]
     ensures { result.now ≡ from_first (λ d. d == c) preferences.now }
 {
     &preferences[count_before(preferences, c)..]
 }
 
-/// Where equal papers go from a candidate, if he holds them: to their next available preference, at the
-/// value that a rule makes of the value of one of them. Others stay.
+/// Returns the new place of equal papers that pass from a candidate, if the candidate holds them: their next available preference, at
+/// the value that a rule makes of theirs. Other papers stay.
 fn passed_place(
     list: &Prefs,
     at: &Placed,
@@ -78,7 +78,7 @@ fn passed_place(
     }
 }
 
-/// The places of all bundles, once a candidate's papers are passed on.
+/// Returns the places of all bundles after a candidate's papers are passed on. `AllocError` if an allocation fails.
 fn passed_places(
     alloc: Global,
     bundles: &Bundles,
@@ -104,7 +104,7 @@ fn passed_places(
     Ok(passed)
 }
 
-/// The places of all bundles by their first preferences, each paper as one vote.
+/// Returns the places of all bundles by first preference, each paper as one vote. `AllocError` if an allocation fails.
 fn dealt_places(alloc: Global, bundles: &Bundles) -> Result<Vec<Placed>, AllocError>
     ensures is { IfOk result (λ dealt. dealt.items ≡ first_places bundles.now) }
     ensures sound { IfOk result (λ dealt. AllByRecursion IsSound dealt.items) }
@@ -119,8 +119,8 @@ fn dealt_places(alloc: Global, bundles: &Bundles) -> Result<Vec<Placed>, AllocEr
     Ok(dealt)
 }
 
-/// The share of the votes credited to a candidate that goes on with his surplus; none where he has no more
-/// than the quota, or more than all papers give.
+/// Returns the share of the votes credited to a candidate that is transferred with the surplus. `None` if the candidate has no more
+/// than the quota, or more than one vote for each of `MAX_PAPERS` papers.
 fn share_of(quota: Votes, stages: &[Stage], c: u8) -> Option<TransferRule>
     ensures rule { IfSome result IsTransferRule }
     ensures is { IfSome result (λ rule. rule ≡ TransferRule.Share (newest_votes_of (reverse stages.now) c - quota) (newest_votes_of (reverse stages.now) c)) }
@@ -136,7 +136,7 @@ fn share_of(quota: Votes, stages: &[Stage], c: u8) -> Option<TransferRule>
     Some(surplus_rule(quota, credited))
 }
 
-/// The places of all bundles once a surplus is transferred; where there is none, as they were.
+/// Returns the places of all bundles after a surplus is transferred; unchanged if there is none. `AllocError` if an allocation fails.
 fn places_by_surplus(
     alloc: Global,
     terms: &Terms,
@@ -163,7 +163,7 @@ fn places_by_surplus(
     }
 }
 
-/// The places of all bundles after an action; the old ones stay as they are.
+/// Returns the places of all bundles after an action; the old ones are unchanged. `AllocError` if an allocation fails.
 pub fn moved_places(
     alloc: Global,
     terms: &Terms,

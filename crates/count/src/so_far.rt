@@ -1,4 +1,4 @@
-//! A count to some stage of it, by the recorded lots.
+//! A count up to one of its stages, by the recorded lots.
 
 ghost use Rattle.std.specs.Prelude.{◌≡◌, ◌+◌, ◌≤◌, ℕ, List, [], map, length, OnOk, OnErr, IfOk};
 ghost use Rattle.std.specs.List.{range_with_len};
@@ -9,11 +9,11 @@ ghost use Rattle.count.specs.Law.Right.{IsRight, reordered};
 ghost use Rattle.count.specs.Law.Count.{with_next, stages_to, due_by as due_by_lots};
 
 use crate::book::CountBook;
-use crate::run::{lot_at, step};
+use crate::count_to_end::{lot_at, step};
 use crate::stages::Due;
 use std::alloc::{AllocError, Global};
 
-/// Adds the stage that comes next by the recorded lots, where there is one.
+/// Adds the next stage by the recorded lots, if there is one.
 #[tactic(auto, using(crate::proofs::Law::CountLemmas::stages_next))]
 fn advance_by<B: CountBook>(book: &mut B, lots: &[(u8, u8)]) -> Result<(), AllocError>
     ensures same { B.contest book.new ≡ B.contest book.old }
@@ -24,12 +24,11 @@ fn advance_by<B: CountBook>(book: &mut B, lots: &[(u8, u8)]) -> Result<(), Alloc
     Ok(())
 }
 
-/// Counts so many stages, or as many as there are: a new book has those stages of the count then.
+/// Counts a number of stages, or as many as there are: a new book then has those stages of the count.
 ///
-/// A lot is a pair of a stage, counted from 1, and the candidate that it names; where two are for one
-/// stage, the first counts. These stages are right for the lots, and the only right ones; in whichever order
-/// the papers come, they are the same. An error is want of memory; the book has the stages made so far then,
-/// no more than asked for, and they are right.
+/// A lot is a pair of a stage, counted from 1, and the candidate that it names; if two are for one stage, the first counts. These
+/// stages are right for the lots, and the only right ones; the order of the papers makes no difference. `AllocError` if an
+/// allocation fails; the book then has the stages added so far, at most as many as requested, and they are right.
 #[tactic(auto, using(crate::proofs::Law::CountLemmas::stages_counted), unfolding(crate::specs::Law::Count::stages_to))]
 pub fn count_to<B: CountBook>(
     book: &mut B,
@@ -52,8 +51,8 @@ pub fn count_to<B: CountBook>(
     Ok(())
 }
 
-/// What is due by the recorded lots: the action that comes next, or else the lot that is waited for, or
-/// nothing. Moves no paper, and takes no memory.
+/// Returns what is due by the recorded lots: the next action, otherwise the lot that the count waits for, or nothing. Moves no
+/// paper, and allocates nothing.
 #[tactic(auto, using(crate::proofs::Law::DueLemmas::due_lot, crate::proofs::Law::CountLemmas::due_lots))]
 pub fn due_by<B: CountBook>(book: &B, lots: &[(u8, u8)]) -> Due
     ensures { result ≡ due_by_lots (B.contest book.now) lots.now (B.history book.now) }
@@ -68,9 +67,9 @@ pub fn due_by<B: CountBook>(book: &B, lots: &[(u8, u8)]) -> Due
     }
 }
 
-/// What is due before each of so many stages of the count, and after them, whatever lots are recorded; a
-/// new book has those stages then. An error is want of memory; the book has the stages made so far then, no
-/// more than asked for, and they are right.
+/// Returns what is due before each of a number of stages, and after them, with any recorded lots; a new book then has those
+/// stages. `AllocError` if an allocation fails; the book then has the stages added so far, at most as many as requested, and they
+/// are right.
 #[tactic(auto, using(crate::proofs::Law::CountLemmas::stages_counted), unfolding(crate::specs::Law::Count::stages_to))]
 pub fn dues_to<B: CountBook>(
     alloc: Global,

@@ -1,17 +1,17 @@
-//! The stages of a count, and what comes next in it.
+//! The stages of a count, and what is due next.
 
 use paper::{Columns, MAX_CANDIDATES};
 use std::fmt;
 use votes::Votes;
 
-/// What is done at a stage; candidates go by their numbers, 1 to `MAX_CANDIDATES`.
+/// What is done at a stage; candidates are identified by their numbers, 1 to `MAX_CANDIDATES`.
 #[derive(Clone, Copy, Debug, PartialEq, Eq)]
 pub enum Action {
-    /// Each paper goes to its first preference, as one vote ("Transfer of ballot papers").
+    /// Each paper is credited to its first preference, as one vote ("Transfer of ballot papers").
     First,
     /// The surplus of a candidate is transferred ("Transfer of ballot papers").
     Surplus(u8),
-    /// A candidate is excluded, and his papers are transferred ("Exclusion of candidates").
+    /// A candidate is excluded, and the candidate's papers are transferred ("Exclusion of candidates").
     Exclude(u8),
     /// A candidate is excluded so that the last vacancies are filled; nothing is transferred
     /// ("Filling of last vacancies").
@@ -34,20 +34,19 @@ impl fmt::Display for Action {
     }
 }
 
-/// A stage that is done: its action, and where it leaves the candidates.
+/// A stage that is done: its action, and the resulting figures.
 #[derive(Clone, Copy, Debug, PartialEq, Eq)]
 pub struct Stage {
     pub action: Action,
-    /// The votes of candidate c at place c - 1 ("Transfer of ballot papers"), at most one for each
-    /// paper, and 0 for numbers that are no candidates.
+    /// The votes of candidate c at index c - 1 ("Transfer of ballot papers"), at most one for each paper, and 0 for numbers that
+    /// aren't candidates.
     pub votes: [Votes; MAX_CANDIDATES],
-    /// Who is newly elected at this stage ("Quota"; "Filling of last vacancies").
+    /// The candidates newly elected at this stage ("Quota"; "Filling of last vacancies").
     pub elected: Columns,
-    /// The values of the papers without a next preference, of all stages up to this one ("Transfer of
-    /// ballot papers"), at most one vote for each paper.
-    pub non_transferable: Votes,
-    /// What surpluses lost by fractions, at all stages up to this one ("Transfer values"), at most one
+    /// The values of the papers without a next preference, for all stages up to this one ("Transfer of ballot papers"), at most one
     /// vote for each paper.
+    pub non_transferable: Votes,
+    /// The loss by fractions on surpluses, for all stages up to this one ("Transfer values"), at most one vote for each paper.
     pub lost: Votes,
 }
 
@@ -60,18 +59,18 @@ pub enum TiedFor {
     Exclusion,
 }
 
-/// What comes next in a count.
+/// What is due next in a count.
 #[derive(Clone, Copy, PartialEq, Eq)]
 pub enum Due {
     /// An action is due.
     Act(Action),
-    /// A lot has to be drawn for this stage, counted from 1, among two candidates or more whose
-    /// votes were equal at all stages ("Transfer of ballot papers"; "Exclusion of candidates").
+    /// A lot must be drawn for this stage, counted from 1, among two or more candidates whose votes were equal at all stages
+    /// ("Transfer of ballot papers"; "Exclusion of candidates").
     Lot {
         stage: u8,
         kind: TiedFor,
         among: Columns,
     },
-    /// No vacancy is left ("Filling of last vacancies").
+    /// No vacancy remains ("Filling of last vacancies").
     Finished,
 }

@@ -17,8 +17,8 @@ pub struct Terms {
     pub quota: Votes,
 }
 
-/// The terms of a contest with the papers of bundles. For seats that no contest has, the quota is that of
-/// the nearest number that one may have.
+/// Returns the terms of a contest on the papers of bundles. For a number of seats that no contest has, the quota is that of the
+/// nearest possible number.
 pub fn terms_on(candidates: Columns, seats: u8, bundles: &Bundles) -> Terms
     ensures candidates { result.candidates ≡ candidates }
     ensures seats { result.seats ≡ seats }

@@ -1,4 +1,4 @@
-//! Who has the most votes, or the fewest, in a group of candidates.
+//! The candidates of a group with the most votes, or the fewest.
 
 ghost use Rattle.std.specs.Prelude.{◌≡◌, ℕ, ◌≤◌, reverse};
 ghost use Rattle.std.specs.List.{list_any};
@@ -9,7 +9,7 @@ use crate::elected::{has_one, those, votes_after};
 use crate::stages::Stage;
 use paper::Columns;
 
-/// Whether a candidate had more votes than another at the most recent stage at which they differed.
+/// Returns whether a candidate had more votes than another at the most recent stage at which they differed.
 fn is_above(stages: &[Stage], c: u8, d: u8) -> bool
     requires some { 1 ≤ c }
     requires few { c ≤ max_candidates }
@@ -29,7 +29,7 @@ fn is_above(stages: &[Stage], c: u8, d: u8) -> bool
     false
 }
 
-/// Whether one of a group is above a candidate.
+/// Returns whether a member of a group is above a candidate.
 fn has_above(stages: &[Stage], group: &Columns, c: u8) -> bool
     requires some { 1 ≤ c }
     requires few { c ≤ max_candidates }
@@ -38,7 +38,7 @@ fn has_above(stages: &[Stage], group: &Columns, c: u8) -> bool
     has_one(group, |d| is_above(stages, d, c))
 }
 
-/// Whether a candidate is above one of a group.
+/// Returns whether a candidate is above a member of a group.
 fn has_below(stages: &[Stage], group: &Columns, c: u8) -> bool
     requires some { 1 ≤ c }
     requires few { c ≤ max_candidates }
@@ -47,14 +47,14 @@ fn has_below(stages: &[Stage], group: &Columns, c: u8) -> bool
     has_one(group, |d| is_above(stages, c, d))
 }
 
-/// Those of a group whom nobody in it is above.
+/// Returns the members of a group that no other member is above.
 pub fn highest(stages: &[Stage], group: &Columns) -> Columns
     ensures { result ≡ highest_of (reverse stages.now) group.now }
 {
     those(group, |c| !has_above(stages, group, c))
 }
 
-/// Those of a group who are above nobody in it.
+/// Returns the members of a group that are above no other member.
 pub fn lowest(stages: &[Stage], group: &Columns) -> Columns
     ensures { result ≡ lowest_of (reverse stages.now) group.now }
 {

@@ -1,10 +1,10 @@
--- Bytes as a terminal is shown them, one more at a time, and a beginning of them.
+-- Bytes as they are shown on a terminal, one more at a time, and a prefix of them.
 use Rattle.std.proofs.Common.{arith, subst, ◌≡◌, ◌∙◌, ◌<◌, ◌≤◌, ◌+◌, ℕ, zero, suc, List, [], ◌∷◌, ◌++◌, length, take, drop, set, get_or, ap, sym, refl}
 use Rattle.std.proofs.Math.Seq.{drop-cons}
 use Rattle.std.proofs.lemmas.List.{append_assoc, take_more_set}
 use Rattle.count_office.specs.Screens.{last_two, masked, shown_byte}
 
--- what is left begins with the byte at its place
+-- what is left begins with the byte at its index
 left : (bytes : List ℕ) (i : ℕ) → i < length bytes → drop i bytes ≡ get_or bytes i 0 ∷ drop (i + 1) bytes
 left bytes i here =
     let next : suc i ≡ i + 1 = omega arith in
@@ -29,14 +29,14 @@ pub last_more : (all : ℕ × ℕ) (bytes : List ℕ) (i first second : ℕ) →
 unfolding last_two
 last_more all bytes i first second here so_far = so_far ∙ ap (last_two first second) (left bytes i here)
 
--- a beginning of what is shown is what is shown of a beginning
+-- a prefix of what is shown is what is shown of a prefix
 pub take_masked : (n first second : ℕ) (bytes : List ℕ) → take n (masked first second bytes) ≡ masked first second (take n bytes)
 unfolding masked
 take_masked zero first second bytes = refl
 take_masked (suc n) first second [] = refl
 take_masked (suc n) first second (b ∷ bytes) = ap (λ xs. shown_byte first second b ∷ xs) (take_masked n second b bytes)
 
--- nothing is shown as nothing, and changes nothing of the last two
+-- nothing is shown as nothing, and leaves the last two unchanged
 pub masked_none : (first second : ℕ) → masked first second [] ≡ []
 unfolding masked
 masked_none first second = refl
@@ -45,7 +45,7 @@ pub last_none : (first second : ℕ) → last_two first second [] ≡ (first, se
 unfolding last_two
 last_none first second = refl
 
--- a beginning of a longer beginning
+-- a prefix of a longer prefix
 pub take_within : (n m : ℕ) (bytes : List ℕ) → n ≤ m → take n (take m bytes) ≡ take n bytes
 take_within zero m bytes within = refl
 take_within (suc n) zero bytes within = absurd (omega (arith, within))

@@ -1,4 +1,4 @@
--- What the order to serve comes to, once its office was opened.
+-- The outcome of the order to serve, once its office was opened.
 use Rattle.std.proofs.Common.{◌≡◌, ◌∙◌, ◌⊎◌, ap, inl, inr, refl, subst, sym, ℕ, List}
 use Rattle.std.specs.Prelude.{Bool, IfSome, Option, Result, option_map}
 use Rattle.sqlite.specs.Held.{Held}
@@ -16,7 +16,7 @@ use Rattle.count_office.specs.Serving.{IsGateFor, AreSettingsFor, IsOpenedFrom, 
 use Rattle.count_office.specs.declared.gate.GateFiles.{GateFiles}
 use Rattle.count_office.specs.declared.serving.Serving.{Serving}
 
--- the origin and the porter's gate are given, and a file
+-- the settings have the origin, the gate and a file
 abbrev pub IsGivenBy : Serving → Option GateFiles → Option FileNumbers → ServerSettingsEntry → Type 0
 IsGivenBy serving gate_files numbers settings =
     (settings ≡ settings_with (given_by serving.origin) (option_map gate_at gate_files) settings.file settings.whole) × IfSome numbers (λ known. settings.file ≡ known)
@@ -29,7 +29,7 @@ given_for serving codes_at gate_files numbers settings gate (is, file) = record 
   file = file;
 }
 
--- the office was served at doors that were opened on a port and closed again
+-- the office was served on a network that was opened on a port and closed again
 pub served_on : {L S : Type 0} (serving : Serving) (gate_files : Option GateFiles) (numbers : Option FileNumbers) (file : FileNumbers) (whole : Option Bool)
     (stream : Stream L) (state_of : Held S → State)
     (before opened later : ℕ → NetworkEntry L) (first last : NetworkEntry L) (old new : OfficeValue S) (ends : Result (Unit {0}) ServeError)
@@ -48,7 +48,7 @@ served_on serving gate_files numbers file whole stream state_of before opened la
       refl,
     )
 
--- the doors weren't opened, or the office was served
+-- the network couldn't be opened, or the office was served
 pub shut_or_served : {L S : Type 0} (Tells : List ℕ → ℕ → ℕ → Type 0) (Quiet : Type 0) (status : ℕ) (serving : Serving) (codes_at : CodeFiles) (gate_files : Option GateFiles)
     (numbers : Option FileNumbers) (stream : Stream L) (state_of : Held S → State) (before later : ℕ → NetworkEntry L) (conn : Held S) (office last : OfficeValue S)
     (outcome : Result (Unit {0}) Failure)

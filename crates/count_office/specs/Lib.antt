@@ -1,5 +1,7 @@
--- What the program hands on.
+-- The definitions that the program exports.
 pub mod Done
 pub mod Screens
 pub mod Hosts
+pub mod NewCodes
 pub mod Serving
+pub mod CopyPaths

@@ -1,15 +1,16 @@
--- An office is served on a host: what it goes by, and what the order to serve comes to.
+-- Serving an office on a host: its settings, and the outcome of the order to serve.
 use Rattle.std.specs.Prelude.{◌≡◌, ◌≢◌, ◌⊎◌, ℕ, Bool, true, false, List, IfSome, None, Option, Some, Result, Ok, Err, option_map, string_bytes}
 use Rattle.sqlite.specs.Effect.{Database}
 use Rattle.sqlite.specs.Held.{Held}
 use Rattle.sqlite.specs.State.{HasCleanDisk, State}
-use Rattle.codes.specs.Codes.{Holder, holders_of}
+use Rattle.codes.specs.Codes.{holders_of, office_of}
 use Rattle.codes.specs.declared.fault.CodesError.{CodesError}
 use Rattle.codes.specs.declared.fault.CodesError.TheVariants as read_error
 use Rattle.codes.specs.declared.holders.Codes.{Codes}
 use Rattle.connections.specs.Streams.{Stream}
 use Rattle.connections.specs.Tables.{NetworkEntry}
 use Rattle.keying_page.specs.Page.{page_text, policy_text}
+use Rattle.console_page.specs.Page.{page_text as console_text, policy_text as console_policy}
 use Rattle.register.specs.Machine.{after}
 use Rattle.register.specs.Offices.{OfficeState, empty_office}
 use Rattle.register.specs.declared.command.Request.{Request}
@@ -21,39 +22,45 @@ use Rattle.tables.specs.declared.fault.Fault.TheVariants as fault
 use Rattle.store.specs.Openings.{IsLeftAt, IsToldBy}
 use Rattle.office.specs.Answers.{IsOpenAt}
 use Rattle.office.specs.Values.{OfficeValue}
-use Rattle.wire.specs.Gates.{GateEntry}
+use Rattle.wire.specs.Gates.{GateEntry, PageEntry}
 use Rattle.wire.specs.Origins.{given_by}
 use Rattle.desk.specs.Pages.{Page, codes_page, failed}
 use Rattle.desk.specs.declared.lines.Failure.{Failure}
 use Rattle.desk.specs.declared.lines.Failure.TheVariants.{Office, Output}
 use Rattle.server.specs.Servers.{IsEndedBy, ServesConnections}
 use Rattle.server.specs.Settings.{ServerSettingsEntry}
-use Rattle.server.specs.Exchanges.{IsKeptOf}
+use Rattle.server.specs.Exchanges.{KeepsExchanges}
 use Rattle.server.specs.declared.serve_error.ServeError.{ServeError}
 use Rattle.server.specs.declared.serve_error.ServeError.TheVariants as ended
 use Rattle.server.specs.declared.server_settings.FileNumbers.{FileNumbers}
 use Rattle.count_office.specs.Hosts.{CodeFiles, IsReadAs}
 use Rattle.count_office.specs.declared.gate.GateFiles.{GateFiles}
 use Rattle.count_office.specs.declared.serving.Serving.{Serving}
-use Rattle.count_office.specs.declared.serving.GateSettings.{GateSettings}
+use Rattle.count_office.specs.declared.serving.ServeSettings.{ServeSettings}
 
--- ---- what the office goes by
+-- ---- the settings of the office
 
--- a gate of codes, of a page and of its policy
-abbrev pub gate_with : List Holder → List ℕ → List ℕ → GateEntry
-gate_with holders text policy = record { holders = holders; page = record { text = text; policy = policy } }
+-- a gate of codes, of the page on which clerks key, and of the console
+abbrev pub gate_with : Codes → PageEntry → PageEntry → GateEntry
+gate_with own page console = record { holders = holders_of own; page = page; office = office_of own; console = console }
+
+-- a page with its policy
+abbrev pub page_with : List ℕ → List ℕ → PageEntry
+page_with text policy = record { text = text; policy = policy }
 
 -- the gate of these files
 abbrev pub gate_at : GateFiles → GateEntry
-gate_at gate_files = gate_with (holders_of gate_files.codes) (string_bytes gate_files.page) (string_bytes gate_files.policy)
+gate_at gate_files =
+    gate_with gate_files.codes (page_with (string_bytes gate_files.page) (string_bytes gate_files.policy))
+    (page_with (string_bytes gate_files.console) (string_bytes gate_files.console_policy))
 
--- The gate: none if no file of codes is named; else the codes that were read at its path, with the page on which clerks key, and the policy of that page.
+-- The gate: none if no file of codes is named; else the codes that were read at its path, with the page on which clerks key, and the officer's console.
 abbrev pub IsGateFor : CodeFiles → Option (List ℕ) → Option GateEntry → Type 0
 IsGateFor codes_at None gate = gate ≡ None
 IsGateFor codes_at (Some path) gate = (own : Codes) × IsReadAs (codes_at path) (Ok own)
-    × (gate ≡ Some (gate_with (holders_of own) page_text policy_text))
+    × (gate ≡ Some (gate_with own (page_with page_text policy_text) (page_with console_text console_policy)))
 
--- why there is no gate although a file is named: its codes weren't read
+-- why there is no gate although a file is named: its codes couldn't be read
 abbrev pub IsUngated : CodeFiles → Option (List ℕ) → CodesError → Type 0
 IsUngated codes_at None why = ⊥
 IsUngated codes_at (Some path) why = IsReadAs (codes_at path) (Err why)
@@ -62,15 +69,15 @@ IsUngated codes_at (Some path) why = IsReadAs (codes_at path) (Err why)
 abbrev pub path_in : Serving → Option (List ℕ)
 path_in serving = option_map (λ path. path.now) serving.codes
 
--- the settings of an origin, a gate and a file, and of what is known of that for good
+-- the settings with an origin, a gate, a file, and whether that file is known to be whole throughout
 abbrev pub settings_with : Option (List ℕ) → Option GateEntry → FileNumbers → Option Bool → ServerSettingsEntry
 settings_with origin gate file whole = record { clients = record { origin = origin; gate = gate }; file = file; whole = whole }
 
 -- the settings of the server
-abbrev pub server_settings_of : GateSettings → Option Bool → ServerSettingsEntry
+abbrev pub server_settings_of : ServeSettings → Option Bool → ServerSettingsEntry
 server_settings_of settings whole = settings_with (given_by settings.serving.origin) (option_map gate_at settings.gate_files.now) settings.file whole
 
--- What the order to serve gives: the origin that it names, the gate for the file of codes that it names, and the file of the office.
+-- The settings for the order to serve: the origin that it names, the gate for the file of codes that it names, and the file of the office.
 pub record AreSettingsFor (serving : Serving) (codes_at : CodeFiles) (numbers : Option FileNumbers) (settings : ServerSettingsEntry) : Type 0 where
   pub origin : settings.clients.origin ≡ given_by serving.origin
   pub gate : IsGateFor codes_at (path_in serving) settings.clients.gate
@@ -78,7 +85,7 @@ pub record AreSettingsFor (serving : Serving) (codes_at : CodeFiles) (numbers : 
 
 -- ---- an open office on a network
 
--- An open office was served on a network, with this end.
+-- An open office was served on a network, with this result.
 pub record ServesAtNetwork {L S : Type 0} (settings : ServerSettingsEntry) (stream : Stream L) (state_of : Held S → State) (before later : NetworkEntry L) (most : Option ℕ)
     (old new : OfficeValue S) (ends : Result (Unit {0}) ServeError) : Type 0 where
   pub serves : ServesConnections settings stream state_of before later most old new ends
@@ -86,7 +93,7 @@ pub record ServesAtNetwork {L S : Type 0} (settings : ServerSettingsEntry) (stre
   pub closed : old.closed ≡ true → new ≡ old
   pub clean : HasCleanDisk (state_of new.held) → HasCleanDisk (state_of old.held)
 
--- the failure that is printed of an end
+-- the failure that is printed for a result
 abbrev pub failure_by : ServeError → Failure
 failure_by ended.Memory = Office fault.Memory
 failure_by ended.Network = Output
@@ -100,7 +107,7 @@ outcome_by (Err why) = Err (failure_by why)
 abbrev pub IsElsewhereSame : {L : Type 0} → ℕ → (ℕ → NetworkEntry L) → (ℕ → NetworkEntry L) → Type 0
 IsElsewhereSame port before later = (other : ℕ) → other ≢ port → later other ≡ before other
 
--- The network on a port couldn't be opened: no connection was accepted, and the office is as it was. Or it was served there, by these settings, and on no other port.
+-- The network on a port couldn't be opened: no connection was accepted, and the office is as it was. Or it was served there, with these settings, and on no other port.
 abbrev pub MayServe : {L S : Type 0} → (ServerSettingsEntry → Type 0) → Stream L → (Held S → State) → ℕ → (ℕ → NetworkEntry L) → (ℕ → NetworkEntry L) → Option ℕ
     → OfficeValue S → OfficeValue S → Result (Unit {0}) Failure → Type 0
 MayServe AreSettings stream state_of port before later most old new outcome =
@@ -110,17 +117,17 @@ MayServe AreSettings stream state_of port before later most old new outcome =
 
 -- ---- the order to serve
 
--- why codes aren't taken, or not made
+-- why codes are refused, or not made
 abbrev pub untaken : CodesError → Page
 untaken read_error.Memory = failed (Office fault.Memory)
 untaken (read_error.Fault why) = codes_page why
 
--- what is printed of an outcome on the error output, and the status: nothing and 0, or the failure and 3
+-- what is printed for an outcome on the error output, and the status: nothing and 0, or the failure and 3
 abbrev pub TellsOutcome : (List ℕ → ℕ → ℕ → Type 0) → Type 0 → ℕ → Result (Unit {0}) Failure → Type 0
 TellsOutcome Tells Quiet status (Ok end) = Quiet × (status ≡ 0)
 TellsOutcome Tells Quiet status (Err failure) = Tells (failed failure).err 3 status
 
--- The codes weren't read: no connection was accepted, and that to the database is as it was.
+-- The codes couldn't be read: no connection was accepted, and the one to the database is as it was.
 pub record IsUnread {L S : Type 0} (Tells : List ℕ → ℕ → ℕ → Type 0) (status : ℕ) (serving : Serving) (codes_at : CodeFiles) (before later : ℕ → NetworkEntry L) (old new : Held S) : Type 0 where
   pub why : CodesError
   pub unread : IsUngated codes_at (path_in serving) why
@@ -128,7 +135,7 @@ pub record IsUnread {L S : Type 0} (Tells : List ℕ → ℕ → ℕ → Type 0)
   pub nobody : later ≡ before
   pub same : new ≡ old
 
--- The office wasn't opened: no connection was accepted, and the database is as it was. The fault is one for which an opening fails there.
+-- The office couldn't be opened: no connection was accepted, and the database is as it was. The fault is one for which an opening fails there.
 pub record IsUnopened {L S : Type 0} (Tells : List ℕ → ℕ → ℕ → Type 0) (status : ℕ) (state_of : Held S → State) (before later : ℕ → NetworkEntry L) (old new : Held S) : Type 0 where
   pub why : Fault
   pub told : Tells (failed (Office why)).err 3 status
@@ -137,13 +144,13 @@ pub record IsUnopened {L S : Type 0} (Tells : List ℕ → ℕ → ℕ → Type 
   pub is : HasCleanDisk (state_of new) → (db : Database) → IsOurs db.schema → RestsAt db (state_of old) → IsToldBy db why
   pub cause : HasCleanDisk (state_of new) → (db : Database) → RestsAt db (state_of old) → (s : OfficeState) → IsLeftAt s db → FailsBy (state_of old) (state_of new) why
 
--- The very office of a connection was opened, at the state that its database holds, and nothing changed.
+-- The office of this connection was opened, at the state in its database, and nothing changed.
 pub record IsOpenedFrom {S : Type 0} (state_of : Held S → State) (conn : Held S) (office : OfficeValue S) : Type 0 where
   pub is_open : office.closed ≡ false
   pub reads : OnlyReads (state_of conn) (state_of office.held)
   pub at : HasCleanDisk (state_of office.held) → (db : Database) → RestsAt db (state_of conn) → (s : OfficeState) → IsLeftAt s db → IsOpenAt s office.closed (state_of office.held)
 
--- The office was opened, but its network wasn't: no connection was accepted, and the office is as it was opened.
+-- The office was opened, but its network couldn't be: no connection was accepted, and the office is as it was opened.
 pub record IsShut {L S : Type 0} (Tells : List ℕ → ℕ → ℕ → Type 0) (status : ℕ) (state_of : Held S → State) (before later : ℕ → NetworkEntry L) (old new : Held S) : Type 0 where
   pub office : OfficeValue S
   pub opened : IsOpenedFrom state_of old office
@@ -152,7 +159,8 @@ pub record IsShut {L S : Type 0} (Tells : List ℕ → ℕ → ℕ → Type 0) (
   pub nobody : later ≡ before
   pub same : new ≡ office.held
 
--- The office was opened and served on its network, by these settings. If the database held the state after earlier requests, this is kept of these and of those that came.
+-- The office was opened and served on its network, with these settings. If the database had the state after earlier requests, this holds for these and those that
+-- arrived.
 pub record IsServed {L S : Type 0} (Tells : List ℕ → ℕ → ℕ → Type 0) (Quiet : Type 0) (status : ℕ) (AreSettings : ServerSettingsEntry → Type 0) (stream : Stream L) (state_of : Held S → State)
     (port : ℕ) (before later : ℕ → NetworkEntry L) (most : Option ℕ) (old new : Held S) : Type 0 where
   pub office : OfficeValue S
@@ -165,9 +173,9 @@ pub record IsServed {L S : Type 0} (Tells : List ℕ → ℕ → ℕ → Type 0)
   pub at_network : ServesAtNetwork settings stream state_of (before port) (later port) most office (record { held = new; closed = closed }) ends
   pub elsewhere : IsElsewhereSame port before later
   pub keeps : HasCleanDisk (state_of new) → (db : Database) → RestsAt db (state_of old) → (earlier : List Request) → IsLeftAt (after empty_office earlier) db
-      → IsKeptOf state_of settings earlier at_network.serves.exchanges closed (state_of new)
+      → KeepsExchanges state_of settings earlier at_network.serves.exchanges closed (state_of new)
 
--- What the order to serve comes to: the codes weren't read, or the office or its network wasn't opened; or it was served.
+-- The outcome of the order to serve: the codes couldn't be read, or the office or its network couldn't be opened; or the office was served.
 abbrev pub ServesOrder : {L S : Type 0} → (List ℕ → ℕ → ℕ → Type 0) → Type 0 → ℕ → Serving → CodeFiles → Option FileNumbers → Stream L → (Held S → State)
     → (ℕ → NetworkEntry L) → (ℕ → NetworkEntry L) → Held S → Held S → Type 0
 ServesOrder Tells Quiet status serving codes_at file stream state_of before later old new =

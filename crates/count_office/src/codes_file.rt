@@ -1,35 +1,41 @@
-//! A file of clerks' codes: read, where its rights let nobody else read it; or made anew, to be cut into slips.
+//! A file of clerks' codes: read, if its permissions let nobody else read it; or newly made, to be cut into slips.
 
-ghost use Rattle.std.specs.Prelude.{◌-◌, ◌^◌, ◌<◌, None};
-ghost use Rattle.desk.specs.Pages.{IsErrorTold};
+ghost use Rattle.std.specs.Prelude.{◌≡◌, ◌-◌, ◌^◌, ◌<◌, IfErr, IfOk, None, OnOk, string_bytes};
+ghost use Rattle.codes.specs.Drawing.{IsMadeByDraws, IsUnmadeByDraws};
+ghost use Rattle.codes.specs.Making.{clerks_in, clerks_of};
+ghost use Rattle.desk.specs.Pages.{IsErrorTold, Shows, Tells, outputs_of};
+ghost use Rattle.count_office.specs.NewCodes.{IsFileOfNewCodes, IsPageOfNewCodes, made_page};
 ghost use Rattle.count_office.specs.Serving.{untaken};
 
-use codes::{ClerkRange, Codes, CodesError, CodesFault, DrawFailed, Draws, make};
-use desk::{Failure, tell_codes_fault, tell_codes_made, tell_failure};
+use codes::{
+    ClerkRange, Codes, CodesError, CodesFault, DrawFailed, RandomSource, make, make_with_office,
+};
+use desk::{Failure, tell_codes_and_office_made, tell_codes_fault, tell_codes_made, tell_failure};
+use std::alloc::Global;
 use std::fs::{self, File, OpenOptions};
 use std::io::{self, Read, Write};
 use std::os::unix::fs::{MetadataExt, OpenOptionsExt};
-use std::random::RandomSource;
+use std::random::RandomSource as _;
 use store::Fault;
 use streams::Sink;
 
-/// The most bytes of a file of codes: more than one with a line for each clerk has.
+/// The maximum number of bytes of a file of codes: more than a line for each clerk needs.
 const MAX_FILE: usize = 128 << 10;
 
-/// The rights of those who aren't a file's owner.
+/// The permission bits of group and others.
 const RIGHTS_OF_OTHERS: u32 = 0o077;
 
-/// The rights of a file that only its owner may read.
+/// The permissions of a file that only its owner may read.
 const RIGHTS_OF_ITS_OWNER: u32 = 0o600;
 
-/// The random bytes of the system, of which nothing is known.
+/// The system's random bytes, of which nothing is known.
 #[derive(Drop)]
 struct SystemBytes<'a> {
     rt: &'a HostRuntime,
     failures: u64,
 }
 
-impl Draws for SystemBytes<'_> {
+impl RandomSource for SystemBytes<'_> {
     ghost drawn = { λ _. None };
 
     ghost failed = { λ bytes. bytes.failures };
@@ -46,18 +52,17 @@ impl Draws for SystemBytes<'_> {
     }
 }
 
-/// The number of the account that may do everything.
+/// The user id of root.
 const ROOT: u32 = 0;
 
-/// Whether a file belongs to the account that this program runs under, or to root, and nobody else has any right to it.
+/// Returns whether a file belongs to this program's user or to root, and nobody else has any permission on it.
 fn is_its_owners(file: &File) -> io::Result<bool> {
     let found = file.metadata()?;
     let is_own = found.uid() == libc::geteuid() || found.uid() == ROOT;
     Ok(is_own && found.mode() & RIGHTS_OF_OTHERS == 0)
 }
 
-/// The bytes of a file, no more of them than a file of codes may have and one. A pipe or a device isn't opened, since that
-/// may wait.
+/// Returns the bytes of a file, at most one more than a file of codes may have. A pipe or a device isn't opened, since that may block.
 fn bytes_of(rt: &HostRuntime, path: &str) -> Result<Vec<u8>, CodesFault> {
     match fs::metadata(rt, path) {
         Ok(found) if found.is_file() => {}
@@ -78,7 +83,7 @@ fn bytes_of(rt: &HostRuntime, path: &str) -> Result<Vec<u8>, CodesFault> {
     }
 }
 
-/// The codes in a file.
+/// Reads the codes in a file.
 pub fn read_codes(rt: &HostRuntime, path: &str) -> Result<Codes, CodesError> {
     match bytes_of(rt, path) {
         Ok(bytes) => Codes::read(rt.alloc(), bytes.as_slice()),
@@ -86,7 +91,7 @@ pub fn read_codes(rt: &HostRuntime, path: &str) -> Result<Codes, CodesError> {
     }
 }
 
-/// Prints why codes aren't taken, or not made, and gives the status.
+/// Prints why codes are refused, or not made, and returns the status.
 pub fn tell_untaken<E: Sink>(why: CodesError, err: &mut E) -> u8
     requires { E.failed err.old < 2 ^ 64 - 1 }
     ensures { IsErrorTold E.taken E.failed err.old err.new (untaken why).err (untaken why).status result }
@@ -97,7 +102,7 @@ pub fn tell_untaken<E: Sink>(why: CodesError, err: &mut E) -> u8
     }
 }
 
-/// Writes a text to a new file, which only its owner may read. Where it can't be written whole, it is removed.
+/// Writes a text to a new file, which only its owner may read. If it can't be written whole, the file is removed.
 fn write_new(rt: &HostRuntime, path: &str, text: &str) -> io::Result<()> {
     let mut file = OpenOptions::new()
         .write(true)
@@ -116,30 +121,71 @@ fn write_new(rt: &HostRuntime, path: &str, text: &str) -> io::Result<()> {
     }
 }
 
-/// Writes a new file of codes for the clerks that a word names, and gives the status.
+/// Returns the text of a file of new codes for some clerks, and for the office if it is to have one. The errors are those of
+/// [`make`].
+fn codes_for<D: RandomSource>(
+    alloc: Global,
+    draws: &mut D,
+    clerks: ClerkRange,
+    with_office: bool,
+) -> Result<String, CodesError>
+    requires { D.failed draws.old < 2 ^ 64 - 1 }
+    ensures reads { IfOk result (λ text. IsFileOfNewCodes (clerks_of clerks) with_office (string_bytes text)) }
+    ensures drawn { IfOk result (λ text. IsMadeByDraws clerks with_office (D.drawn draws.old) (D.drawn draws.new) (string_bytes text)) }
+    ensures ok { OnOk result (D.failed draws.new ≡ D.failed draws.old) }
+    ensures err { IfErr result (IsUnmadeByDraws clerks with_office (D.failed draws.old) (D.failed draws.new) (D.drawn draws.old) (D.drawn draws.new)) }
+{
+    if with_office {
+        make_with_office(alloc, draws, clerks)
+    } else {
+        make(alloc, draws, clerks)
+    }
+}
+
+/// Prints that codes were made for so many clerks, and for the office or not, and returns the status: 0, or 3 if the output fails.
+fn tell_made<O: Sink, E: Sink>(with_office: bool, count: u32, out: &mut O, err: &mut E) -> u8
+    requires out { O.failed out.old < 2 ^ 64 - 1 }
+    requires err { E.failed err.old < 2 ^ 64 - 1 }
+    ensures { let outputs = outputs_of O.taken O.failed E.taken E.failed in Shows (outputs out.old err.old) (outputs out.new err.new) (made_page with_office count) result }
+{
+    if with_office {
+        tell_codes_and_office_made(count, out, err)
+    } else {
+        tell_codes_made(count, out, err)
+    }
+}
+
+/// A new file of codes that is asked for: its path, the word that names its clerks, and whether the office is to have one too.
+#[derive(Clone, Copy)]
+pub struct NewCodes<'a> {
+    pub path: &'a str,
+    pub clerks: &'a str,
+    pub with_office: bool,
+}
+
+/// Writes a new file of codes, prints how many clerks it is for or why there is none, and returns the status: 0; 1 for a codes fault;
+/// 3 if an allocation or an output failed. It never overwrites a file.
 pub fn make_codes_file<O: Sink, E: Sink>(
     rt: &HostRuntime,
-    path: &str,
-    clerks: &str,
+    asked: NewCodes<'_>,
     out: &mut O,
     err: &mut E,
 ) -> u8
     requires out { O.failed out.old < 2 ^ 64 - 1 }
     requires err { E.failed err.old < 2 ^ 64 - 1 }
+    ensures { let outputs = outputs_of O.taken O.failed E.taken E.failed in Tells (outputs out.old err.old) (outputs out.new err.new) result
+        (λ _ page. IsPageOfNewCodes (clerks_in asked.entry.clerks.now) asked.entry.with_office page) }
 {
-    let Some(clerks) = ClerkRange::parse(clerks) else {
+    let Some(clerks) = ClerkRange::parse(asked.clerks) else {
         return tell_codes_fault(CodesFault::NoClerks, err);
     };
     let mut bytes = SystemBytes { rt, failures: 0 };
-    let text = match make(rt.alloc(), &mut bytes, clerks) {
+    let text = match codes_for(rt.alloc(), &mut bytes, clerks, asked.with_office) {
         Ok(text) => text,
         Err(why) => return tell_untaken(why, err),
     };
-    match write_new(rt, path, text.as_str()) {
-        Ok(()) => {
-            let count = clerks.last.saturating_sub(clerks.first).saturating_add(1);
-            tell_codes_made(count, out, err)
-        }
+    match write_new(rt, asked.path, text.as_str()) {
+        Ok(()) => tell_made(asked.with_office, clerks.count() as u32, out, err),
         Err(_) => tell_codes_fault(CodesFault::Unmade, err),
     }
 }

@@ -1,4 +1,4 @@
-//! A copy of the office in new files of this machine: of an office that an order opened, or of one that is served.
+//! A copy of the office in new files of this machine, of an office that an order opened or of one that is being served.
 
 ghost use Rattle.std.specs.Prelude.{◌≡◌, ◌-◌, ◌^◌, ◌<◌, IsSomeAnd};
 ghost use Rattle.sqlite.specs.Closing.{IsCopied};
@@ -21,7 +21,7 @@ use store::Fault;
 use store::fault::fault_of;
 use streams::Sink;
 
-/// Makes a copy of the office at a path where there is nothing yet. The office is only read.
+/// Makes a copy of the office at a path where nothing exists yet. The office is only read.
 pub fn copy<S: Alter, O: Sink, E: Sink>(
     rt: &HostRuntime,
     mut conn: Connection<S>,
@@ -52,7 +52,7 @@ pub fn copy<S: Alter, O: Sink, E: Sink>(
     }
 }
 
-/// Why a copy can't be made; want of memory is reported as ever.
+/// Returns the failure that is printed if a copy can't be made; running out of memory is reported as usual.
 fn failure_of(error: sqlite::Error) -> Failure {
     match fault_of(error) {
         Fault::Memory => Failure::Office(Fault::Memory),
@@ -60,8 +60,8 @@ fn failure_of(error: sqlite::Error) -> Failure {
     }
 }
 
-/// Why no copy is begun in files that were made for it, if none is: another program
-/// has made an office in them before, which is left; or they can't be looked at.
+/// Returns why no copy is begun in files that were made for it, if none is: another program has meanwhile made an office in them,
+/// which is left there; or they can't be examined.
 fn why_not_begun(rt: &HostRuntime, fresh: &NewFile) -> Option<Failure> {
     match fresh.hold_none(rt) {
         Ok(true) => None,
@@ -73,8 +73,8 @@ fn why_not_begun(rt: &HostRuntime, fresh: &NewFile) -> Option<Failure> {
     }
 }
 
-/// Closes the files that were made for a copy, by what is known of it. Where no copy is reported it removes them while it holds
-/// them. With status 0 the database file alone is the copy.
+/// Closes the files that were made for a copy, according to what they are known to contain. If no copy is reported, they are removed
+/// while they are locked. With status 0 the database file alone is the copy.
 fn finish<D: Disk + Drop, E: Sink>(
     rt: &HostRuntime,
     fresh: &NewFile,
@@ -98,7 +98,7 @@ fn finish<D: Disk + Drop, E: Sink>(
     closed_copy(made, err).0
 }
 
-/// Copies the office over an opened connection to files that were made for the copy, and closes them.
+/// Copies the office of an open connection to files that were made for the copy, and closes them.
 fn fill<S: Alter, D: Disk + Drop, O: Sink, E: Sink>(
     rt: &HostRuntime,
     fresh: &NewFile,
@@ -118,7 +118,7 @@ fn fill<S: Alter, D: Disk + Drop, O: Sink, E: Sink>(
     finish(rt, fresh, made, status, state, err)
 }
 
-/// Copies an open office, which goes on, to files that were made for the copy, and closes them.
+/// Copies an open office, which stays open, to files that were made for the copy, and closes them.
 fn fill_open<S: Alter, D: Disk + Drop, O: Sink, E: Sink>(
     rt: &HostRuntime,
     fresh: &NewFile,
@@ -141,7 +141,7 @@ fn fill_open<S: Alter, D: Disk + Drop, O: Sink, E: Sink>(
     finish(rt, fresh, made, status, state, err)
 }
 
-/// Makes a copy of the open office at a path where there is nothing yet. The office goes on, and is only read.
+/// Makes a copy of the open office at a path where nothing exists yet. The office stays open, and is only read.
 pub fn copy_served<S: Alter, O: Sink, E: Sink>(
     rt: &HostRuntime,
     office: &mut Office<S>,
@@ -172,7 +172,8 @@ pub fn copy_served<S: Alter, O: Sink, E: Sink>(
     }
 }
 
-/// Closes a copy, so that it stands alone, and gives the status: 0, or 3 where its log can't be copied into it, which it reports.
+/// Closes a copy, so that its database file is complete, and returns the status: 0, or 3 if its log can't be copied into it, which is
+/// reported.
 fn closed_copy<D: Disk + Drop, E: Sink>(
     made: Connection<FileStore<D>>,
     err: &mut E,

@@ -1,9 +1,8 @@
-//! A database file that this program holds before `sqlite` opens it, and until it is closed.
+//! A database file that this program locks before `sqlite` opens it, and until it is closed.
 //!
-//! `sqlite` sees that a file is the one of its name before it takes its own lock, and not again behind it. Another program
-//! that made the file, and no office of it, may remove it in between: then `sqlite` would go on in a file that no name
-//! leads to. So each order takes a lock of its own first, and looks at the name behind it. Whoever removes a file has
-//! that lock, too.
+//! `sqlite` checks that a file is the one at its path before it takes its own lock, and not again after it. Another program that made
+//! the file, but no office in it, may remove it in between: `sqlite` would then continue in a file without a path. So each order takes
+//! a lock of its own first, and checks the path after it. A program that removes a file holds that lock too.
 
 use os::RangeLock;
 use std::fs::{self, File, OpenOptions};
@@ -11,11 +10,11 @@ use std::io::{self, ErrorKind};
 use std::os::fd::AsRawFd;
 use std::os::unix::fs::{MetadataExt, OpenOptionsExt};
 
-/// The byte that is locked: the one behind those that SQLite locks, on a page that no database uses.
+/// The byte that is locked: the one after those that SQLite locks, on a page that no database uses.
 const LOCKED: u64 = (1 << 30) + 512;
 
-/// What `sqlite` opens is never under the descriptors of the standard streams: one of them may have been closed, and
-/// what is meant for it would be written into the file.
+/// Files that `sqlite` opens never have the descriptors of the standard streams: one of these may have been closed, and output to it
+/// would be written into the file.
 const LAST_STREAM: i32 = 2;
 
 /// The file of a database, locked.
@@ -25,10 +24,10 @@ pub struct FileLock {
 }
 
 impl FileLock {
-    /// Holds the file at a path. An error is that it can't be locked, or that another program holds it; or that this name doesn't
-    /// lead to the file, or another name does too.
+    /// Locks the file at a path. An error is that it can't be locked, or that another program has locked it; or that the path no
+    /// longer leads to the file, or another path does too.
     pub fn take(rt: &HostRuntime, path: &str) -> io::Result<FileLock> {
-        // a pipe or a device isn't opened, since that may wait
+        // a pipe or a device isn't opened, since that may block
         if !fs::symlink_metadata(rt, path)?.is_file() {
             return Err(ErrorKind::Unsupported.into());
         }
@@ -42,8 +41,8 @@ impl FileLock {
         }
     }
 
-    /// Makes a file at a path where there is nothing, not even a link, and holds it. Where it can't be held it is removed,
-    /// if no other program holds it.
+    /// Makes a file at a path where nothing exists, not even a link, and locks it. If it can't be locked it is removed, unless another
+    /// program has locked it.
     pub fn make(rt: &HostRuntime, path: &str, mode: u32) -> io::Result<FileLock> {
         let mut options = OpenOptions::new();
         options.read(true).write(true).create_new(true).mode(mode);
@@ -59,7 +58,7 @@ impl FileLock {
         }
     }
 
-    /// The numbers of the file's device and its own.
+    /// Returns the file's device and inode numbers.
     pub fn numbers(&self) -> io::Result<(u64, u64)> {
         let found = self.file.metadata()?;
         Ok((found.dev(), found.ino()))
@@ -81,11 +80,11 @@ impl FileLock {
         }
     }
 
-    /// Removes the file from the path where it was made, if it can be locked after all and nothing is in it.
+    /// Removes the file from the path where it was made, if it can now be locked and is empty.
     fn remove_empty(&self, rt: &HostRuntime, path: &str) {
-        let is_empty = self.lock().is_ok()
+        let is_locked_and_empty = self.lock().is_ok()
             && self.file.metadata().is_ok_and(|found| found.len() == 0);
-        if is_empty {
+        if is_locked_and_empty {
             let _ = fs::remove_file(rt, path);
         }
     }

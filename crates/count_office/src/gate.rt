@@ -1,4 +1,4 @@
-//! The gate of an office that is served: clerks' codes, and the page on which clerks key.
+//! The gate of an office that is being served: the codes, the page on which clerks key, and the officer's console.
 
 ghost use Rattle.std.specs.Prelude.{◌≡◌, IfErr, IfOk, option_map};
 ghost use Rattle.wire.specs.Gates.{gate_entry};
@@ -6,19 +6,20 @@ ghost use Rattle.count_office.specs.Serving.{IsGateFor, IsUngated, gate_at};
 
 use crate::host::Host;
 use codes::{Codes, CodesError};
-use keying_page::{page_text, policy_text};
 use std::alloc::Global;
 use wire::{Gate, Page};
 
-/// The files of a gate: clerks' codes, their page, and its policy.
+/// The files of a gate: the codes, and the two pages with their policies.
 #[derive(Drop)]
 pub struct GateFiles {
     pub codes: Codes,
     pub page: String,
     pub policy: String,
+    pub console: String,
+    pub console_policy: String,
 }
 
-/// Reads the file of codes at a path, and makes the page and its policy. Returns `None` if no path is given.
+/// Reads the file of codes at a path, and makes the pages and their policies. Returns `None` if no path is given.
 pub fn read_gate_files<H: Host>(
     alloc: Global,
     host: &H,
@@ -31,16 +32,20 @@ pub fn read_gate_files<H: Host>(
         return Ok(None);
     };
     let codes = host.read_codes(path)?;
-    let page = page_text(alloc)?;
-    let policy = policy_text(alloc)?;
+    let page = keying_page::page_text(alloc)?;
+    let policy = keying_page::policy_text(alloc)?;
+    let console = console_page::page_text(alloc)?;
+    let console_policy = console_page::policy_text(alloc)?;
     Ok(Some(GateFiles {
         codes,
         page,
         policy,
+        console,
+        console_policy,
     }))
 }
 
-/// Returns the gate with these codes, page and policy; `None` if there are none.
+/// Returns the gate with these codes and pages; `None` if there are none.
 pub fn gate_of(gate_files: &Option<GateFiles>) -> Option<Gate<'_>>
     ensures { option_map gate_entry result ≡ option_map gate_at gate_files.now }
 {
@@ -50,6 +55,10 @@ pub fn gate_of(gate_files: &Option<GateFiles>) -> Option<Gate<'_>>
             page: Page {
                 text: gate_files.page.as_str(),
                 policy: gate_files.policy.as_str(),
+            },
+            console: Page {
+                text: gate_files.console.as_str(),
+                policy: gate_files.console_policy.as_str(),
             },
         }),
         None => None,

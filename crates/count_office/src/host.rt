@@ -1,8 +1,8 @@
-//! What serving an office needs of a machine: its files of clerks' codes, its network, and the numbers of the office's file.
+//! What serving an office requires of a machine: its files of clerks' codes, its network, and the identity of the office's file.
 //!
-//! `serving.rt` serves on any host, and gets nothing else of the machine but a connection and the error output. This machine is a
-//! host (`localhost.rt`) of which nothing is known. The contracts of `serving.rt` hold as well on one that says what its files have
-//! and what came in on each port.
+//! `serving.rt` serves on any host, and uses nothing else of the machine except a connection and the error output. This machine is a
+//! host (`localhost.rt`) about which nothing is known. The contracts of `serving.rt` also hold on one for which it is known what its
+//! files contain and what arrived on each port.
 
 ghost use Rattle.std.specs.Prelude.{◌≡◌, ◌≢◌, IfOk, IfSome, Option, ℕ};
 ghost use Rattle.connections.specs.Tables.{NetworkEntry};
@@ -12,29 +12,29 @@ ghost use Rattle.count_office.specs.Hosts.{CodeFiles, IsReadAs};
 use codes::{Codes, CodesError};
 use connections::Network;
 use desk::Failure;
-use server::{FileNumbers, SideJobs};
+use server::{FileNumbers, ServedFile};
 
-/// An open network, what orders need besides the office, and the numbers of its file.
+/// An open network, what orders need in addition to the office, and the device and inode numbers of its file.
 #[derive(Drop)]
 pub struct Opened<D, A> {
     pub network: D,
-    pub side_jobs: A,
+    pub served_file: A,
     pub file: FileNumbers,
 }
 
-/// A machine on which an office is served.
+/// A machine on which an office can be served.
 pub trait Host {
-    type Port: Network;
+    type Sockets: Network;
 
-    type Side: SideJobs;
+    type Side: ServedFile;
 
-    /// What is known of its network on each port, before it is opened and after it is closed.
-    ghost known: { Self → ℕ → NetworkEntry Self.Port.Stream };
+    /// The network on each port, as far as it is known before it is opened and after it is closed.
+    ghost known: { Self → ℕ → NetworkEntry Self.Sockets.Stream };
 
-    /// The codes in the file at each path, as far as the host says which.
+    /// The codes in the file at each path, as far as they are known.
     ghost codes_at: { Self → CodeFiles };
 
-    /// The numbers of the office's file, if the host says them.
+    /// The device and inode numbers of the office's file, if they are known.
     ghost file: { Self → Option FileNumbers };
 
     /// Reads a file of clerks' codes.
@@ -42,13 +42,13 @@ pub trait Host {
         ensures { IsReadAs (codes_at self.now path.now) result };
 
     /// Opens the network on a port.
-    fn open(&mut self, port: u32) -> Result<Opened<Self::Port, Self::Side>, Failure>
-        ensures known { IfOk result (λ opened. Self.Port.known opened.network ≡ known self.old port) }
+    fn open(&mut self, port: u32) -> Result<Opened<Self::Sockets, Self::Side>, Failure>
+        ensures known { IfOk result (λ opened. Self.Sockets.known opened.network ≡ known self.old port) }
         ensures file { IfOk result (λ opened. IfSome (file self.old) (λ numbers. opened.file ≡ numbers)) }
         ensures same { known self.new ≡ known self.old };
 
     /// Closes the network on a port.
-    fn close(&mut self, port: u32, opened: Opened<Self::Port, Self::Side>)
-        ensures known { known self.new port ≡ Self.Port.known opened.network }
+    fn close(&mut self, port: u32, opened: Opened<Self::Sockets, Self::Side>)
+        ensures known { known self.new port ≡ Self.Sockets.known opened.network }
         ensures others { (other : ℕ) → other ≢ port → known self.new other ≡ known self.old other };
 }

@@ -1,6 +1,6 @@
-//! This machine as a host: a port of its loopback addresses, and the socket beside the database that is served.
+//! This machine as a host: a port of its loopback addresses, and the socket next to the database that is served.
 //!
-//! No contract can say what a socket or a file holds, so nothing is promised here. `serving.rt` says what is served on any host.
+//! No contract can say what a socket or a file contains, so nothing is promised here. `serving.rt` says what is served on any host.
 
 ghost use Rattle.std.specs.Prelude.{◌≡◌, ◌≢◌, None, ℕ};
 ghost use Rattle.sockets.specs.declared.socket.Socket.{Socket};
@@ -8,10 +8,10 @@ ghost use Rattle.sockets.specs.Pollers.{unknown};
 
 use crate::LockedDatabase;
 use crate::codes_file::read_codes;
+use crate::file_watch::FileWatch;
 use crate::host::{Host, Opened};
-use crate::order_socket::{OrderSocket, closed_streams, reason_of};
-use crate::presence::Presence;
-use crate::side_jobs::LocalJobs;
+use crate::order_socket::{OrderSocket, reason_of, reserved_descriptors};
+use crate::served_file::LocalFile;
 use codes::{Codes, CodesError};
 use desk::Failure;
 use mio::net::UnixListener;
@@ -23,7 +23,7 @@ use std::io;
 use std::io::{ErrorKind, Write};
 use store::Fault;
 
-/// This machine, the database that is served, the socket beside it, and the standard streams that are held meanwhile.
+/// This machine, the database that is served, the socket next to it, and the standard streams that are held open meanwhile.
 #[derive(Drop)]
 pub struct Localhost<'a> {
     place: LockedDatabase<'a>,
@@ -31,8 +31,8 @@ pub struct Localhost<'a> {
     streams: Option<Vec<File>>,
 }
 
-/// Listens on a port of this machine's loopback addresses and, if there is one, on the socket for orders beside the database. Fails if
-/// one of the addresses is taken: no clause can say which are bound, and `tools/try both-addresses` tries it.
+/// Listens on a port of this machine's loopback addresses and, if there is one, on the socket for orders next to the database. Fails
+/// if one of the addresses is in use: no clause can say which are bound, and `tools/try both-addresses` tests it.
 fn listen<'a>(
     rt: &'a HostRuntime,
     port: u32,
@@ -47,21 +47,21 @@ fn listen<'a>(
 }
 
 /// Returns the failure that is printed when the network can't be opened.
-fn failure_at_the_doors(error: &io::Error) -> Failure {
+fn listening_failure(error: &io::Error) -> Failure {
     match error.kind() {
         ErrorKind::OutOfMemory => Failure::Office(Fault::Memory),
         _ => Failure::Output,
     }
 }
 
-/// Says on the error output that there is no socket for orders. Where nobody can read that, the office serves all the same.
+/// Prints on the error output that there is no socket for orders. If it can't be printed, the office serves all the same.
 fn say_no_socket(rt: &HostRuntime, error: &io::Error) {
     let mut told = rt.stderr();
     let why = reason_of(error);
     let _ = writeln!(told, "no socket for orders beside the database: {why}");
 }
 
-/// Returns numbers in a row, with commas between.
+/// Returns numbers separated by commas.
 fn list_of(alloc: Global, numbers: &[u32]) -> Result<String, AllocError> {
     let mut list = String::new(alloc);
     for number in numbers {
@@ -88,26 +88,26 @@ fn warn_of_weak(rt: &HostRuntime, codes: &Codes) {
     }
 }
 
-/// Opens the network on a port, and looks at the file of the office at a place.
+/// Opens the network on a port, and looks up the file of the office at a place.
 fn open_at<'a>(
     place: LockedDatabase<'a>,
     port: u32,
     orders: Option<UnixListener>,
-) -> Result<Opened<SocketNetwork<&'a HostRuntime>, LocalJobs<'a>>, Failure> {
+) -> Result<Opened<SocketNetwork<&'a HostRuntime>, LocalFile<'a>>, Failure> {
     let rt = place.rt;
     let network = match listen(rt, port, orders) {
         Ok(network) => network,
-        Err(error) => return Err(failure_at_the_doors(&error)),
+        Err(error) => return Err(listening_failure(&error)),
     };
     let Ok((device, inode)) = place.held.numbers() else {
         return Err(Failure::Office(Fault::Store));
     };
-    let Some(presence) = Presence::of(rt, place.found, place.held) else {
+    let Some(file_watch) = FileWatch::of(rt, place.found, place.held) else {
         return Err(Failure::FileGone);
     };
     Ok(Opened {
         network,
-        side_jobs: LocalJobs { rt, presence },
+        served_file: LocalFile { rt, file_watch },
         file: FileNumbers { device, inode },
     })
 }
@@ -122,7 +122,8 @@ impl<'a> Localhost<'a> {
         }
     }
 
-    /// Makes the socket beside the database. If that fails, a line on the error output says so, and no order can be handed over.
+    /// Creates the order socket next to the database. If that fails, prints a line to the error output; no order can then be sent
+    /// to the server.
     fn listen_beside(&mut self) -> Option<UnixListener> {
         let rt = self.place.rt;
         match OrderSocket::listen(rt, self.place.found.database()) {
@@ -137,7 +138,7 @@ impl<'a> Localhost<'a> {
         }
     }
 
-    /// Removes the socket beside the database, and closes the streams that were held.
+    /// Removes the socket next to the database, and closes the streams that were held open.
     fn clear(&mut self) {
         if let Some(beside) = self.beside.take() {
             beside.remove(self.place.rt);
@@ -147,9 +148,9 @@ impl<'a> Localhost<'a> {
 }
 
 impl<'a> Host for Localhost<'a> {
-    type Port = SocketNetwork<&'a HostRuntime>;
+    type Sockets = SocketNetwork<&'a HostRuntime>;
 
-    type Side = LocalJobs<'a>;
+    type Side = LocalFile<'a>;
 
     ghost known = { λ _ _. unknown };
 
@@ -166,10 +167,10 @@ impl<'a> Host for Localhost<'a> {
     fn open(
         &mut self,
         port: u32,
-    ) -> Result<Opened<SocketNetwork<&'a HostRuntime>, LocalJobs<'a>>, Failure> {
-        match closed_streams(self.place.rt) {
+    ) -> Result<Opened<SocketNetwork<&'a HostRuntime>, LocalFile<'a>>, Failure> {
+        match reserved_descriptors(self.place.rt) {
             Ok(streams) => self.streams = Some(streams),
-            Err(error) => return Err(failure_at_the_doors(&error)),
+            Err(error) => return Err(listening_failure(&error)),
         }
         let orders = self.listen_beside();
         let opened = open_at(self.place, port, orders);
@@ -179,7 +180,7 @@ impl<'a> Host for Localhost<'a> {
         opened
     }
 
-    fn close(&mut self, port: u32, opened: Opened<SocketNetwork<&'a HostRuntime>, LocalJobs<'a>>)
+    fn close(&mut self, port: u32, opened: Opened<SocketNetwork<&'a HostRuntime>, LocalFile<'a>>)
         ensures known { unknown {L = Socket} ≡ unknown }
         ensures others { (other : ℕ) → other ≢ port → unknown {L = Socket} ≡ unknown }
     {

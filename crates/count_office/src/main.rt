@@ -1,7 +1,12 @@
-//! The program `count-office`: it reads its words to one order and does it over the database DB.
+//! The program `count-office`: it parses its words to an order and performs it on the database DB.
 //!
-//! The crate `desk` reads the words and does the order. Here it gets the file that DB names, the one that
-//! the order names, those that a script names, and the two standard outputs.
+//! The crate `desk` parses the words and performs the order. This crate supplies the file that DB names, the one that the order names,
+//! those that a script names, and the two standard outputs.
+//!
+//! `main` opens the outputs, [`run`] reads the words, and [`follow_words`] parses them to an order. `perform_with_retries` of `order_run.rt` attempts
+//! the order, again and again while another program has locked the file. `attempt` checks what is at the path, and `lock_and_perform` locks
+//! the file, or sends the order to the program that serves it. Under the lock `perform_locked` and `open_and_perform` open the database, and
+//! [`dispatch_order`] performs the order there.
 //!
 //! ```text
 //! count-office town.db init
@@ -25,25 +30,31 @@ ghost use Rattle.count_office.specs.Serving.{ServesOrder};
 ghost use Rattle.sqlite_wal.specs.Reads.{AreClean};
 ghost use Rattle.sqlite.specs.Closing.{IsCopied};
 
+// the words of an order, and the files that it names
 mod codes_file;
-mod copies;
+mod order_files;
+// the path of a database, what is there, and its lock
 mod file_lock;
+mod notices;
+mod order_run;
+mod path_state;
+// an order that is sent to the program that serves the database
+mod order_client;
+mod order_socket;
+// the order to serve: on any host, and on this machine
 mod gate;
 mod host;
 mod localhost;
-mod new_file;
-mod notices;
-mod order_client;
-mod order_files;
-mod order_run;
-mod order_socket;
-mod path_state;
-mod presence;
-mod screen;
 mod serving;
-mod side_jobs;
+// what else is done while the office is served: copies, the journal, and a look at its files
+mod copies;
+mod file_watch;
+mod new_file;
+mod served_file;
+// the two outputs
+mod screen;
 
-use codes_file::make_codes_file;
+use codes_file::{NewCodes, make_codes_file};
 use copies::copy;
 use desk::perform::perform;
 use desk::{
@@ -52,7 +63,7 @@ use desk::{
 use file_lock::FileLock;
 use host::Host;
 use order_files::{LocalFolder, OrderFiles};
-use order_run::{OrderRun, perform_at};
+use order_run::{OrderRun, perform_with_retries};
 use path_state::PathState;
 use screen::Screen;
 use serving::{Serving, serve};
@@ -65,8 +76,7 @@ use std::{env, io};
 use store::Fault;
 use streams::{Counted, Sink};
 
-/// A database that is held: its path as it was given, what is there, and its file; and what was read of the order's files
-/// before, if anything was.
+/// A locked database: its path as given, what is there, and its file; and what was read of the order's files before, if anything was.
 #[derive(Clone, Copy)]
 pub struct LockedDatabase<'a> {
     pub rt: &'a HostRuntime,
@@ -76,7 +86,7 @@ pub struct LockedDatabase<'a> {
     pub brought: &'a Option<OrderFiles>,
 }
 
-/// The words from DB on.
+/// Returns the words from DB on.
 fn given_words(rt: &HostRuntime) -> Result<Vec<String>, WordsFault> {
     let all = match env::args(rt) {
         Ok(all) => all,
@@ -96,13 +106,13 @@ fn not_text(alloc: Global) -> WordsFault {
     }
 }
 
-/// Whether somebody sees the error output and not the replies of a file's records.
+/// Returns whether a person sees the error output but not the replies to a file's records.
 fn wants_progress(rt: &HostRuntime, task: &Task<'_>) -> bool {
     task.file().is_some() && rt.stderr().is_terminal() && !rt.stdout().is_terminal()
 }
 
-/// Does a task over an opened connection to the office, with the files that it names.
-fn perform_watched<S: Alter, O: Sink, E: Sink>(
+/// Performs a task on an open connection to the office, with the files that it names.
+fn perform_with_progress<S: Alter, O: Sink, E: Sink>(
     paths: LocalFolder<'_>,
     task: &Task<'_>,
     conn: Connection<S>,
@@ -121,8 +131,8 @@ fn perform_watched<S: Alter, O: Sink, E: Sink>(
     perform(rt.alloc(), task, conn, &paths, out, err)
 }
 
-/// Does an order over an opened connection to the office at a place. An order to serve is done on the host.
-fn perform_on<H: Host, S: Alter, O: Sink, E: Sink>(
+/// Performs an order on an open connection to the office at a place. An order to serve is performed on the host.
+fn dispatch_order<H: Host, S: Alter, O: Sink, E: Sink>(
     place: LockedDatabase<'_>,
     host: &mut H,
     order: &Order<'_>,
@@ -138,7 +148,7 @@ fn perform_on<H: Host, S: Alter, O: Sink, E: Sink>(
         × IsToldElsewhere page (state S.Store conn) (state S.Store result.1))) }
     ensures serves { (serving : Serving) → order.now ≡ Order.Serve serving.port serving.connections serving.origin serving.codes
         → (out.new ≡ out.old) × ServesOrder (IsErrorTold E.taken E.failed err.old err.new) (err.new ≡ err.old) result.0 serving (H.codes_at host.old) (H.file host.old)
-        (stream_of H.Port.Stream.held H.Port.Stream.taken H.Port.Stream.failed) (state S.Store) (H.known host.old) (H.known host.new) conn result.1 }
+        (stream_of H.Sockets.Stream.held H.Sockets.Stream.taken H.Sockets.Stream.failed) (state S.Store) (H.known host.old) (H.known host.new) conn result.1 }
 {
     let rt = place.rt;
     match order {
@@ -147,7 +157,7 @@ fn perform_on<H: Host, S: Alter, O: Sink, E: Sink>(
                 rt,
                 brought: place.brought,
             };
-            perform_watched(paths, task, conn, out, err)
+            perform_with_progress(paths, task, conn, out, err)
         }
         Order::Serve {
             port,
@@ -165,12 +175,23 @@ fn perform_on<H: Host, S: Alter, O: Sink, E: Sink>(
         }
         Order::Copy { path } => copy(rt, conn, path, out, err),
         Order::Journal => journal(rt, conn, out, err),
-        Order::Codes { path, clerks } => (make_codes_file(rt, path, clerks, out, err), conn),
+        Order::Codes {
+            path,
+            clerks,
+            with_office,
+        } => {
+            let asked = NewCodes {
+                path: *path,
+                clerks: *clerks,
+                with_office: *with_office,
+            };
+            (make_codes_file(rt, asked, out, err), conn)
+        }
     }
 }
 
-/// Prints the journal of the office, once it was played over an empty one that is kept in memory alone. The office is only read.
-/// Nothing is asked of that memory: what is printed with status 0 makes the very office.
+/// Prints the journal of the office, once it was replayed in an empty office in memory. The office is only read. Nothing is assumed of
+/// that memory: what is printed with status 0 makes exactly this office.
 fn journal<S: Alter, O: Sink, E: Sink>(
     rt: &HostRuntime,
     mut conn: Connection<S>,
@@ -196,13 +217,13 @@ fn journal<S: Alter, O: Sink, E: Sink>(
     }
 }
 
-/// Another program of SQLite holds the file.
+/// Returns whether another program that uses SQLite has locked the file.
 fn is_busy(error: &sqlite::Error) -> bool {
     matches!(error, sqlite::Error::SqliteFailure(ErrorCode::DatabaseBusy))
 }
 
-/// Copies the log into the database file, so that DB alone is the office, also after a stop, and gives both files
-/// back. Where that fails, what was answered still stands in the log.
+/// Copies the log into the database file, so that DB alone is the office, even after a stop, and returns both files. If that fails,
+/// what was answered is still in the log.
 fn close<D: Disk + Drop>(conn: Connection<FileStore<D>>) -> Option<Files<D>>
     ensures copied { IfSome result (λ files. AreClean D.Disk files.log files.db → IsCopied conn files) }
 {
@@ -215,14 +236,27 @@ fn close<D: Disk + Drop>(conn: Connection<FileStore<D>>) -> Option<Files<D>>
     }
 }
 
-/// Does what the words from DB on ask, and gives the status.
-fn follow<O: Sink, E: Sink>(rt: &HostRuntime, words: &[&str], out: &mut O, err: &mut E) -> u8
+/// Performs what the words from DB on ask for, and returns the status.
+fn follow_words<O: Sink, E: Sink>(rt: &HostRuntime, words: &[&str], out: &mut O, err: &mut E) -> u8
     requires out { O.failed out.old < 2 ^ 64 - 1 }
     requires err { E.failed err.old < 2 ^ 64 - 1 }
 {
     match order(rt.alloc(), &*words) {
-        // codes are made without a database
-        Ok(Order::Codes { path, clerks }) => make_codes_file(rt, path, clerks, out, err),
+        // making codes needs no database
+        Ok(
+            Order::Codes {
+                path,
+                clerks,
+                with_office,
+            },
+        ) => {
+            let asked = NewCodes {
+                path,
+                clerks,
+                with_office,
+            };
+            make_codes_file(rt, asked, out, err)
+        }
         Ok(order) => {
             let request = OrderRun {
                 rt: &*rt,
@@ -230,13 +264,13 @@ fn follow<O: Sink, E: Sink>(rt: &HostRuntime, words: &[&str], out: &mut O, err: 
                 words: &*words,
                 order: &order,
             };
-            perform_at(request, out, err)
+            perform_with_retries(request, out, err)
         }
         Err(fault) => tell_words(&fault, out, err),
     }
 }
 
-/// Prints the help of an order. A word that names no order is DB, and then it prints the help of all orders.
+/// Prints the help of an order. A word that names no order is DB; the help of all orders is then printed.
 fn tell_help_of<O: Sink, E: Sink>(rt: &HostRuntime, name: &str, out: &mut O, err: &mut E) -> u8
     requires out { O.failed out.old < 2 ^ 64 - 1 }
     requires err { E.failed err.old < 2 ^ 64 - 1 }
@@ -246,11 +280,12 @@ fn tell_help_of<O: Sink, E: Sink>(rt: &HostRuntime, name: &str, out: &mut O, err
         Err(help) if matches!(help, WordsFault::Words { status: 0, .. }) => {
             tell_words(&help, out, err)
         }
-        _ => follow(rt, &["DB", "--help"], out, err),
+        _ => follow_words(rt, &["DB", "--help"], out, err),
     }
 }
 
-/// Does what the program's words ask, and gives the status. It prints help and the version without a database too, also the help of an order.
+/// Performs what the program's words ask for, and returns the status. Help, including that of an order, and the version are also
+/// printed without a database.
 fn run<O: Sink, E: Sink>(rt: &HostRuntime, out: &mut O, err: &mut E) -> u8
     requires out { O.failed out.old < 2 ^ 64 - 1 }
     requires err { E.failed err.old < 2 ^ 64 - 1 }
@@ -264,10 +299,10 @@ fn run<O: Sink, E: Sink>(rt: &HostRuntime, out: &mut O, err: &mut E) -> u8
         Err(_) => return tell_failure(Failure::Office(Fault::Memory), err),
     };
     match words.as_slice() {
-        ["--help" | "-h"] => follow(rt, &["DB", "--help"], out, err),
-        ["--version" | "-V"] => follow(rt, &["DB", "--version"], out, err),
+        ["--help" | "-h"] => follow_words(rt, &["DB", "--help"], out, err),
+        ["--version" | "-V"] => follow_words(rt, &["DB", "--version"], out, err),
         [name, "--help" | "-h"] => tell_help_of(rt, name, out, err),
-        all => follow(rt, all, out, err),
+        all => follow_words(rt, all, out, err),
     }
 }
 

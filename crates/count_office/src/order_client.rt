@@ -1,4 +1,4 @@
-//! An order on a database that another program serves. It is handed over to that program, and the reply is printed as it comes.
+//! An order on a database that another program serves. It is sent to that program, and the reply is printed as it arrives.
 
 ghost use Rattle.std.specs.Prelude.{◌≡◌, ◌≢◌, ◌-◌, ◌^◌, ◌<◌, ◌≤◌, Err, IfOk, IfSome, Ok, OnErr, length, true};
 ghost use Rattle.order_protocol.specs.Messages.{PieceFits, PiecesFit, message_part_entries, message_part_entry};
@@ -19,10 +19,10 @@ use std::{env, fs};
 use store::Fault;
 use streams::{Sink, put_all};
 
-/// The most bytes of a frame that are read at once.
+/// The maximum number of bytes of a frame that are read at once.
 const CHUNK: usize = 8192;
 
-/// A word or a file as it is handed over; none, where it is longer than a message may be.
+/// Returns a word or a file as a part of a message; None if it is longer than a message may be.
 fn piece_of(part: &OrderPart) -> Option<MessagePart<'_>>
     ensures { IfSome result (λ piece. PieceFits (message_part_entry piece)) }
 {
@@ -40,7 +40,7 @@ fn piece_of(part: &OrderPart) -> Option<MessagePart<'_>>
     }
 }
 
-/// Words or files as they are handed over; none, where one is longer than a message may be, or there are more.
+/// Returns words or files as parts of a message; None if one is longer than a message may be, or there are too many.
 fn fitting(alloc: Global, parts: &[OrderPart]) -> Result<Option<Vec<MessagePart<'_>>>, AllocError>
     ensures { IfOk result (λ found. IfSome found (λ pieces. PiecesFit (message_part_entries pieces.items))) }
 {
@@ -57,7 +57,7 @@ fn fitting(alloc: Global, parts: &[OrderPart]) -> Result<Option<Vec<MessagePart<
     Ok(Some(pieces))
 }
 
-/// Words or files as they are handed over; or why they aren't.
+/// Returns words or files as parts of a message, or why they can't be sent.
 fn pieces_of(alloc: Global, parts: &[OrderPart]) -> Result<Vec<MessagePart<'_>>, Fault>
     ensures { IfOk result (λ pieces. PiecesFit (message_part_entries pieces.items)) }
 {
@@ -68,7 +68,7 @@ fn pieces_of(alloc: Global, parts: &[OrderPart]) -> Result<Vec<MessagePart<'_>>,
     }
 }
 
-/// The message of an order on the database at a path; or why there is none.
+/// Returns the message of an order on the database at a path, or why there is none.
 fn message_of(
     rt: &HostRuntime,
     database: &str,
@@ -109,23 +109,23 @@ fn frame_in(stream: &mut UnixStream) -> io::Result<FrameHead> {
 
 /// Why nothing more is printed.
 #[derive(Clone, Copy)]
-enum Cut {
-    /// The server closed the connection, or sent what isn't understood.
+enum WhyReplyEnded {
+    /// The server closed the connection, or sent something invalid.
     Server,
     /// The output fails.
     Output,
-    /// There is no memory for a line.
+    /// An allocation for a line failed.
     Memory,
 }
 
-/// What was received of the two outputs and isn't printed yet: of each the beginning of a line.
+/// What was received for the two outputs and isn't printed yet: for each the beginning of a line.
 #[derive(Drop)]
 struct Unfinished {
     out: Vec<u8>,
     err: Vec<u8>,
 }
 
-/// Returns how many of these bytes are whole lines.
+/// Returns how many of these bytes form complete lines.
 fn whole_lines(bytes: &[u8]) -> usize
     ensures { result ≤ length bytes.now }
 {
@@ -138,18 +138,18 @@ fn whole_lines(bytes: &[u8]) -> usize
     whole
 }
 
-/// Appends bytes to a line that isn't complete yet, prints the lines that are complete then, and keeps the rest. So a reply that
-/// breaks off prints no part of a line.
-fn print_lines<O: Sink>(line: &mut Vec<u8>, bytes: &[u8], out: &mut O) -> Result<(), Cut>
+/// Appends bytes to a line that isn't complete yet, prints the lines that are now complete, and keeps the rest. So a reply that breaks
+/// off prints no partial line.
+fn print_lines<O: Sink>(line: &mut Vec<u8>, bytes: &[u8], out: &mut O) -> Result<(), WhyReplyEnded>
     requires { O.failed out.old < 2 ^ 64 - 1 }
-    ensures { result ≢ Err Cut.Output → O.failed out.new ≡ O.failed out.old }
+    ensures { result ≢ Err WhyReplyEnded.Output → O.failed out.new ≡ O.failed out.old }
 {
     if line.extend_from_slice(bytes).is_err() {
-        return Err(Cut::Memory);
+        return Err(WhyReplyEnded::Memory);
     }
     let whole = whole_lines(line.as_slice());
     if put_all(out, &line[..whole]).is_err() {
-        return Err(Cut::Output);
+        return Err(WhyReplyEnded::Output);
     }
     let rest = line.len() - whole;
     line.rotate_left(whole);
@@ -157,22 +157,22 @@ fn print_lines<O: Sink>(line: &mut Vec<u8>, bytes: &[u8], out: &mut O) -> Result
     Ok(())
 }
 
-/// Prints so many bytes as they arrive, line by line.
-fn print_said<O: Sink>(
+/// Prints this many bytes as they arrive, line by line.
+fn print_output_frame<O: Sink>(
     stream: &mut UnixStream,
     len: u32,
     line: &mut Vec<u8>,
     out: &mut O,
-) -> Result<(), Cut>
+) -> Result<(), WhyReplyEnded>
     requires { O.failed out.old < 2 ^ 64 - 1 }
-    ensures { result ≢ Err Cut.Output → O.failed out.new ≡ O.failed out.old }
+    ensures { result ≢ Err WhyReplyEnded.Output → O.failed out.new ≡ O.failed out.old }
 {
     let mut left = len as usize;
     let mut room = [0; CHUNK];
     while left > 0 {
         let wanted = left.min(CHUNK);
         match stream.read(&mut room[..wanted]) {
-            Ok(0) | Err(_) => return Err(Cut::Server),
+            Ok(0) | Err(_) => return Err(WhyReplyEnded::Server),
             Ok(count) => {
                 print_lines(line, &room[..count], out)?;
                 left -= count;
@@ -182,44 +182,44 @@ fn print_said<O: Sink>(
     Ok(())
 }
 
-/// Prints so many bytes for the error output as they arrive. Returns whether the error output took them.
+/// Prints this many bytes for the error output as they arrive. Returns whether the error output accepted them.
 fn print_error<E: Sink>(
     stream: &mut UnixStream,
     len: u32,
     line: &mut Vec<u8>,
     err: &mut E,
-) -> Result<bool, Cut>
+) -> Result<bool, WhyReplyEnded>
     requires { E.failed err.old < 2 ^ 64 - 1 }
     ensures unfailed { result ≡ Ok true → E.failed err.new ≡ E.failed err.old }
     ensures err { OnErr result (E.failed err.new ≡ E.failed err.old) }
 {
-    match print_said(stream, len, line, err) {
+    match print_output_frame(stream, len, line, err) {
         Ok(()) => Ok(true),
-        Err(Cut::Output) => Ok(false),
-        Err(Cut::Server) => Err(Cut::Server),
-        Err(Cut::Memory) => Err(Cut::Memory),
+        Err(WhyReplyEnded::Output) => Ok(false),
+        Err(WhyReplyEnded::Server) => Err(WhyReplyEnded::Server),
+        Err(WhyReplyEnded::Memory) => Err(WhyReplyEnded::Memory),
     }
 }
 
-/// Returns the status of an order from its last frame, once the rest of that frame is printed on the error output, and what is left
-/// of a line of either output. If the error output fails, the status is 3.
-fn print_over<O: Sink, E: Sink>(
+/// Returns the status of an order from its last frame, after printing the rest of that frame on the error output, and what remains of
+/// a line of either output. If the error output fails, the status is 3.
+fn print_end_frame<O: Sink, E: Sink>(
     stream: &mut UnixStream,
     len: u32,
     unfinished: &mut Unfinished,
     out: &mut O,
     err: &mut E,
-) -> Result<u8, Cut>
+) -> Result<u8, WhyReplyEnded>
     requires out { O.failed out.old < 2 ^ 64 - 1 }
     requires err { E.failed err.old < 2 ^ 64 - 1 }
     ensures { OnErr result (E.failed err.new ≡ E.failed err.old) }
 {
     let mut status = [0];
     if stream.read_exact(&mut status).is_err() {
-        return Err(Cut::Server);
+        return Err(WhyReplyEnded::Server);
     }
     if put_all(out, unfinished.out.as_slice()).is_err() {
-        return Err(Cut::Output);
+        return Err(WhyReplyEnded::Output);
     }
     if !print_error(stream, len.saturating_sub(1), &mut unfinished.err, err)? {
         return Ok(3);
@@ -237,7 +237,7 @@ fn print_frames<O: Sink, E: Sink>(
     first: FrameHead,
     out: &mut O,
     err: &mut E,
-) -> Result<u8, Cut>
+) -> Result<u8, WhyReplyEnded>
     requires out { O.failed out.old < 2 ^ 64 - 1 }
     requires err { E.failed err.old < 2 ^ 64 - 1 }
     ensures { OnErr result (E.failed err.new ≡ E.failed err.old) }
@@ -249,23 +249,23 @@ fn print_frames<O: Sink, E: Sink>(
     let mut frame = first;
     for _ in 0..u64::MAX {
         match frame.kind {
-            FrameKind::Output => print_said(stream, frame.len, &mut unfinished.out, out)?,
+            FrameKind::Output => print_output_frame(stream, frame.len, &mut unfinished.out, out)?,
             FrameKind::ErrorOutput => {
                 if !print_error(stream, frame.len, &mut unfinished.err, err)? {
                     return Ok(3);
                 }
             }
-            FrameKind::End => return print_over(stream, frame.len, &mut unfinished, out, err),
+            FrameKind::End => return print_end_frame(stream, frame.len, &mut unfinished, out, err),
         }
         frame = match frame_in(stream) {
             Ok(next) => next,
-            Err(_) => return Err(Cut::Server),
+            Err(_) => return Err(WhyReplyEnded::Server),
         };
     }
-    Err(Cut::Server)
+    Err(WhyReplyEnded::Server)
 }
 
-/// Sends a message, with its length in front.
+/// Sends a message, preceded by its length.
 fn send(stream: &mut UnixStream, message: &[u8]) -> io::Result<()> {
     stream.write_all(&message_head(message.len()))?;
     stream.write_all(message)
@@ -278,19 +278,20 @@ pub struct FrameReader {
     first: FrameHead,
 }
 
-/// What came of an order that was sent.
+/// The outcome of sending an order.
 #[derive(Drop)]
 pub enum Sent {
     /// A server has begun to reply.
     Begun(FrameReader),
-    /// Nobody serves the database; or the server closed the connection before it had read all of the order, so that it
-    /// can't have done it.
+    /// No program serves the database; or the server closed the connection before it had read all of the order, so it can't have
+    /// performed it.
     Unread,
-    /// The order wasn't sent, for this fault; or the server went after it had read the order, and may have done it.
+    /// The order wasn't sent, for this fault; or the server disconnected after it had read the order, and may have performed it.
     Failed(Fault),
 }
 
-/// Waits for the first frame of the reply. A connection that is reset is one that the server closed with bytes of the message unread.
+/// Waits for the first frame of the reply. A connection that is reset is one that the server closed before it had read all of the
+/// message.
 fn reply_in(mut stream: UnixStream) -> Sent {
     match frame_in(&mut stream) {
         Ok(first) => Sent::Begun(FrameReader { stream, first }),
@@ -308,13 +309,13 @@ pub fn send_order(rt: &HostRuntime, database: &str, order_files: &OrderFiles) ->
         Ok(message) => message,
         Err(fault) => return Sent::Failed(fault),
     };
-    // A server that reads no further may have replied why, so the reply is read all the same.
+    // A server that stops reading may have replied why, so the reply is read all the same.
     let _ = send(&mut stream, &message);
     reply_in(stream)
 }
 
-/// Prints the rest of a reply, and returns the order's status. If the server goes before the end, it prints fault 102: the order is
-/// to be sent again.
+/// Prints the rest of a reply, and returns the order's status. If the server disconnects before the end, it prints fault 102: the
+/// order should be sent again.
 pub fn print_reply<O: Sink, E: Sink>(
     alloc: Global,
     reply: FrameReader,
@@ -327,8 +328,8 @@ pub fn print_reply<O: Sink, E: Sink>(
     let FrameReader { mut stream, first } = reply;
     match print_frames(alloc, &mut stream, first, out, err) {
         Ok(status) => status,
-        Err(Cut::Memory) => tell_failure(Failure::Office(Fault::Memory), err),
-        Err(Cut::Server) => tell_failure(Failure::Office(Fault::Store), err),
-        Err(Cut::Output) => tell_failure(Failure::Output, err),
+        Err(WhyReplyEnded::Memory) => tell_failure(Failure::Office(Fault::Memory), err),
+        Err(WhyReplyEnded::Server) => tell_failure(Failure::Office(Fault::Store), err),
+        Err(WhyReplyEnded::Output) => tell_failure(Failure::Output, err),
     }
 }

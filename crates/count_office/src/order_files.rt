@@ -1,5 +1,5 @@
-//! The words of an order, and the bytes of the files that it reads. They are read with the rights and in the folder of the person
-//! who gives the order, before it is handed over to the program that serves the database.
+//! The words of an order, and the bytes of the files that it reads. They are read with the permissions and in the directory of the
+//! person who gives the order, before it is sent to the program that serves the database.
 
 use desk::{Folder, Job, Order, Task, files_named_in};
 use order_protocol::{MAX_MESSAGE, is_message_len};
@@ -23,7 +23,7 @@ pub struct OrderFiles {
 }
 
 impl OrderPart {
-    /// Whether all of the file was read: of a longer one than a message may be, only the beginning was.
+    /// Returns whether all of the file was read: of one longer than a message may be, only a prefix was.
     fn is_whole(&self) -> bool {
         match &self.bytes {
             Some(bytes) => is_message_len(bytes.len()),
@@ -55,7 +55,11 @@ fn bytes_at(rt: &HostRuntime, path: &str) -> Option<Vec<u8>> {
 }
 
 /// Reads the file at a path, unless it was read before.
-fn bring(rt: &HostRuntime, files: &mut Vec<OrderPart>, path: &str) -> Result<(), AllocError> {
+fn read_file_once(
+    rt: &HostRuntime,
+    files: &mut Vec<OrderPart>,
+    path: &str,
+) -> Result<(), AllocError> {
     if files.iter().any(|file| file.name.as_str() == path) {
         return Ok(());
     }
@@ -65,7 +69,7 @@ fn bring(rt: &HostRuntime, files: &mut Vec<OrderPart>, path: &str) -> Result<(),
     Ok(())
 }
 
-/// Returns the paths that the script names which was read first.
+/// Returns the paths that the script names; it is the first of these files.
 fn named_by(alloc: Global, files: &[OrderPart]) -> Result<Vec<String>, AllocError> {
     match files.first() {
         Some(
@@ -78,18 +82,18 @@ fn named_by(alloc: Global, files: &[OrderPart]) -> Result<Vec<String>, AllocErro
     }
 }
 
-/// Reads the files of an order, each once: its own, and for a script those that its lines name.
+/// Reads the files of an order, each once: its own, and for a script also those that its lines name.
 fn files_of(rt: &HostRuntime, order: &Order<'_>) -> Result<Vec<OrderPart>, AllocError> {
     let mut files = Vec::new(rt.alloc());
     let Order::Perform(task) = order else {
         return Ok(files);
     };
     if let Some(path) = task.file() {
-        bring(rt, &mut files, path)?;
+        read_file_once(rt, &mut files, path)?;
     }
     if let Task::InOffice(Job::Replay { .. }) = task {
         for path in named_by(rt.alloc(), &files)? {
-            bring(rt, &mut files, path.as_str())?;
+            read_file_once(rt, &mut files, path.as_str())?;
         }
     }
     Ok(files)
@@ -118,8 +122,8 @@ fn order_files_of(
     })
 }
 
-/// Reads what is handed over of an order of these words. An error is that an allocation failed, or that a file is longer
-/// than a message may be.
+/// Reads what is sent of an order with these words. An error is that an allocation failed, or that a file is longer than a message may
+/// be.
 pub fn pack(rt: &HostRuntime, words: &[&str], order: &Order<'_>) -> Result<OrderFiles, Fault> {
     match order_files_of(rt, words, order) {
         Ok(order_files) if order_files.files.iter().all(|file| file.is_whole()) => Ok(order_files),
@@ -128,7 +132,7 @@ pub fn pack(rt: &HostRuntime, words: &[&str], order: &Order<'_>) -> Result<Order
     }
 }
 
-/// The files of this machine. A file that was read before isn't opened again, since a pipe gives its bytes only once.
+/// The files of this machine. A file that was read before isn't opened again, since a pipe can be read only once.
 #[derive(Clone, Copy)]
 pub struct LocalFolder<'a> {
     pub rt: &'a HostRuntime,

@@ -1,5 +1,5 @@
-//! An order on a database: it is done in the file; or handed over to the program that serves it; or it waits while
-//! another program holds the file.
+//! An order on a database: it is performed on the file; or sent to the program that serves it; or it waits while another program has
+//! locked the file.
 
 ghost use Rattle.std.specs.Prelude.{◌≡◌, ◌-◌, ◌^◌, ◌<◌, OnErr, Some};
 
@@ -9,7 +9,7 @@ use crate::notices::{LockHolder, say_foreign_log, say_if_open_to_others, say_wai
 use crate::order_client::{FrameReader, Sent, print_reply, send_order};
 use crate::order_files::{OrderFiles, pack};
 use crate::path_state::{PathKind, PathState};
-use crate::{LockedDatabase, close, is_busy, order_socket, perform_on, wants_progress};
+use crate::{LockedDatabase, close, dispatch_order, is_busy, order_socket, wants_progress};
 use desk::{Failure, Order, ProgressSink, Task, tell_failure};
 use sqlite::{Connection, Wary};
 use std::fs;
@@ -19,13 +19,13 @@ use store::Fault;
 use store::fault::fault_of;
 use streams::Sink;
 
-/// The pauses between the attempts of an order whose file is held: ten seconds of them.
+/// The number of pauses between the attempts of an order whose file is locked: ten seconds of them.
 const PAUSES: u32 = 1000;
 
 /// The length of a pause, in milliseconds.
 const PAUSE: u64 = 10;
 
-/// After so many pauses somebody at a terminal reads why nothing happens.
+/// After this many pauses a person at a terminal is shown why nothing happens.
 const PAUSES_UNSEEN: u32 = 50;
 
 /// An order, its words from DB on, and the path of its database.
@@ -37,12 +37,12 @@ pub struct OrderRun<'a> {
     pub order: &'a Order<'a>,
 }
 
-/// Opens the database at a path, which is held, does an order over it, and closes it. If the order failed, nothing is
-/// left that wasn't there. An error is that another program has the file open; nothing is printed then.
+/// Opens the locked database at a path, performs an order on it, and closes it. If the order failed, nothing is left that didn't exist
+/// before. An error is that another program has the file open; nothing is printed then.
 ///
-/// Two stretches of writing rest on what `sqlite` states: `Connection::open_from` makes the log if it is missing and takes up
-/// what it holds, and `close` copies it. `perform` speaks of all between.
-fn perform_in<O: Sink, E: Sink>(
+/// Two phases of writing depend on what `sqlite` states: `Connection::open_from` makes the log if it doesn't exist and recovers what
+/// it contains, and `close` copies it. The contract of `perform` covers everything in between.
+fn open_and_perform<O: Sink, E: Sink>(
     place: LockedDatabase<'_>,
     order: &Order<'_>,
     out: &mut O,
@@ -60,9 +60,9 @@ fn perform_in<O: Sink, E: Sink>(
                 return Ok(refuse_log(rt, place.path, err));
             }
             let mut host = Localhost::at(place);
-            let (status, conn) = perform_on(place, &mut host, order, conn, out, err);
+            let (status, conn) = dispatch_order(place, &mut host, order, conn, out, err);
             if status != 0 {
-                place.found.leave(rt);
+                place.found.remove_created(rt);
             }
             let _ = close(conn);
             Ok(status)
@@ -72,14 +72,14 @@ fn perform_in<O: Sink, E: Sink>(
             Err(LockHolder::Program)
         }
         Err((error, left)) => {
-            place.found.leave(rt);
+            place.found.remove_created(rt);
             drop(left);
             Ok(tell_failure(Failure::Office(fault_of(error)), err))
         }
     }
 }
 
-/// Prints fault 102, and that the log of a database belongs to somebody else.
+/// Prints fault 102, and that the log of a database belongs to another user.
 fn refuse_log<E: Sink>(rt: &HostRuntime, path: &str, err: &mut E) -> u8
     requires { E.failed err.old < 2 ^ 64 - 1 }
 {
@@ -88,13 +88,13 @@ fn refuse_log<E: Sink>(rt: &HostRuntime, path: &str, err: &mut E) -> u8
     status
 }
 
-/// Why an order opens nothing at a path, if it doesn't. `init` alone makes an office, where no log holds anything: any
-/// other order finds no office there.
-fn why_unopened(site: PathKind, order: &Order<'_>) -> Option<Fault>
-    ensures alone { site ≡ PathKind.LogAlone → result ≡ Some Fault.WrongDatabase }
-    ensures unseen { site ≡ PathKind.LogUnseen → result ≡ Some Fault.Store }
+/// Returns why an order opens nothing at a path, if it doesn't. Only `init` makes an office, if no log contains anything: any other
+/// order finds no office there.
+fn why_unopened(kind: PathKind, order: &Order<'_>) -> Option<Fault>
+    ensures alone { kind ≡ PathKind.LogAlone → result ≡ Some Fault.WrongDatabase }
+    ensures unseen { kind ≡ PathKind.LogUnseen → result ≡ Some Fault.Store }
 {
-    match site {
+    match kind {
         PathKind::Taken => None,
         PathKind::Free | PathKind::Empty if matches!(order, Order::Perform(Task::Init)) => None,
         PathKind::Free | PathKind::Empty | PathKind::LogAlone => Some(Fault::WrongDatabase),
@@ -121,8 +121,8 @@ fn print_watched<O: Sink, E: Sink>(
     }
 }
 
-/// Reads what is handed over of an order, once: unless that was done before, or nobody serves the database.
-fn bring(
+/// Reads what is sent of an order, unless it was read before, or no program serves the database.
+fn read_order_files(
     request: OrderRun<'_>,
     database: &str,
     brought: &mut Option<OrderFiles>,
@@ -133,9 +133,9 @@ fn bring(
     Ok(())
 }
 
-/// Hands an order on a database that another program holds over to it, and returns the status. Its files are read before a
-/// connection is made, however long that takes. An error is that the program doesn't serve the database, or no longer; nothing
-/// is printed then.
+/// Sends an order to the program that has locked its database, and returns the status. The order's files are read before a connection
+/// is made, however long that takes. An error is that the program doesn't serve the database, or no longer does; nothing is printed
+/// then.
 fn hand_over<O: Sink, E: Sink>(
     request: OrderRun<'_>,
     database: &str,
@@ -147,7 +147,7 @@ fn hand_over<O: Sink, E: Sink>(
     requires err { E.failed err.old < 2 ^ 64 - 1 }
     ensures { OnErr result ((out.new ≡ out.old) × (err.new ≡ err.old)) }
 {
-    if let Err(fault) = bring(request, database, brought) {
+    if let Err(fault) = read_order_files(request, database, brought) {
         return Ok(tell_failure(Failure::Office(fault), err));
     }
     let Some(order_files) = brought else {
@@ -160,7 +160,7 @@ fn hand_over<O: Sink, E: Sink>(
     }
 }
 
-/// Whether another order holds a database that can't be held for this reason, or has just made it.
+/// Returns whether this error means that another order has locked the database, or has just made it.
 fn is_held(rt: &HostRuntime, database: &str, error: &io::Error) -> bool {
     match error.kind() {
         ErrorKind::WouldBlock => true,
@@ -171,9 +171,8 @@ fn is_held(rt: &HostRuntime, database: &str, error: &io::Error) -> bool {
     }
 }
 
-/// Does an order over the database at a path, which is held. An error is that another program has the file open; nothing is
-/// printed then.
-fn perform_held<O: Sink, E: Sink>(
+/// Performs an order on the locked database at a path. An error is that another program has the file open; nothing is printed then.
+fn perform_locked<O: Sink, E: Sink>(
     request: OrderRun<'_>,
     found: &PathState,
     held: &FileLock,
@@ -192,12 +191,12 @@ fn perform_held<O: Sink, E: Sink>(
         held,
         brought,
     };
-    perform_in(place, request.order, out, err)
+    open_and_perform(place, request.order, out, err)
 }
 
-/// Holds the database that was found, and does an order over it; or hands the order over to the program that serves it. An error is
-/// that another program holds the file; nothing is printed then.
-fn attempt_at<O: Sink, E: Sink>(
+/// Locks the database that was found, and performs an order on it; or sends the order to the program that serves it. An error is that
+/// another program has locked the file; nothing is printed then.
+fn lock_and_perform<O: Sink, E: Sink>(
     request: OrderRun<'_>,
     found: &PathState,
     brought: &mut Option<OrderFiles>,
@@ -211,7 +210,7 @@ fn attempt_at<O: Sink, E: Sink>(
     let rt = request.rt;
     match found.hold(rt) {
         Ok(held) => {
-            let done = perform_held(request, found, &held, &*brought, out, err);
+            let done = perform_locked(request, found, &held, &*brought, out, err);
             drop(held);
             done
         }
@@ -225,8 +224,8 @@ fn attempt_at<O: Sink, E: Sink>(
     }
 }
 
-/// Looks at what is at the path of an order's database, and does the order, if it may be done there. An error is that another program
-/// holds the file; nothing is printed then.
+/// Checks what is at the path of an order's database, and performs the order if that is allowed there. An error is that another
+/// program has locked the file; nothing is printed then.
 fn attempt<O: Sink, E: Sink>(
     request: OrderRun<'_>,
     brought: &mut Option<OrderFiles>,
@@ -240,18 +239,18 @@ fn attempt<O: Sink, E: Sink>(
     let Ok(found) = PathState::at(request.rt, request.path) else {
         return Ok(tell_failure(Failure::Office(Fault::Memory), err));
     };
-    if let Some(fault) = why_unopened(found.site, request.order) {
+    if let Some(fault) = why_unopened(found.kind, request.order) {
         return Ok(tell_failure(Failure::Office(fault), err));
     }
     if found.has_foreign_log(request.rt) {
         return Ok(refuse_log(request.rt, request.path, err));
     }
-    attempt_at(request, &found, brought, out, err)
+    lock_and_perform(request, &found, brought, out, err)
 }
 
-/// Does an order over the database at a path, and returns its status. While another program holds the file and doesn't serve it,
-/// the order waits, for ten seconds at most. Then it prints fault 102, and what holds the file.
-pub fn perform_at<O: Sink, E: Sink>(request: OrderRun<'_>, out: &mut O, err: &mut E) -> u8
+/// Performs an order on the database at a path, and returns its status. While another program has locked the file and doesn't serve
+/// it, the order waits, for at most ten seconds. Then it prints fault 102, and what has locked the file.
+pub fn perform_with_retries<O: Sink, E: Sink>(request: OrderRun<'_>, out: &mut O, err: &mut E) -> u8
     requires out { O.failed out.old < 2 ^ 64 - 1 }
     requires err { E.failed err.old < 2 ^ 64 - 1 }
 {

@@ -1,7 +1,7 @@
-//! The socket beside a database, by which orders are handed over to the office that is served.
+//! The socket next to a database, by which orders are sent to the office that is served.
 //!
-//! It has the name of the database with `-serve` behind it, and is for the owner of the database alone. Whoever serves a
-//! database holds it (`file_lock.rt`), so a socket that is there already is one that a stop left.
+//! Its name is that of the database followed by `-serve`, and only the owner of the database may use it. A program that serves a
+//! database has locked it (`file_lock.rt`), so a socket that exists already was left by a stop.
 
 use mio::net::UnixListener;
 use std::fs::{self, File, Files};
@@ -11,23 +11,23 @@ use std::os::fd::{AsFd, AsRawFd};
 use std::os::unix::fs::{FileTypeExt, MetadataExt};
 use std::os::unix::net::{self, SocketAddr, UnixStream};
 
-/// What stands behind the name of a database in that of its socket.
+/// What is appended to the name of a database for its socket.
 const ENDING: &str = "-serve";
 
-/// The rights of the socket: its owner's alone.
+/// The permissions of the socket: only its owner's.
 const RIGHTS: u32 = 0o600;
 
-/// The rights among the bits of a mode.
+/// The permission bits of a mode.
 const ALL_RIGHTS: u32 = 0o777;
 
-/// The descriptors of the standard streams are 0 to this one.
+/// The highest descriptor of the standard streams, which are 0 to 2.
 const LAST_STREAM: i32 = 2;
 
-/// How many orders may wait to be let in.
+/// The maximum number of connections that wait to be accepted.
 const QUEUE: i32 = 128;
 
-/// Whether a database belongs to the account that this program runs under. The socket that root would make beside another's
-/// database could be used by root alone; and if its owner could use it, orders of that owner would be done with root's rights.
+/// Returns whether a database belongs to this program's user. A socket that root made next to another user's database could be used by
+/// root alone; and if its owner could use it, that user's orders would be performed with root's permissions.
 fn is_own(rt: &HostRuntime, database: &str) -> io::Result<bool> {
     Ok(fs::metadata(rt, database)?.uid() == libc::geteuid())
 }
@@ -38,7 +38,7 @@ pub struct OrderSocket {
     path: String,
 }
 
-/// What the call of the system that has just answered so came to.
+/// Returns the result of the system call that has just returned this status.
 fn checked(status: i32) -> io::Result<()> {
     match status {
         0 => Ok(()),
@@ -46,13 +46,13 @@ fn checked(status: i32) -> io::Result<()> {
     }
 }
 
-/// The path of the socket of a database.
+/// Returns the path of the socket of a database.
 fn path_of(rt: &HostRuntime, database: &str) -> io::Result<String> {
     Ok(format!(in rt.alloc(); "{database}{ENDING}")?)
 }
 
-/// The mode of the socket at a path, where one of the database's owner is; none, where nothing is there. An error is that
-/// something else is there, or somebody else's socket, or that it can't be looked at. A link is something else.
+/// Returns the mode of the socket at a path; None if nothing is there. An error is that something other than a socket is there, such
+/// as a link, or another user's socket, or that it can't be examined.
 fn mode_at(rt: &HostRuntime, database: &str, path: &str) -> io::Result<Option<u32>> {
     let found = match fs::symlink_metadata(rt, path) {
         Ok(found) => found,
@@ -67,7 +67,7 @@ fn mode_at(rt: &HostRuntime, database: &str, path: &str) -> io::Result<Option<u3
     }
 }
 
-/// Why there is no socket, in words.
+/// Returns why there is no socket, in words.
 pub fn reason_of(error: &io::Error) -> &'static str {
     match error.kind() {
         ErrorKind::AlreadyExists => "something else is at its path, or somebody else's",
@@ -79,9 +79,10 @@ pub fn reason_of(error: &io::Error) -> &'static str {
 }
 
 impl OrderSocket {
-    /// Makes the socket of a database, which is to be held, and listens on it. One that a stop left is taken away first.
+    /// Makes the socket of a locked database, and listens on it. One that a stop left is removed first.
     ///
-    /// The file of a socket gets the rights that its descriptor has as it is bound, and nobody can connect before it listens.
+    /// The file of a socket gets the permissions that its descriptor has when it is bound, and no client can connect before it
+    /// listens.
     pub fn listen(rt: &HostRuntime, database: &str) -> io::Result<(OrderSocket, UnixListener)> {
         if !is_own(rt, database)? {
             return Err(ErrorKind::Unsupported.into());
@@ -107,15 +108,15 @@ impl OrderSocket {
         }
     }
 
-    /// Takes the socket away. It is to be called while the database is held.
+    /// Removes the socket. The database must be locked.
     pub fn remove(&self, rt: &HostRuntime) {
         let _ = fs::remove_file(rt, self.path.as_str());
     }
 }
 
-/// Holds the descriptors of standard streams that were closed: else a socket would get one, and what is meant for an output
-/// would go to whoever is behind it.
-pub fn closed_streams(rt: &HostRuntime) -> io::Result<Vec<File>> {
+/// Opens the descriptors of standard streams that were closed: otherwise a socket would get one of them, and output would be sent to
+/// its peer.
+pub fn reserved_descriptors(rt: &HostRuntime) -> io::Result<Vec<File>> {
     let mut held = Vec::new(rt.alloc());
     for _ in 0..=LAST_STREAM {
         let nothing = File::open(rt, "/dev/null")?;
@@ -127,21 +128,22 @@ pub fn closed_streams(rt: &HostRuntime) -> io::Result<Vec<File>> {
     Ok(held)
 }
 
-/// Whether somebody serves a database. The connection is closed at once.
+/// Returns whether a program serves a database. The connection is closed at once.
 pub fn is_served(rt: &HostRuntime, database: &str) -> bool {
     reach(rt, database).is_some()
 }
 
-/// Reaches the office that serves a database; none, where nobody serves it.
+/// Connects to the office that serves a database; None if no program serves it.
 ///
-/// The socket has to belong to the owner of the database, and be for that owner alone: anyone else's may print anything.
+/// The socket must belong to the owner of the database, and be accessible to that owner alone: any other socket may send anything to
+/// be printed.
 pub fn reach(rt: &HostRuntime, database: &str) -> Option<UnixStream> {
     let path = path_of(rt, database).ok()?;
     let mode = mode_at(rt, database, path.as_str()).ok()??;
     if mode & ALL_RIGHTS != RIGHTS {
         return None;
     }
-    let streams = closed_streams(rt).ok()?;
+    let streams = reserved_descriptors(rt).ok()?;
     let stream = UnixStream::connect(rt, path.as_str()).ok();
     drop(streams);
     stream

@@ -1,7 +1,7 @@
-//! What stands at a database's path before an order, and that an order which makes nothing leaves nothing there.
+//! What exists at a database's path before an order. An order that makes nothing leaves nothing there.
 //!
-//! `sqlite` makes both files as it opens them: DB, and its log beside it. Where DB is missing or empty, it makes the log
-//! anew, whatever is in it. So only `init` is to open such a file, and only where no log holds anything.
+//! `sqlite` makes both files when it opens them: DB, and its log next to it. If DB is missing or empty, it makes a new log, whatever
+//! the old one contains. So only `init` may open such a file, and only if no log contains anything.
 
 ghost use Rattle.std.specs.Prelude.{◌≡◌, ◌≢◌, ◌≤◌, None, IfSome};
 
@@ -11,42 +11,42 @@ use std::fs;
 use std::io::{self, ErrorKind};
 use std::os::unix::fs::MetadataExt;
 
-/// A log of fewer bytes holds no page: the smallest has 512.
+/// A shorter log contains no page: the smallest page has 512 bytes.
 const MIN_LOG: u64 = 512;
 
-/// The most bytes of the log that `sqlite` makes before it writes the first page of a database. An `init` that was stopped then may be given again.
+/// The maximum size of the log that `sqlite` makes before it writes the first page of a database. An `init` that was stopped at that
+/// point may be repeated.
 const MAX_BEGUN_LOG: u64 = 41;
 
-/// A database and its log of fewer bytes together hold no office: each of its eleven tables and of their
-/// keys has a page of 4096.
+/// A database and its log with fewer bytes together contain no office: each of its eleven tables and of their keys has a page of 4096.
 pub const MIN_OFFICE: u64 = 22 * 4096;
 
-/// `sqlite` takes a file of up to so many bytes for an empty one.
+/// `sqlite` treats a file of at most this many bytes as an empty one.
 const MAX_EMPTY: u64 = 1;
 
-/// The rights of a new database: its owner's alone, from the moment that it is made. `sqlite` gives its log the same.
+/// The permissions of a new database: only its owner's, from its creation on. `sqlite` gives its log the same.
 pub const RIGHTS: u32 = 0o600;
 
-/// The rights of accounts other than a file's owner to write to it.
+/// The permissions of group and others to write a file.
 const WRITING_BY_OTHERS: u32 = 0o022;
 
-/// The number of the account that may do everything.
+/// The user id of root.
 const ROOT: u32 = 0;
 
-/// What stands behind the name of a database in those of its logs: in that of `sqlite`, and in that of the log which other
-/// programs of SQLite play back into a database.
+/// What is appended to the name of a database for its logs: that of `sqlite`, and the one which other programs of SQLite play back
+/// into a database.
 pub const LOG_ENDINGS: [&str; 2] = [LOG, JOURNAL];
 
 const LOG: &str = "-wal";
 
 const JOURNAL: &str = "-journal";
 
-/// Names that `sqlite` takes for no file.
+/// Returns whether `sqlite` treats a name as no file.
 pub fn is_no_file(path: &str) -> bool {
     path == ":memory:" || path.starts_with("file:")
 }
 
-/// The length of the file at a path, none where none is there. An error is that it can't be looked at.
+/// Returns the length of the file at a path; None if there is none. An error is that it can't be examined.
 pub fn length_at(rt: &HostRuntime, path: &str) -> io::Result<Option<u64>> {
     match fs::metadata(rt, path) {
         Ok(found) => Ok(Some(found.len())),
@@ -55,13 +55,14 @@ pub fn length_at(rt: &HostRuntime, path: &str) -> io::Result<Option<u64>> {
     }
 }
 
-/// The same, but a file that can't be looked at counts as one of the greatest length: it isn't taken for empty.
+/// Returns the length of the file at a path; None if there is none. A file that can't be examined has the greatest length, so it isn't
+/// treated as empty.
 fn greatest_length_at(rt: &HostRuntime, path: &str) -> Option<u64> {
     length_at(rt, path).unwrap_or(Some(u64::MAX))
 }
 
-/// The length of what has the name of a log, none where nothing has it. A link or a folder has the greatest length. An
-/// error is that it can't be looked at.
+/// Returns the length of what has the name of a log; None if nothing has. A link or a directory has the greatest length. An error is
+/// that it can't be examined.
 fn log_length_at(rt: &HostRuntime, path: &str) -> io::Result<Option<u64>> {
     match fs::symlink_metadata(rt, path) {
         Ok(found) if found.is_file() => Ok(Some(found.len())),
@@ -74,19 +75,19 @@ fn log_length_at(rt: &HostRuntime, path: &str) -> io::Result<Option<u64>> {
 /// What an order finds at a database's path.
 #[derive(Clone, Copy)]
 pub enum PathKind {
-    /// Nothing, nor at the names of its logs.
+    /// Nothing, and nothing at the names of its logs.
     Free,
-    /// A file that is taken for an empty one, and no log but one that `sqlite` began. No office can be in them.
+    /// A file that is treated as empty, and no log except one that `sqlite` began. They can't contain an office.
     Empty,
-    /// No file, or an empty one, and beside it a log in which something may be.
+    /// No file, or an empty one, and next to it a log that may contain something.
     LogAlone,
-    /// No file, or an empty one, and what has the name of its log can't be looked at.
+    /// No file, or an empty one, and what has the name of its log can't be examined.
     LogUnseen,
-    /// A file in which an office may be, or what can't be looked at.
+    /// A file that may contain an office, or that can't be examined.
     Taken,
 }
 
-/// What is at a path where a database has this length, and its logs have these.
+/// Returns the kind of a path at which a database has this length, and its logs have these.
 fn kind_of(database: Option<u64>, log: Option<u64>, journal: Option<u64>) -> PathKind
     ensures free { result ≡ PathKind.Free → (database ≡ None) × (log ≡ None) × (journal ≡ None) }
     ensures empty { result ≡ PathKind.Empty → IfSome log (λ length. length ≤ 41) × (journal ≡ None) }
@@ -102,8 +103,9 @@ fn kind_of(database: Option<u64>, log: Option<u64>, journal: Option<u64>) -> Pat
     }
 }
 
-/// The same, where what has the names of its logs may not have been looked at.
-fn site_beside(
+/// Returns the kind of a path at which a database has this length. Its logs have these, unless what has their names couldn't be
+/// examined.
+fn kind_with_log(
     database: Option<u64>,
     log: &io::Result<Option<u64>>,
     journal: &io::Result<Option<u64>>,
@@ -119,16 +121,16 @@ fn site_beside(
     }
 }
 
-/// The path of a database file, where links lead, and that of its log; and what was there.
+/// The path of a database file with links resolved, and that of its log; and what was there.
 #[derive(Drop)]
 pub struct PathState {
     database: String,
     log: String,
     has_log: bool,
-    pub site: PathKind,
+    pub kind: PathKind,
 }
 
-/// The path where links lead; the path itself, where nothing is there.
+/// Returns a path with links resolved; the path itself if nothing is there.
 fn real_path(rt: &HostRuntime, alloc: Global, path: &str) -> Result<String, AllocError> {
     match fs::canonicalize(rt, path) {
         Ok(real) => String::from_str(alloc, real.as_str()),
@@ -137,13 +139,13 @@ fn real_path(rt: &HostRuntime, alloc: Global, path: &str) -> Result<String, Allo
 }
 
 impl PathState {
-    /// What stands at a path now.
+    /// Returns what exists at a path now.
     pub fn at(rt: &HostRuntime, path: &str) -> Result<PathState, AllocError> {
         let database = real_path(rt, rt.alloc(), path)?;
         let log = format!(in rt.alloc(); "{database}{LOG}")?;
         let journal = format!(in rt.alloc(); "{database}{JOURNAL}")?;
         let log_length = log_length_at(rt, log.as_str());
-        let site = site_beside(
+        let kind = kind_with_log(
             greatest_length_at(rt, database.as_str()),
             &log_length,
             &log_length_at(rt, journal.as_str()),
@@ -152,22 +154,22 @@ impl PathState {
             database,
             log,
             has_log: !matches!(log_length, Ok(None)),
-            site,
+            kind,
         })
     }
 
-    /// The path of the database, where links lead.
+    /// Returns the path of the database, with links resolved.
     pub fn database(&self) -> &str {
         self.database.as_str()
     }
 
-    /// The path of its log.
+    /// Returns the path of its log.
     pub fn log(&self) -> &str {
         self.log.as_str()
     }
 
-    /// Whether the log belongs to an account, other than root's, that may not write to the database. Then somebody put it there
-    /// who could not have made it by an order, and what is in it isn't the office's.
+    /// Returns whether the log belongs to a user other than root who may not write the database. That user could not have made it by
+    /// an order, so its content isn't the office's.
     pub fn has_foreign_log(&self, rt: &HostRuntime) -> bool {
         let (Ok(database), Ok(log)) = (
             fs::metadata(rt, self.database.as_str()),
@@ -178,25 +180,25 @@ impl PathState {
         log.uid() != database.uid() && log.uid() != ROOT && database.mode() & WRITING_BY_OTHERS == 0
     }
 
-    /// Holds the database. Where nothing was there, its file is made.
+    /// Locks the database. If nothing was there, its file is made.
     pub fn hold(&self, rt: &HostRuntime) -> io::Result<FileLock> {
         let path = self.database.as_str();
-        match self.site {
+        match self.kind {
             PathKind::Free if is_no_file(path) => Err(ErrorKind::Unsupported.into()),
             PathKind::Free => FileLock::make(rt, path, RIGHTS),
             _ => FileLock::take(rt, path),
         }
     }
 
-    /// Removes each of the two files that wasn't there, where nothing was kept in it. It is to be called while
-    /// the database is held, so that no other order has it.
-    pub fn leave(&self, rt: &HostRuntime) {
+    /// Removes each of the two files that didn't exist before, if nothing was stored in it. The database must be locked, so that no
+    /// other order uses it.
+    pub fn remove_created(&self, rt: &HostRuntime) {
         let database = greatest_length_at(rt, self.database.as_str()).unwrap_or(0);
         let log = match log_length_at(rt, self.log.as_str()) {
             Ok(length) => length.unwrap_or(0),
             Err(_) => u64::MAX,
         };
-        let is_made = matches!(self.site, PathKind::Free)
+        let is_made = matches!(self.kind, PathKind::Free)
             && database.saturating_add(log) < MIN_OFFICE;
         if is_made || (!self.has_log && log < MIN_LOG) {
             let _ = fs::remove_file(rt, self.log.as_str());

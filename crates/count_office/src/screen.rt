@@ -1,7 +1,7 @@
-//! An output that a person may read at a terminal: characters that steer a terminal aren't written there as they are.
+//! An output that a person may read on a terminal: control characters aren't written there as they are.
 //!
-//! Names of wards and candidates may come from anyone. They have no control characters of ASCII, but they may have others, such as
-//! U+009B, by which a terminal can be told to move or to rename things, and characters that turn the direction of writing.
+//! Names of wards and candidates may come from anyone. They have no ASCII control characters, but they may have others, such as
+//! U+009B, which can make a terminal move or rename things, and characters that change the direction of text.
 
 ghost use Rattle.std.specs.Prelude.{◌≡◌, ◌≤◌, ◌<◌, ◌+◌, ◌-◌, ◌^◌, length, take, IfOk, None, OnErr, OnOk};
 ghost use Rattle.std.specs.Io.KnownBytes.{Appends};
@@ -9,16 +9,16 @@ ghost use Rattle.count_office.specs.Screens.{controls, ends_steering, last_two, 
 
 use streams::{Broken, Sink};
 
-/// The most bytes that are written at once.
+/// The maximum number of bytes that are written at once.
 const ROOM: usize = 512;
 
-/// What a terminal is shown in place of a byte by which it would be steered.
+/// What is shown on a terminal in place of a control byte.
 const MASK: u8 = b'?';
 
-/// An output, and the last two bytes that it took.
+/// An output, and the last two bytes that were written to it.
 ///
-/// At a terminal the last byte of a character that steers it becomes a question mark: what is left of the character is no
-/// character. Anywhere else each byte is written as it is.
+/// On a terminal the last byte of a character that controls it, or the direction of text, becomes a question mark: what remains isn't
+/// a valid character. Anywhere else each byte is written as it is.
 #[derive(Drop)]
 pub struct Screen<S> {
     stream: S,
@@ -27,14 +27,14 @@ pub struct Screen<S> {
     second: u8,
 }
 
-/// Whether a byte is a control character of ASCII, other than a line feed and a tab.
+/// Returns whether a byte is an ASCII control character other than a line feed and a tab.
 fn controls(byte: u8) -> bool
     ensures { result ≡ controls byte }
 {
     matches!(byte, 0..=8 | 11..=31 | 127)
 }
 
-/// Whether a byte ends a character that steers a terminal or turns the direction of writing, after the two bytes before it.
+/// Returns whether a byte ends a character that controls a terminal or the direction of text, given the two bytes before it.
 fn ends_steering(first: u8, second: u8, byte: u8) -> bool
     ensures { result ≡ ends_steering first second byte }
 {
@@ -47,7 +47,7 @@ fn ends_steering(first: u8, second: u8, byte: u8) -> bool
     }
 }
 
-/// Returns the byte that a terminal is shown, after the two bytes before it.
+/// Returns the byte that is shown on a terminal, given the two bytes before it.
 fn shown_byte(first: u8, second: u8, byte: u8) -> u8
     ensures { result ≡ shown_byte first second byte }
 {
@@ -58,7 +58,7 @@ fn shown_byte(first: u8, second: u8, byte: u8) -> u8
     }
 }
 
-/// Returns bytes as a terminal is shown them, after the two bytes before them, at the front of an array.
+/// Returns bytes as they are shown on a terminal, given the two bytes before them, at the beginning of an array.
 fn mask(first: u8, second: u8, bytes: &[u8]) -> [u8; ROOM]
     requires { length bytes.now ≤ 512 }
     ensures { take (length bytes.now) result ≡ masked first second bytes.now }
@@ -74,7 +74,7 @@ fn mask(first: u8, second: u8, bytes: &[u8]) -> [u8; ROOM]
     room
 }
 
-/// Returns the last two of some bytes, after the two bytes before them.
+/// Returns the last two of some bytes, which follow these two.
 fn last_two(first: u8, second: u8, bytes: &[u8]) -> (u8, u8)
     ensures { result ≡ last_two first second bytes.now }
 {
@@ -88,7 +88,7 @@ fn last_two(first: u8, second: u8, bytes: &[u8]) -> (u8, u8)
 }
 
 impl<S: Sink> Screen<S> {
-    /// Returns an output that nothing was written to yet.
+    /// Returns an output to which nothing has been written yet.
     pub fn new(stream: S, is_terminal: bool) -> Screen<S>
         ensures stream { result.stream ≡ stream }
         ensures terminal { result.is_terminal ≡ is_terminal }
@@ -101,7 +101,7 @@ impl<S: Sink> Screen<S> {
         }
     }
 
-    /// Writes bytes as a terminal is shown them, and returns how many of them.
+    /// Writes bytes as they are shown on a terminal, and returns how many were written.
     fn put_masked(&mut self, bytes: &[u8]) -> Result<usize, Broken>
         requires { S.failed self.old.stream < 2 ^ 64 - 1 }
         ensures within { IfOk result (λ n. n ≤ length bytes.now) }

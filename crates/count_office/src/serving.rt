@@ -1,4 +1,4 @@
-//! The order to serve: opens an office and serves it on a host, by the settings of the order and the codes that were read.
+//! The order to serve: opens an office and serves it on a host, with the settings of the order and the codes that were read.
 
 ghost use Rattle.std.specs.Prelude.{◌≡◌, ◌-◌, ◌^◌, ◌<◌, IfSome, option_map};
 ghost use Rattle.sqlite.specs.Held.{state};
@@ -13,7 +13,7 @@ use crate::host::{Host, Opened};
 use connections::Network;
 use desk::{Failure, tell_failure};
 use office::Office;
-use server::{FileNumbers, ServeError, ServerSettings, SideJobs, serve_connections};
+use server::{FileNumbers, ServeError, ServedFile, ServerSettings, serve_connections};
 use sqlite::{Alter, Connection};
 use std::alloc::Global;
 use store::Fault;
@@ -30,16 +30,16 @@ pub struct Serving<'a> {
     pub codes: Option<&'a str>,
 }
 
-/// The settings by which an office is served: the words of `serve`, the codes and the page of the gate, if there is one, and the
-/// office's file.
+/// The settings for serving an office: the words of `serve`, the codes and the page of the gate, if there is one, and the office's
+/// file.
 #[derive(Clone, Copy)]
-pub struct GateSettings<'a> {
+pub struct ServeSettings<'a> {
     pub serving: Serving<'a>,
     pub gate_files: &'a Option<GateFiles>,
     pub file: FileNumbers,
 }
 
-/// Returns the failure that is printed when serving ended early.
+/// Returns the failure that is printed if serving ended early.
 fn failure_of(ended: ServeError) -> Failure
     ensures { result ≡ failure_by ended }
 {
@@ -59,15 +59,15 @@ fn most_of(connections: Option<u32>) -> Option<u64>
     }
 }
 
-/// Serves an open office on its network, by its settings.
-fn serve_through<D: Network, A: SideJobs, S: Alter>(
+/// Serves an open office on its network, with its settings.
+fn serve_through<D: Network, A: ServedFile, S: Alter>(
     alloc: Global,
     network: &mut D,
-    settings: GateSettings<'_>,
-    side_jobs: &A,
+    settings: ServeSettings<'_>,
+    served_file: &A,
     office: &mut Office<S>,
 ) -> Result<(), ServeError>
-    ensures { ServesAtNetwork (server_settings_of settings.entry (A.whole side_jobs.now)) (stream_of D.Stream.held D.Stream.taken D.Stream.failed) (state S.Store)
+    ensures { ServesAtNetwork (server_settings_of settings.entry (A.whole served_file.now)) (stream_of D.Stream.held D.Stream.taken D.Stream.failed) (state S.Store)
         (D.known network.old) (D.known network.new) settings.entry.serving.connections office.old office.new result }
 {
     let server_settings = ServerSettings {
@@ -76,7 +76,7 @@ fn serve_through<D: Network, A: SideJobs, S: Alter>(
             gate: gate_of(settings.gate_files),
         },
         file: settings.file,
-        side_jobs,
+        served_file,
     };
     let most = most_of(settings.serving.connections);
     serve_connections(alloc, network, server_settings, most, office)
@@ -93,25 +93,25 @@ fn serve_at<H: Host, S: Alter>(
 ) -> Result<(), Failure>
     ensures { MayServe (λ given. (given ≡ settings_with (given_by serving.entry.origin) (option_map gate_at gate_files.now) given.file given.whole)
         × IfSome (H.file host.old) (λ numbers. given.file ≡ numbers))
-        (stream_of H.Port.Stream.held H.Port.Stream.taken H.Port.Stream.failed) (state S.Store)
+        (stream_of H.Sockets.Stream.held H.Sockets.Stream.taken H.Sockets.Stream.failed) (state S.Store)
         serving.entry.port (H.known host.old) (H.known host.new) serving.entry.connections office.old office.new result }
 {
     let Opened {
         mut network,
-        side_jobs,
+        served_file,
         file,
     } = host.open(serving.port)?;
-    let settings = GateSettings {
+    let settings = ServeSettings {
         serving,
         gate_files,
         file,
     };
-    let ended = serve_through(alloc, &mut network, settings, &side_jobs, office);
+    let ended = serve_through(alloc, &mut network, settings, &served_file, office);
     host.close(
         serving.port,
         Opened {
             network,
-            side_jobs,
+            served_file,
             file,
         },
     );
@@ -146,7 +146,7 @@ pub fn serve<H: Host, S: Alter, E: Sink>(
 ) -> (u8, Connection<S>)
     requires { E.failed err.old < 2 ^ 64 - 1 }
     ensures { ServesOrder (IsErrorTold E.taken E.failed err.old err.new) (err.new ≡ err.old) result.0 serving.entry (H.codes_at host.old) (H.file host.old)
-        (stream_of H.Port.Stream.held H.Port.Stream.taken H.Port.Stream.failed) (state S.Store) (H.known host.old) (H.known host.new) conn result.1 }
+        (stream_of H.Sockets.Stream.held H.Sockets.Stream.taken H.Sockets.Stream.failed) (state S.Store) (H.known host.old) (H.known host.new) conn result.1 }
 {
     let gate_files = match read_gate_files(alloc, &*host, serving.codes) {
         Ok(gate_files) => gate_files,

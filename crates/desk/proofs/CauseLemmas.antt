@@ -1,12 +1,12 @@
--- The causes of faults, told of an earlier moment; and that what is answered is one thing.
+-- The causes of faults relative to an earlier state; and that an answer is unique.
 use Rattle.std.proofs.Common.{◌≡◌, ◌≤◌, ◌∙◌, inl, inr, Bool, true, false, true≢false, Result, Ok, Err, refl, sym, ap, arith}
 use Rattle.sqlite.specs.State.{State, HasCleanDisk}
 use Rattle.tables.specs.declared.fault.Fault.{Fault}
 use Rattle.tables.specs.Reading.{FailsBy, HasFailed}
-use Rattle.store.specs.Offices.{Wears}
+use Rattle.store.specs.StateTables.{KeepsConnection}
 
--- a store that failed since b failed since a, where only our calls came between the two
-failed_since : (a b c : State) → HasCleanDisk b → Wears a b → b.faults ≤ c.faults → HasFailed b c → HasFailed a c
+-- a store that failed since b failed since a, if only our calls came between the two
+failed_since : (a b c : State) → HasCleanDisk b → KeepsConnection a b → b.faults ≤ c.faults → HasFailed b c → HasFailed a c
 failed_since a b c clean first counts (inl more) = let low = first.counts in inl (omega (arith, low, more))
 failed_since a b c clean first counts (inr (inr limit)) = inr (inr (rw first.limit at limit))
 failed_since a b c clean first counts (inr (inl shut)) = go a.is_open refl
@@ -22,18 +22,18 @@ failed_since a b c clean first counts (inr (inl shut)) = go a.is_open refl
 abbrev pub TellsSince : State → State → State → Type 0
 TellsSince a b c = (fault : Fault) → FailsBy b c fault → FailsBy a c fault
 
-pub since : (a b c : State) → HasCleanDisk b → Wears a b → Wears b c → TellsSince a b c
+pub since : (a b c : State) → HasCleanDisk b → KeepsConnection a b → KeepsConnection b c → TellsSince a b c
 since a b c clean first second fault (inl memory) = inl memory
 since a b c clean first second fault (inr (store, failed)) = inr (store, failed_since a b c clean first second.counts failed)
 
 -- ---- what is answered
 
 module _ {X E : Type 0} where
-  -- it isn't both a value and an error
+  -- a result isn't both a value and an error
   pub told_one : {x : X} {why : E} (r : Result X E) → r ≡ Ok x → r ≡ Err why → ⊥
   told_one {x} {why} r ok err = let bad : Ok x ≡ Err why = sym ok ∙ err in absurd (cc bad)
 
-  -- nor two errors
+  -- nor two different errors
   abbrev fault_in : Result X E → E → E
   fault_in (Ok x) none = none
   fault_in (Err why) none = why

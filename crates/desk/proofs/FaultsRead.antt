@@ -1,4 +1,4 @@
--- What is wrong with words, read off worked ones.
+-- What is wrong with words, in computed examples.
 use Rattle.std.proofs.Common.{◌≡◌, [], ◌∷◌, refl}
 use Rattle.std.specs.Prelude.{codes}
 use Rattle.clap.proofs.OnLiterals.{clap_on_literals}

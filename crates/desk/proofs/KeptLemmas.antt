@@ -1,4 +1,4 @@
--- What is kept of an order, and what a connection that stays at rest leaves.
+-- What remains in effect after an order, and what a connection at rest leaves.
 use Rattle.std.proofs.Common.{◌≡◌, ◌≢◌, ◌⊎◌, ◌≤◌, ◌+◌, ◌∙◌, inl, inr, ℕ, Bool, true, false, List, [], ◌∷◌, Option, None, length, take, IsTrue, refl, sym, ap, subst, arith, suc}
 use Rattle.clap.specs.Words.{Text}
 use Rattle.sqlite.specs.Tree.{Trees}
@@ -10,13 +10,13 @@ use Rattle.register.specs.Offices.{OfficeState, empty_office}
 use Rattle.register.specs.Machine.{after, after_one}
 use Rattle.register.specs.declared.command.Request.{Request}
 use Rattle.tables.specs.Contents.{Contents, IsOffice, RestsAt, Stores}
-use Rattle.tables.specs.Presence.{has_some_table, has_every_table, form_of, IsOlderSchema}
-use Rattle.tables.specs.declared.presence.Form.TheVariants.{Whole, WithoutThird, WithoutCounts}
+use Rattle.tables.specs.Presence.{has_some_table, has_every_table, tables_present, IsOlderSchema}
+use Rattle.tables.specs.declared.presence.TablesPresent.TheVariants.{Whole, WithoutThird, WithoutCounts}
 use Rattle.tables.specs.Reading.{OnlyReads}
 use Rattle.tables.specs.Schema.{IsOfficeSchema, no_schema}
 use Rattle.tables.specs.declared.fault.Fault.{Fault}
 use Rattle.tables.specs.declared.fault.Fault.TheVariants.{Memory, Store, Damaged, Closed, WrongDatabase, NewerSchema, OlderSchema}
-use Rattle.store.specs.Offices.{LeavesState, tables_of}
+use Rattle.store.specs.StateTables.{LeavesState, tables_of}
 use Rattle.store.specs.Openings.{IsBlank, IsLeftAt}
 use Rattle.store.specs.Migrations.{IsToldInMigration}
 use Rattle.store.proofs.ReopenLemmas.{left_holds, left_told}
@@ -37,14 +37,14 @@ use Rattle.desk.proofs.TellingLemmas.{goes_after_zero, shown_zero, whole_below, 
 
 -- ---- a connection at rest
 
--- a connection that rests at a database leaves that alone
+-- a connection that rests at a database leaves only that
 pub rests_leaves : (s : OfficeState) (db : Database) (st : State) → ((trees : Trees) → IsTrue st.is_open → st.may_leave trees → trees ≡ st.committed.trees) → RestsAt db st → IsLeftAt s db
     → LeavesState st (λ x. x ≡ s)
 rests_leaves s db st settled rests left trees may =
     let same : db.trees ≡ trees = sym (settled trees rests.is_open may ∙ ap (λ (d : Database). d.trees) rests.committed) in
     (s, refl, record { is = left.is; stores = subst (Stores (tables_of s)) same left.stores })
 
--- and so it does after reads
+-- also after reads
 pub read_leaves : (s : OfficeState) (db : Database) (old new : State) → ((trees : Trees) → IsTrue old.is_open → old.may_leave trees → trees ≡ old.committed.trees) → OnlyReads old new
     → HasCleanDisk new → RestsAt db old
     → IsLeftAt s db → LeavesState new (λ x. x ≡ s)
@@ -58,15 +58,15 @@ some_there : (s : Schema) → IsOfficeSchema s → has_some_table s ≡ true
 unfolding same_name
 some_there s h = subst (λ (x : Schema). has_some_table x ≡ true) (sym h.is) refl
 
--- at an office all tables are there, so that it is no older one
+-- an office has all tables, so it is no older one
 all_there : (s : Schema) → IsOfficeSchema s → has_every_table s ≡ true
 unfolding same_name
 all_there s h = subst (λ (x : Schema). has_every_table x ≡ true) (sym h.is) refl
 
-whole_form : (s : Schema) → has_every_table s ≡ true → form_of s ≡ Whole
+whole_form : (s : Schema) → has_every_table s ≡ true → tables_present s ≡ Whole
 whole_form s every = rw every refl
 
-whole_only : (s : Schema) → form_of s ≡ Whole → IsOlderSchema s
+whole_only : (s : Schema) → tables_present s ≡ Whole → IsOlderSchema s
 whole_only s whole = record {
   without_third = λ is. let bad : Whole ≡ WithoutThird = sym whole ∙ is in absurd (cc bad);
   without_counts = λ is. let bad : Whole ≡ WithoutCounts = sym whole ∙ is in absurd (cc bad);
@@ -76,7 +76,7 @@ pub left_older : (s : OfficeState) (db : Database) → IsLeftAt s db → IsOlder
 left_older s db left =
     whole_only db.schema (whole_form db.schema (all_there db.schema (office_begins (tables_of s) db (left_holds s db left).office)))
 
--- the faults of a migration there are want of memory and a failing store
+-- the only faults of a migration there are Memory and Store
 pub migration_told : (s : OfficeState) (db : Database) (fault : Fault) → IsLeftAt s db → IsToldInMigration db fault → IsMemoryOrStore fault
 migration_told s db Memory left told = inl refl
 migration_told s db Store left told = inr refl
@@ -86,16 +86,16 @@ migration_told s db WrongDatabase left told = left_told s db WrongDatabase left 
 migration_told s db NewerSchema left told = left_told s db NewerSchema left told
 migration_told s db OlderSchema left told = absurd told
 
--- a table that is there as a connection rests is there now
+-- a table that exists when a connection rests exists now
 pub table_rests : (db : Database) (st : State) → RestsAt db st → has_some_table db.schema ≡ true → has_some_table st.now.schema ≡ true
 table_rests db st rests there = subst (λ (d : Database). has_some_table d.schema ≡ true) (sym rests.now) there
 
--- at an office there is a table of an office
+-- an office has a table with a name of ours
 pub has_tables : (s : OfficeState) (db : Database) (st : State) → RestsAt db st → IsLeftAt s db → has_some_table st.now.schema ≡ true
 has_tables s db st rests left =
     table_rests db st rests (some_there db.schema (office_begins (tables_of s) db (left_holds s db left).office))
 
--- no table of an office is in a database with nothing in it, so the faults of making one there are want of memory and a failing store
+-- an empty database has no table of an office, so the only faults of making one there are Memory and Store
 pub blank_told : {P : Type 0} (st : State) (fault : Fault) → IsBlank st → (fault ≡ Memory) ⊎ ((fault ≡ Store) ⊎ ((fault ≡ WrongDatabase) × (has_some_table st.now.schema ≡ true) × P))
     → IsMemoryOrStore fault
 blank_told st fault blank (inl memory) = inl memory
@@ -105,23 +105,23 @@ blank_told st fault blank (inr (inr there)) =
     let bad : true ≡ false = sym there.1 ∙ ap has_some_table blank.schema ∙ none in
     absurd (cc bad)
 
--- making an office fails as at a wrong database, so of the faults that it tells this is the one
+-- the fault of making an office is WrongDatabase, so the alternative for that one holds
 pub wrong_same : {T P : Type 0} (fault : Fault) → fault ≡ WrongDatabase → (fault ≡ Memory) ⊎ ((fault ≡ Store) ⊎ ((fault ≡ WrongDatabase) × T × P)) → P
 wrong_same fault wrong (inl memory) = let bad : WrongDatabase ≡ Memory = sym wrong ∙ memory in absurd (cc bad)
 wrong_same fault wrong (inr (inl failing)) = let bad : WrongDatabase ≡ Store = sym wrong ∙ failing in absurd (cc bad)
 wrong_same fault wrong (inr (inr there)) = there.2
 
--- ---- what is kept
+-- ---- what remains in effect
 
 -- after some of the requests: those that were answered, and at most one more
 abbrev pub IsAfterSome : OfficeState → List Request → ℕ → OfficeState → Type 0
 IsAfterSome s rs n x = (k : ℕ) × (n ≤ k) × (k ≤ n + 1) × (k ≤ length rs) × (x ≡ after s (take k rs))
 
--- the page of a course has status 0, and no output failed
+-- the page of an outcome has status 0, and no output failed
 abbrev pub IsGood : Course → Type 0
 IsGood c = (c.page.status ≡ 0) × (c.cut ≡ uncut)
 
--- what is kept of requests that were sent from a state on
+-- what remains in effect of requests that were sent from a state on
 pub record Kept (s : OfficeState) (c : Course) (st : State) : Type 0 where
   pub within : c.answered ≤ length c.requests
   pub leaves : LeavesState st (IsAfterSome s c.requests c.answered)
@@ -135,7 +135,7 @@ kept_none s line page cut st leaves = record {
   all = λ fine. refl;
 }
 
--- one request more, before others
+-- one more request, before others
 kept_more : (s : OfficeState) (r : Request) (page : Page) (rest : Course) (st : State) → Kept (after_one s r) rest st → Kept s (told_above (r ∷ []) page rest) st
 kept_more s r page rest st kept =
     let low = kept.within in
@@ -148,7 +148,7 @@ kept_more s r page rest st kept =
       ) in omega (arith, same);
     }
 
--- something that was told, and no request, before others
+-- a page without a request, before others
 kept_above : (s : OfficeState) (page : Page) (rest : Course) (st : State) → Kept s rest st → Kept s (told_above [] page rest) st
 kept_above s page rest st kept =
     let low = kept.within in
@@ -161,7 +161,7 @@ kept_above s page rest st kept =
       ) in omega (arith, same);
     }
 
--- the last that was sent
+-- the last request that was sent
 kept_last : (old : State) (closed : Bool) (st : State) (keep : Bool) (line : Option ℕ) (tells : OfficeState → Request → Told → Page) (s : OfficeState)
     (r : Request) (rs : List Request) (answered : ℕ) (page : Page) (cut : Cut)
     → (goes_on keep page.status ≡ true → cut ≢ uncut) → IsAnswered old closed st tells s r answered page
@@ -213,7 +213,7 @@ kept_played old closed st keep folder s (turn ∷ turns) c (file, found, inl (ow
 kept_played old closed st keep folder s (turn ∷ turns) c (file, found, inr unsent) =
     kept_unsent old closed st keep turn.line (IsTold s turn.errand file) s c (λ e more. kept_played old closed st keep folder s turns e more) unsent
 
--- a job that was done in an office that was open
+-- a job that was done in an open office
 pub kept_done : (old : State) (closed : Bool) (st : State) (folder : Folder) (s : OfficeState) (job : Job) (c : Course) → IsDone old closed st folder s job c → Kept s c st
 kept_done old closed st folder s job c (inl (turns, are, played)) = kept_played old closed st (keeps_going job) folder s turns c played
 kept_done old closed st folder s job c (inr unsent) = kept_unsent old closed st false None _ s c (λ e never. absurd never) unsent
@@ -227,7 +227,7 @@ kept_performed folder s task.Migrate c old new it = kept_untouched _ s c new it
 kept_performed folder s (task.InOffice job) c old new (inr it) = kept_untouched _ s c new it
 kept_performed folder s (task.InOffice job) c old new (inl (closed, done)) = kept_done old closed new folder s job c done
 
--- ---- the promise
+-- ---- the contract
 
 pub performed : (folder : Folder) (s : OfficeState) (task : Task) (cut : Cut) (before then : Outputs) (page : Page) (ends : ℕ) (old new : State) → IsShown cut before then page ends
     → ComesTo cut page (λ course. Performs folder s task course old new) → IsPerformed folder s task cut page ends old new
@@ -244,6 +244,6 @@ performed folder s task cut before then page ends old new shown (requests, answe
       all = λ zero. let fine = shown_zero cut before then page ends shown zero in kept.all (fine.1, fine.0);
     }
 
--- where nothing was sent
+-- if nothing was sent
 pub untouched : (Tells : Page → Type 0) (s : OfficeState) (cut : Cut) (page : Page) (st : State) → Tells page → LeavesState st (λ x. x ≡ s) → ComesTo cut page (λ course. IsUntouched Tells s course st)
 untouched Tells s cut page st tells leaves = ([], 0, (page, cut, refl, tells, leaves))

@@ -1,4 +1,4 @@
--- What words mean that hold several texts, a flag, or a number that may be left out, read off worked ones.
+-- The meaning of words with several texts, a flag, or an optional number, in computed examples.
 use Rattle.std.proofs.Common.{◌≡◌, [], ◌∷◌, true, false, refl}
 use Rattle.std.specs.Prelude.{codes, Some, None}
 use Rattle.clap.proofs.OnLiterals.{clap_on_literals}

@@ -1,13 +1,13 @@
--- A request that was kept before, and what was read of it then.
+-- A request that was accepted before, and the read that compares its content.
 use Rattle.std.proofs.Common.{◌≡◌, ◌∙◌, ◌⊎◌, inl, inr, ℕ, Bool, true, false, List, Result, Ok, refl, sym, ap, subst, string_bytes}
 use Rattle.sqlite.specs.State.{State}
 use Rattle.register.specs.Offices.{OfficeState}
-use Rattle.register.specs.Keepings.{is_kept_otherwise}
+use Rattle.register.specs.Repeats.{is_kept_otherwise}
 use Rattle.register.specs.Machine.{Outcome, accepted, kept, refused, state_after, step_of}
 use Rattle.register.specs.declared.command.Request.{Request}
 use Rattle.register.specs.declared.refusal.Reason.{Reason}
 use Rattle.tables.specs.declared.fault.Fault.TheVariants.{Memory, Store}
-use Rattle.store.specs.Offices.{IsAt, LeavesState}
+use Rattle.store.specs.StateTables.{IsAt, LeavesState}
 use Rattle.office.specs.Answers.{IsClosedIn, IsKeptOpen, IsOpenAt, Told, again, done, no, told_of}
 use Rattle.office.specs.Reads.{IsClosedReading}
 use Rattle.desk.specs.Headline.{IsAnswered}
@@ -15,11 +15,11 @@ use Rattle.desk.specs.Pages.{Page, noted, page_for, page_found, page_kept}
 use Rattle.desk.specs.Parts.{IsFound}
 use Rattle.desk.proofs.CauseLemmas.{TellsSince}
 
--- what is kept differs, which is told
+-- if the stored content differs, the note says so
 pub note_told : (id own reply : List ℕ) (differs : Result Bool Reason) → id ≡ own → differs ≡ Ok true → noted id reply ≡ page_found (page_kept own reply) differs
 note_told id own reply differs same told = ap (λ x. noted x reply) same ∙ ap (page_found (page_kept own reply)) (sym told)
 
--- it leaves the state as it was
+-- such a request leaves the state as it was
 kept_stays : (s : OfficeState) (o : Outcome) (reply : List ℕ) → again reply ≡ told_of o → state_after s o ≡ s
 kept_stays s (accepted next words) reply told = let bad : again reply ≡ done words = told in absurd (cc bad)
 kept_stays s (kept words) reply told = refl
@@ -34,7 +34,7 @@ closed_in s o closed st shut = record {
   leaves = λ trees may. let it = shut.leaves trees may in (it.0, inl it.1, it.2);
 }
 
--- it is answered: by its reply, and the note if what is kept differs; or by the fault of the read
+-- its answer is its reply, with the note if the stored content differs; or the fault of the read
 pub answered_before : (first mid next : State) (was closed : Bool) (s : OfficeState) (r : Request) (reply : List ℕ) (page : Page) → TellsSince first mid next → again reply ≡ told_of (step_of s r)
     → IsOpenAt (state_after s (step_of s r)) was mid
     → (was ≡ false → (t : OfficeState) → IsAt t mid → IsFound t (page_kept (string_bytes r.id) reply) (Ok (is_kept_otherwise t r)) page closed mid next)

@@ -1,4 +1,4 @@
--- A text is parsed as the number that it is.
+-- A text is parsed as the number that it denotes.
 use Rattle.std.proofs.Common.{◌≡◌, ◌<◌, ◌^◌, ℕ, Bool, List, Option, Some, None, true, false, refl, arith}
 use Rattle.std.specs.Prelude.{Result, Ok, Err}
 use Rattle.std.specs.Str.Parse.{IsNumeral, ParsesUnsigned, digits_value, without_leading_plus}
@@ -7,7 +7,7 @@ use Rattle.clap.specs.declared.builder.value_parser.ValueParser.TheVariants as p
 use Rattle.clap.proofs.ValueTestLemmas.{accepts-Accepts, Accepts-accepts}
 use Rattle.desk.specs.Numbers.{is_number, number_in}
 
--- digits of a number of 32 bits, behind a plus or not
+-- the digits of a number of 32 bits, optionally after a plus sign
 abbrev pub FitsNumber : List ℕ → Type 0
 FitsNumber t = IsNumeral 10 (without_leading_plus t) × (digits_value 10 (without_leading_plus t) < 2 ^ 32)
 
@@ -23,7 +23,7 @@ unfitting_is_none t unfit = by (is_number t) refl
         let number = accepts-Accepts false (parser.Unsigned 0 4294967295) t is in
         absurd (unfit (number.0, omega arith))
 
--- what a typed getter of `clap` reads of a text; `G` is what the getter says of the text and of its own result
+-- what a typed getter of `clap` reads from a text; `G` is the relation between the text and its result
 pub read_number : (E : Type 0) (G : List ℕ → Result ℕ E → Type 0) (t : List ℕ) (r : Option ℕ)
     → ((u : List ℕ) (x : Result ℕ E) → G u x → ParsesUnsigned 32 10 u x)
     → ReadsOne G t r → r ≡ number_in t

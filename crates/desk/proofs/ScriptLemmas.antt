@@ -1,4 +1,4 @@
--- The turns of a script's lines.
+-- The steps of a script's lines.
 use Rattle.std.proofs.Common.{◌≡◌, ◌∙◌, ◌<◌, ◌+◌, ℕ, length, get_or, map, take, drop, subst, Bool, true, false, List, [], ◌∷◌, ◌++◌, Result, Ok, Err, inl, inr, refl, sym, ap}
 use Rattle.std.specs.Prelude.{◌==◌, IsUtf8, if◌then◌else◌, is_ok, is_err}
 use Rattle.std.specs.List.{list_all, list_any}
@@ -18,25 +18,25 @@ use Rattle.desk.specs.declared.scripts.ScriptStep.{ScriptStep}
 use Rattle.desk.specs.Lexing.{IsFaultOfLine, IsFaultOfLines}
 use Rattle.desk.proofs.CourseLemmas.{next_left}
 
--- one line more
+-- one more line
 pub turns_more : (lines : List Typed) (turns : List ScriptStep) (line : Typed) (turn : ScriptStep) → AreTurns lines turns → IsTurn line turn → AreTurns (lines ++ line ∷ []) (turns ++ turn ∷ [])
 turns_more [] turns line turn none is = (turn, [], ap (λ ts. ts ++ turn ∷ []) none, is, refl)
 turns_more (l ∷ ls) turns line turn are is = (are.0, are.1 ++ turn ∷ [], ap (λ ts. ts ++ turn ∷ []) are.2, are.3, turns_more ls are.1 line turn are.4 is)
 
--- what is wrong with a line that stands behind turns
+-- what is wrong with a line after steps
 pub flaw_behind : (lines : List Typed) (turns : List ScriptStep) (line : Typed) (left : List Typed) (number : ℕ) (flaw : LineFlaw) → AreTurns lines turns
     → line.number ≡ number → IsFlawOf line.words flaw
     → IsFirstFlaw (lines ++ line ∷ left) number flaw
 flaw_behind [] turns line left number flaw none here is = inl (here, is)
 flaw_behind (l ∷ ls) turns line left number flaw are here is = inr (are.0, are.3, flaw_behind ls are.1 line left number flaw are.4 here is)
 
--- ---- words that are text
+-- ---- words that are UTF-8
 
 module _ {X : Type 0} (f : X → List ℕ) where
   one_more : (xs : List X) (i : ℕ) (x : X) → i < length xs → x ≡ get_or xs i x → map f (take (i + 1) xs) ≡ map f (take i xs) ++ f x ∷ []
   one_more xs i x within is = ap (map f) (take_more xs i x within) ∙ (map-append f (take i xs) (get_or xs i x ∷ []) ∙ ap (λ y. map f (take i xs) ++ f y ∷ []) (sym is))
 
-  -- one word more, behind another
+  -- one more word
   pub words_more : (first : Text) (xs : List X) (i : ℕ) (x : X) (texts new : List (Bor Text)) (text : Bor Text) → i < length xs → x ≡ get_or xs i x → new ≡ texts ++ text ∷ [] → text.now ≡ f x
       → map (λ t. t.now) texts ≡ first ∷ map f (take i xs) → map (λ t. t.now) new ≡ first ∷ map f (take (i + 1) xs)
   words_more first xs i x texts new text within is more same so =
@@ -47,7 +47,7 @@ module _ {X : Type 0} (f : X → List ℕ) where
   text_more xs i x within is text so =
       ap (list_all is_utf8) (one_more xs i x within is) ∙ (list_all-append is_utf8 (map f (take i xs)) (f x ∷ []) ∙ rw (so, is_utf8-from_IsUtf8 (f x) text) refl)
 
-  -- a word that isn't text
+  -- a word that isn't UTF-8
   pub not_text : (xs : List X) (i : ℕ) (x : X) → i < length xs → x ≡ get_or xs i x → ¬ (IsUtf8 (f x)) → list_all is_utf8 (map f xs) ≡ false
   not_text xs i x within is other = list_all-map is_utf8 f xs ∙ list_all_at (λ y. is_utf8 (f y)) xs i x within (ap (λ y. is_utf8 (f y)) (sym is) ∙ by (is_utf8 (f x)) refl)
     where
@@ -61,14 +61,14 @@ module _ {X : Type 0} (f : X → Typed) where
   line_more : (xs : List X) (i : ℕ) (x : X) → i < length xs → x ≡ get_or xs i x → map f (take (i + 1) xs) ≡ map f (take i xs) ++ f x ∷ []
   line_more xs i x within is = ap (map f) (take_more xs i x within) ∙ (map-append f (take i xs) (get_or xs i x ∷ []) ∙ ap (λ y. map f (take i xs) ++ f y ∷ []) (sym is))
 
-  -- one more of them is a turn
+  -- one more of them is a step
   pub turns_so : (xs : List X) (i : ℕ) (x : X) (turns new : List ScriptStep) (turn : ScriptStep) → i < length xs → x ≡ get_or xs i x → AreTurns (map f (take i xs)) turns → IsTurn (f x) turn
       → new ≡ turns ++ turn ∷ []
       → AreTurns (map f (take (i + 1) xs)) new
   turns_so xs i x turns new turn within is so one more =
       rw more (subst (λ ls. AreTurns ls (turns ++ turn ∷ [])) (sym (line_more xs i x within is)) (turns_more (map f (take i xs)) turns (f x) turn so one))
 
-  -- what is wrong with one behind them
+  -- what is wrong with the one after them
   pub fault_behind : (xs : List X) (i : ℕ) (x : X) (turns : List ScriptStep) (fault : ScriptFault) → i < length xs → x ≡ get_or xs i x → AreTurns (map f (take i xs)) turns
       → IsFaultOfLine (f x) fault → IsFaultOfLines (map f xs) fault
   fault_behind xs i x turns script.Memory within is so wrong = tt
@@ -77,7 +77,7 @@ module _ {X : Type 0} (f : X → Typed) where
       ap (map f) (sym (take-append-drop i xs)) ∙ (map-append f (take i xs) (drop i xs) ∙ ap (λ ls. map f (take i xs) ++ map f ls) (next_left xs i x within is)) in
       subst (λ ls. IsFirstFlaw ls number flaw) (sym left) (flaw_behind (map f (take i xs)) turns (f x) (map f (drop (i + 1) xs)) number flaw so wrong.0 wrong.1)
 
--- ---- what `clap` says of words
+-- ---- what `clap` reports about words
 
 pub told_help : (kinds : Kinds) (status : ℕ) → status ≡ 0 → list_any (λ kind. status_of_kind kind == status) kinds ≡ true → list_any (λ kind. status_of_kind kind == 0) kinds ≡ true
 told_help kinds status zero told = subst (λ n. list_any (λ kind. status_of_kind kind == n) kinds ≡ true) zero told

@@ -1,4 +1,4 @@
--- The requests of an order that counts, and what came of them.
+-- The requests of an order that counts, and their outcome.
 use Rattle.std.proofs.Common.{◌≡◌, ◌≢◌, ◌+◌, ◌≤◌, ◌<◌, ◌∙◌, inl, inr, ℕ, zero, suc, Bool, true, false, true≢false, List, [], ◌∷◌, ◌++◌, map, Option, Some, None, string_bytes}
 use Rattle.std.proofs.Common.{length, drop, get_or, refl, sym, ap, subst, arith, add-one, eq-eqb, ne_eqb}
 use Rattle.std.specs.Prelude.{◌==◌, ◌&&◌, ◌||◌, not, slice_get}
@@ -22,7 +22,7 @@ use Rattle.desk.proofs.TellingLemmas.{goes_after_zero, not_after_fault}
 
 -- ---- what the machine answers
 
--- what is told is a refusal
+-- the answer is a refusal
 abbrev pub tells_no : Told → Bool
 tells_no (done reply) = false
 tells_no (again reply) = false
@@ -33,27 +33,27 @@ no_is_refused (accepted next reply) = refl
 no_is_refused (kept reply) = refl
 no_is_refused (refused why) = refl
 
--- a reply is told with status 0
+-- a reply is printed with status 0
 reply_status : (first : Bool) (o : Outcome) → is_refused o ≡ false → (page_counted first (told_of o)).status ≡ 0
 reply_status first (accepted next reply) e = refl
 reply_status first (kept reply) e = refl
 reply_status first (refused why) e = absurd (true≢false e)
 
--- what is told of the answer to a request of an order that counts under an id
+-- what is printed for the answer to a request of an order that counts under an id
 abbrev pub page_under : Text → OfficeState → Request → Told → Page
 page_under id s r = page_counted (is_first id r)
 
--- the same of a request of which it is known whether it is the first
+-- the answer to a request for which it is known whether it is the first
 pub answered_under : (old : State) (closed : Bool) (st : State) (id : Text) (first : Bool) (s : OfficeState) (r : Request) (answered : ℕ) (page : Page) → first ≡ is_first id r
     → IsAnswered old closed st (λ t q. page_counted first) s r answered page → IsAnswered old closed st (page_under id) s r answered page
 answered_under old closed st id first s r answered page is met = subst (λ b. IsAnswered old closed st (λ t q. page_counted b) s r answered page) is met
 
--- what came of a request, told of an earlier moment
+-- the outcome of a request relative to an earlier state
 pub stage_since : (a b : State) (closed : Bool) (st : State) (first : Bool) (s : OfficeState) (r : Request) (page : Page) (goes : Bool) → TellsSince a b st → IsStage b closed st first s r page goes
     → IsStage a closed st first s r page goes
 stage_since a b closed st first s r page goes since (answered, met, goes_is) = (answered, answered_since a b closed st (λ t q. page_counted first) s r answered page since met, goes_is)
 
--- a test that is met, or isn't, whatever the other is
+-- a disjunction with a test that is met, or isn't, whatever the other is
 or_true : (b : Bool) → (b || true) ≡ true
 or_true true = refl
 or_true false = refl
@@ -62,10 +62,10 @@ and_false : (b : Bool) → (b && false) ≡ false
 and_false true = refl
 and_false false = refl
 
--- ---- requests by their numbers
+-- ---- requests by number
 
 module _ (ward : ℕ) (id : Text) where
-  -- these are the requests of so many numbers, from one on
+  -- these are the requests with this many numbers, from one on
   abbrev pub Numbered : ℕ → ℕ → List Request → Type 0
   Numbered k n rs = map sent_as rs ≡ map (advance_at ward id) (range_with_len k n)
 
@@ -76,7 +76,7 @@ module _ (ward : ℕ) (id : Text) where
   numbered_others : (k n : ℕ) (r : Request) (rs : List Request) → Numbered k (suc n) (r ∷ rs) → Numbered (k + 1) n rs
   numbered_others k n r rs are = ap (λ (xs : List Sent). drop 1 xs) are
 
-  -- there is none where no number is left
+  -- there are none if no number is left
   numbered_none : (k : ℕ) (r : Request) (rs : List Request) → Numbered k 0 (r ∷ rs) → ⊥
   numbered_none k r rs are = let bad : suc (length (map sent_as rs)) ≡ 0 = ap (λ (xs : List Sent). length xs) are in absurd (omega arith)
 
@@ -91,7 +91,7 @@ module _ (ward : ℕ) (id : Text) where
   none_numbered [] is are = let bad : 0 ≡ suc (length (map (advance_at ward id) (range_with_len 2 31))) = ap (λ (xs : List Sent). length xs) are in absurd (omega arith)
   none_numbered (q ∷ rs) is are = absurd (cc is)
 
-  -- they end somewhere, the first of them among them
+  -- they end somewhere, and include the first
   pub ended_somewhere : (n k : ℕ) (s : OfficeState) (r : Request) (rs : List Request) → Numbered k (suc n) (r ∷ rs) → k + n ≡ most_advances → (tail : List Request) × AreAdvances s ward id k (r ∷ tail)
   ended_somewhere zero k s r rs are most =
       let last : (k == most_advances) ≡ true = eq-eqb k most_advances (omega (arith, most)) in
@@ -133,7 +133,7 @@ module _ (ward : ℕ) (id : Text) where
   follows : (s : OfficeState) (k : ℕ) (r : Request) → is_refused (step_of s r) ≡ false → k < most_advances → (is_refused (step_of s r) || k == most_advances) ≡ false
   follows s k r fine few = let other : (k == most_advances) ≡ false = ne_eqb k most_advances (λ same. omega (arith, same, few)) in rw (fine, other) refl
 
-  -- with those that end it behind them
+  -- followed by those that end the sequence
   pub going_then : (s : OfficeState) (k : ℕ) (front : List Request) (end : OfficeState) (others : List Request) → Going s k front end → k + length front ≤ most_advances
       → AreAdvances end ward id (k + length front) others → AreAdvances s ward id k (front ++ others)
   going_then s k [] end others same few are =
@@ -154,7 +154,8 @@ module _ (ward : ℕ) (id : Text) where
 
 -- ---- the stages so far
 
--- The stages so far: their requests weren't refused, and this was told of them. The office is open where they led, and the requests from the next number on are left.
+-- The stages so far: their requests weren't refused, and this was printed for them. The office is open at the state to which they led, and the requests from the next
+-- number on are left.
 pub record CountedSo (keep : Bool) (line : Option ℕ) (s : OfficeState) (ward : ℕ) (id : Text) (rs : List Request) (i : ℕ) (said : Page) (closed : Bool) (st : State) : Type 0 where
   pub end : OfficeState
   pub open_at : IsOpenAt end closed st
@@ -173,7 +174,7 @@ none_counted keep line s ward id rs closed st here are =
     record { end = s; open_at = here; front = []; many = refl; replied = (refl, refl); going = refl; left = most_advances; few = refl; numbered = are }
 
 module _ (old : State) (keep : Bool) (line : Option ℕ) (s : OfficeState) (ward : ℕ) (id : Text) (rs : List Request) where
-  -- the next request, and how many are left behind it
+  -- the next request, and how many are left after it
   next_numbered : (i : ℕ) (r : Request) (said : Page) (was : Bool) (before : State) → i < length rs → r ≡ get_or rs i r → (so : CountedSo keep line s ward id rs i said was before)
       → (n : ℕ) × (so.left ≡ suc n) × Numbered ward id (i + 1) (suc n) (r ∷ drop (i + 1) rs)
   next_numbered i r said was before within is so = go so.left refl
@@ -215,7 +216,7 @@ module _ (old : State) (keep : Bool) (line : Option ℕ) (s : OfficeState) (ward
       not_refused k false e = refl
       not_refused k true e = absurd (true≢false (e ∙ and_false (k == 1)))
 
-  -- or it was the last that was told
+  -- or it was the last one
   pub stage_last : (i : ℕ) (r : Request) (said : Page) (was : Bool) (before : State) (page : Page) (cut : Cut) (goes : Bool) (closed : Bool) (st : State) → i < length rs → r ≡ get_or rs i r
       → (so : CountedSo keep line s ward id rs i said was before) → (known : Bool) → known ≡ is_first id r → IsStage old closed st known so.end r page goes
       → (goes ≡ true → page.status ≡ 0 → cut ≢ uncut)
@@ -242,7 +243,7 @@ module _ (old : State) (keep : Bool) (line : Option ℕ) (s : OfficeState) (ward
       none_behind : (tail : List Request) → AreAdvances so.end ward id (i + 1) (r ∷ tail) → is_refused (step_of so.end r) ≡ true → tail ≡ []
       none_behind tail (first, ends) e = let test : (is_refused (step_of so.end r) || i + 1 == most_advances) ≡ true = rw e refl in rw test at ends
 
-      -- where all was told and it goes on, the request was answered; it was refused, for else the count would have gone on
+      -- if all was written and the sequence continues, the request was answered; it was refused, otherwise the count would have continued
       was_refused : (page ≡ answer (page_under id) so.end r) → answered ≡ 1 → (goes ≡ true → page.status ≡ 0 → ⊥) → is_refused (step_of so.end r) ≡ true
       was_refused told one never = by (is_refused (step_of so.end r)) refl
         where

@@ -1,4 +1,4 @@
--- What comes of an order to copy the office.
+-- The outcome of an order to copy the office.
 use Rattle.std.specs.Prelude.{◌≡◌, ◌⊎◌, ◌++◌, ⊤, true, false, IsTrue, List, codes}
 use Rattle.std.specs.Fmt.{decimal}
 use Rattle.clap.specs.Words.{Text}
@@ -16,7 +16,7 @@ use Rattle.store.specs.Copies.{LeavesNoneOrAll, holdings_of}
 use Rattle.store.specs.declared.copying.Holdings.{Holdings}
 use Rattle.store.specs.declared.copying.CopyFault.{CopyFault}
 use Rattle.store.specs.declared.copying.CopyFault.TheVariants as uncopied
-use Rattle.store.specs.Offices.{IsAt, LeavesState, StoresState}
+use Rattle.store.specs.StateTables.{IsAt, LeavesState, StoresState}
 use Rattle.store.specs.Openings.{HoldsNoState, IsBlank, IsLeftAt, IsToldBy}
 use Rattle.desk.specs.declared.copying.CopyState.{CopyState}
 use Rattle.desk.specs.declared.copying.CopyState.TheVariants.{Whole, Untouched, Unknown}
@@ -24,14 +24,13 @@ use Rattle.desk.specs.Pages.{Page, failed, replied}
 use Rattle.desk.specs.declared.lines.Failure.{Failure}
 use Rattle.desk.specs.declared.lines.Failure.TheVariants.{Office, CopyTaken, CopyFailed, Output, BeingServed, FileGone}
 
--- the line that says how much a copy has
+-- the line that says how much a copy contains
 unfoldable pub copied_text : Holdings → Text
 copied_text h =
     codes "copied " ++ (decimal h.wards ++ (codes " wards, " ++ (decimal h.batches ++ (codes " batches, "
     ++ (decimal h.keyings ++ (codes " keyings, " ++ (decimal h.receipts ++ codes " receipts")))))))
 
--- the failures that may end the copying of an office that is there: memory was wanting, the office's store failed while it was read, or the
--- copy couldn't be written
+-- the failures that may end the copying of an existing office: an allocation failed, the office's store failed while it was read, or the copy couldn't be written
 abbrev pub EndsCopying : State → State → Failure → Type 0
 EndsCopying old new (Office fault) = FailsBy old new fault
 EndsCopying old new CopyTaken = ⊥
@@ -40,14 +39,14 @@ EndsCopying old new Output = ⊥
 EndsCopying old new BeingServed = ⊥
 EndsCopying old new FileGone = ⊥
 
--- what the other database holds where no copy is reported: what it held before, but where writing it failed
+-- what the other database contains if no copy is reported: what it did before, unless writing it failed
 abbrev pub state_behind : CopyFault → CopyState
 state_behind (uncopied.Office fault) = Untouched
 state_behind uncopied.Taken = Untouched
 state_behind (uncopied.Copy fault) = Unknown
 
--- What is said of the other database is so, whatever the office was. A copy that is reported is there, whole, and is what the reply says. With any
--- other page nothing was written; or a stop leaves what it could leave before, or a whole office.
+-- What is reported about the other database is true for any office. A copy that is reported is complete, and is what the reply says. With any other page nothing was
+-- written; or a stop leaves what it could leave before, or a complete office.
 abbrev pub HoldsCopy : CopyState → Page → State → State → Type 0
 HoldsCopy Whole page copy_old copy_new =
     (h : Holdings) × (page ≡ replied (copied_text h)) × (HasCleanDisk copy_new → IsBlank copy_old → (s : OfficeState) × (h ≡ holdings_of s) × IsAt s copy_new)
@@ -56,16 +55,15 @@ HoldsCopy Unknown page copy_old copy_new =
     (failure : Failure) × (page ≡ failed failure)
     × (HasCleanDisk copy_new → IsBlank copy_old → (trees : Trees) → copy_new.may_leave trees → copy_old.may_leave trees ⊎ ((s : OfficeState) × StoresState s trees))
 
--- An office at a state is copied into a database with nothing in it, which then keeps that very state, and the page says how much the copy has. Or
--- the page has a failure, and a stop leaves of the copy what it could leave before, or the whole of it. Where the copy's disk isn't as `sqlite`
--- states it, the page has one or the other all the same.
+-- An office at a state is copied into an empty database, which then has exactly this state, and the page says how much the copy contains. Or the page has a failure,
+-- and a stop leaves of the copy what it could leave before, or all of it. The page has one or the other even if the copy's disk doesn't behave as `sqlite` states.
 abbrev pub IsCopiedAt : OfficeState → Page → CopyState → State → State → State → State → Type 0
 IsCopiedAt s page left old new copy_old copy_new =
     ((page ≡ replied (copied_text (holdings_of s))) × (left ≡ Whole) × (HasCleanDisk copy_new → IsAt s copy_new))
     ⊎ ((failure : Failure) × (page ≡ failed failure) × EndsCopying old new failure × (HasCleanDisk copy_new → LeavesNoneOrAll s copy_old copy_new))
 
--- At a database that holds the tables of no state the page has the fault that an opening gives there. A failing store is reported only where the
--- store failed, or where rowids aren't the rows' own. Nothing is copied.
+-- At a database with the tables of no state the page has the fault that an opening reports there. A failing store is reported only if the store failed, or if rowids
+-- aren't the rows' own. Nothing is copied.
 pub record IsNoneCopied (db : Database) (page : Page) (left : CopyState) (old new : State) : Type 0 where
   pub fault : Fault
   pub told : page ≡ failed (Office fault)
@@ -73,8 +71,8 @@ pub record IsNoneCopied (db : Database) (page : Page) (left : CopyState) (old ne
   pub cause : FailsToList db old new fault
   pub untouched : left ≡ Untouched
 
--- What comes of the order, by what its own connection rests at and where the copy is to be made. The office is copied. Or the page has what an opening
--- reports, and nothing is copied. Or nothing is copied onto a table of our names. The order's own office is only read, and a stop leaves it as it was.
+-- The outcome of the order, by the database of its own connection and the target of the copy. The office is copied. Or the page has what an opening reports, and
+-- nothing is copied. Or a table of the target has one of our names, and nothing is copied. The order's own office is only read, and a stop leaves it as it was.
 pub record IsCopied (page : Page) (left : CopyState) (old new copy_old copy_new : State) : Type 0 where
   pub in_office : (db : Database) → RestsAt db old → (s : OfficeState) → IsLeftAt s db → IsBlank copy_old → IsCopiedAt s page left old new copy_old copy_new
   pub elsewhere : (db : Database) → IsOurs db.schema → RestsAt db old → HoldsNoState db → IsBlank copy_old → IsNoneCopied db page left old new
@@ -82,8 +80,8 @@ pub record IsCopied (page : Page) (left : CopyState) (old new copy_old copy_new 
   pub reads : OnlyReads old new
   pub leaves : (db : Database) → RestsAt db old → (earlier : List Request) → IsLeftAt (after empty_office earlier) db → LeavesState new (λ x. x ≡ after empty_office earlier)
 
--- The result of the order in an office that is open at a state, and stays open. The copy keeps that very state, and the page says how much it has. Or the
--- page has a failure, with its cause while the store was open, and a stop leaves of the copy what it could leave before, or the whole of it.
+-- The outcome of the order in an office that is open at a state, and stays open. The copy has exactly this state, and the page says how much it contains. Or the page
+-- has a failure, with its cause if the store was open, and a stop leaves of the copy what it could leave before, or all of it.
 abbrev pub IsCopiedOpen : OfficeState → Page → CopyState → State → State → State → State → Type 0
 IsCopiedOpen s page left old new copy_old copy_new =
     ((page ≡ replied (copied_text (holdings_of s))) × (left ≡ Whole) × (HasCleanDisk copy_new → IsBlank copy_old → IsAt s copy_new))

@@ -1,11 +1,12 @@
--- The headline: what an order prints, byte for byte, and what is kept of it, whatever stops it. It is read from here to its last line.
--- Which requests an errand sends stands in Requests.antt, which turns a job has in Scripts.antt, and what pages say in Pages.antt and Told.antt.
+-- The headline: what an order prints, byte for byte, and what remains in effect whenever it is stopped. It is best read from the first definition to the last.
+-- Requests.antt defines which requests an errand sends, Scripts.antt which steps a job has, and Pages.antt and Told.antt what pages say.
 use Rattle.std.specs.Prelude.{◌≡◌, ◌≢◌, ◌⊎◌, ◌+◌, ◌++◌, ℕ, Bool, true, false, List, [], ◌∷◌, codes, length, Option, None}
 use Rattle.sqlite.specs.{Effect.Database, State.State, Tree.Trees}
 use Rattle.register.specs.{Machine.after, Machine.after_one, Machine.is_accepted, Machine.step_of, Offices.OfficeState, Offices.empty_office, declared.command.Request.Request}
 use Rattle.tables.specs.{Contents.RestsAt, Contents.Stores, Presence.IsOurs, Presence.IsOlderSchema, Presence.has_some_table, Reading.FailsBy, Reading.FailsToList, Reading.OnlyReads}
 use Rattle.tables.specs.declared.fault.Fault.{Fault, TheVariants.WrongDatabase}
-use Rattle.store.specs.{Offices.IsAt, Offices.LeavesState, Offices.tables_of, Openings.HoldsNoState, Openings.IsBlank, Openings.IsLeftAt, Openings.IsToldBy, declared.older.OlderForm.OlderForm}
+use Rattle.store.specs.StateTables.{IsAt, LeavesState, tables_of}
+use Rattle.store.specs.{Openings.HoldsNoState, Openings.IsBlank, Openings.IsLeftAt, Openings.IsToldBy, declared.older.OlderForm.OlderForm}
 use Rattle.store.specs.Migrations.{HoldsNoOlder, IsToldInMigration, LeavesOldOrNew, RestsOlder}
 use Rattle.store.specs.declared.migration.Migrated.TheVariants.{Already, Done}
 use Rattle.office.specs.{Answers.IsClosedIn, Answers.IsKeptOpen, Answers.IsMemoryOrStore, Answers.IsOpenAt, Answers.Told, Answers.told_of, Reads.IsClosedReading, Runs.Keeps}
@@ -14,23 +15,23 @@ use Rattle.desk.specs.Pages.{Cut, Page, below, cut_below, empty_page, failed, fr
 use Rattle.desk.specs.declared.{lines.Failure.TheVariants.Office, orders.Job.Job, orders.Task.Task, scripts.ScriptStep.ScriptStep}
 use Rattle.desk.specs.declared.orders.Task.TheVariants as task
 
--- What came of requests: which they are, how many of them were answered, the page that says so, and how much of that page was taken.
+-- The outcome of requests: which they are, how many of them were answered, the page that says so, and how much of that page was written.
 pub record Course : Type 0 where
   pub requests : List Request
   pub answered : ℕ
   pub page : Page
   pub cut : Cut
 
--- These requests more were answered, and the page that says so was taken whole, above what came of the others.
+-- These requests were answered too, and the page that says so was written whole, before the outcome of the others.
 abbrev pub told_above : List Request → Page → Course → Course
 told_above own page rest = record { requests = own ++ rest.requests; answered = rest.answered + length own; page = below page rest.page; cut = cut_below page.out rest.cut }
 
--- It ends here: of these requests so many were answered, and this page ends it, behind the number of the script's line.
+-- The sequence ends here: this many of these requests were answered, and this page is the last, prefixed by the number of the script's line.
 abbrev pub ended : Option ℕ → List Request → ℕ → Page → Cut → Course
 ended line requests answered page cut = record { requests = requests; answered = answered; page = fronted line page; cut = cut }
 
--- What the machine answers to a request at a state, as a page of the errand that sends it. The page has status 0 and the reply, or status 1 and the reason of the refusal.
--- With the reply to a request that was kept before with other words it has a note that nothing was changed.
+-- The machine's answer to a request at a state, as a page of the errand that sends it. The page has status 0 and the reply, or status 1 and the reason of the refusal.
+-- With the reply to a request that was accepted before with other content, it has a note that nothing was changed.
 abbrev pub answer : (OfficeState → Request → Told → Page) → OfficeState → Request → Page
 answer tells s r = tells s r (told_of (step_of s r))
 
@@ -38,16 +39,17 @@ answer tells s r = tells s r (told_of (step_of s r))
 abbrev pub IsFailed : (Fault → Type 0) → Page → Type 0
 IsFailed Is page = (fault : Fault) × (page ≡ failed (Office fault)) × Is fault
 
--- The connection was at `old`; it is at `st` now, and the office is closed, or open.
+-- The connection was at `old` and is now at `st`, and the office is closed or open.
 module _ (old : State) (closed : Bool) (st : State) where
-  -- A request is answered as the machine says, and the office is open at the state after it. Or the page has a fault. Then memory was wanting, or the
-  -- store failed, or the request was accepted, and why it couldn't be written isn't said; a stop leaves the state before it or, if accepted, after it.
+  -- A request is answered as the machine says, and the office is open at the state after it. Or the page has a fault. Then an allocation or the store failed, or the
+  -- request was accepted but couldn't be written for an unstated reason. A stop leaves the state before it or, if it was accepted, after it.
   abbrev pub IsAnswered : (OfficeState → Request → Told → Page) → OfficeState → Request → ℕ → Page → Type 0
   IsAnswered tells s r answered page =
       ((answered ≡ 1) × (page ≡ answer tells s r) × IsOpenAt (after_one s r) closed st)
       ⊎ ((answered ≡ 0) × IsFailed (λ fault. (FailsBy old st fault ⊎ (is_accepted (step_of s r) ≡ true)) × (IsKeptOpen s fault closed st ⊎ IsClosedIn s (step_of s r) fault closed st)) page)
 
-  -- Requests are sent in turn, each after a page that was taken whole and that it goes on after. Behind the last one comes what `Then` says. Else it ends.
+  -- Requests are sent in turn, each after a page that was written whole and doesn't end the sequence. After the last one `Then` holds. Otherwise the sequence ends
+  -- early.
   abbrev pub IsSent : Bool → Option ℕ → (OfficeState → Request → Told → Page) → (OfficeState → Course → Type 0) → OfficeState → List Request → Course → Type 0
   IsSent keep line tells Then s [] course = Then s course
   IsSent keep line tells Then s (r ∷ rs) course =
@@ -58,14 +60,14 @@ module _ (old : State) (closed : Bool) (st : State) where
   abbrev pub IsStopped : OfficeState → Page → Type 0
   IsStopped s page = IsFailed (λ fault. FailsBy old st fault × (IsKeptOpen s fault closed st ⊎ IsClosedReading s fault closed st)) page
 
-  -- Nothing is sent, and the page has what `Tells` says. Behind it comes what `Then` says; or it ends, and the office is open at its state. Or the page has a fault.
+  -- Nothing is sent, and `Tells` holds of the page. After it `Then` holds; or the sequence ends, and the office is open at its state. Or the page has a fault.
   abbrev pub IsUnsent : Bool → Option ℕ → (Page → Type 0) → (Course → Type 0) → OfficeState → Course → Type 0
   IsUnsent keep line Tells Then s course =
       ((page : Page) × (rest : Course) × Tells page × (goes_on keep page.status ≡ true) × (course ≡ told_above [] (fronted line page) rest) × Then rest)
       ⊎ ((page : Page) × (cut : Cut) × (course ≡ ended line [] 0 page cut) × (goes_on keep page.status ≡ true → cut ≢ uncut) × ((Tells page × IsOpenAt s closed st) ⊎ IsStopped s page))
 
-  -- Turns are taken in turn, each with the file that lies at its path when it comes. All the requests
-  -- of a turn are sent. Or none is, and the page has what the turn asks, or why its file isn't taken.
+  -- Steps are run in turn, each with the file that is at its path at that time. All requests of a step are sent. Or none is, and the page answers the step's question,
+  -- or says why its file is refused.
   abbrev pub IsPlayed : Bool → Folder → OfficeState → List ScriptStep → Course → Type 0
   IsPlayed keep folder s [] course = (course ≡ ended None [] 0 empty_page uncut) × IsOpenAt s closed st
   IsPlayed keep folder s (turn ∷ turns) course =
@@ -73,7 +75,7 @@ module _ (old : State) (closed : Bool) (st : State) where
       × (((requests : List Request) × Sends s turn.errand file requests × IsSent keep turn.line (page_answered turn.errand) (λ next. IsPlayed keep folder next turns) s requests course)
       ⊎ IsUnsent keep turn.line (IsTold s turn.errand file) (IsPlayed keep folder s turns) s course)
 
-  -- A job is done in the open office: its turns are taken, past refusals where it is to keep going. Or the page says why its text is no script. Or the page has a fault.
+  -- A job is done in the open office: its steps are run, with `keep_going` past refusals. Or the page says why its text isn't a script. Or the page has a fault.
   abbrev pub IsDone : Folder → OfficeState → Job → Course → Type 0
   IsDone folder s job course = ((turns : List ScriptStep) × HasTurns folder job turns
       × IsPlayed (keeps_going job) folder s turns course) ⊎ IsUnsent false None (IsNoScript folder job) (λ rest. ⊥) s course
@@ -82,15 +84,15 @@ module _ (old : State) (closed : Bool) (st : State) where
 abbrev pub IsUntouched : (Page → Type 0) → OfficeState → Course → State → Type 0
 IsUntouched Tells s course new = (page : Page) × (cut : Cut) × (course ≡ ended None [] 0 page cut) × Tells page × LeavesState new (λ x. x ≡ s)
 
--- What comes of a task over the office of a state. `init` makes no other one; for `migrate` the office is of this version already. Any other task's job is done in it; or
--- it isn't opened, and the page has a fault, with its cause.
+-- The outcome of a task for the office of a state. `init` makes no other office; for `migrate` the office has this version already. The job of any other task is done
+-- in it; or the office isn't opened, and the page has a fault, with its cause.
 abbrev pub Performs : Folder → OfficeState → Task → Course → State → State → Type 0
 Performs folder s task.Init course old new = IsUntouched (λ page. page ≡ failed (Office WrongDatabase)) s course new
 Performs folder s task.Migrate course old new = IsUntouched (λ page. (page ≡ replied (migrated_text Already)) ⊎ IsFailed IsMemoryOrStore page) s course new
 Performs folder s (task.InOffice job) course old new = ((closed : Bool) × IsDone old closed new folder s job course) ⊎ IsUntouched (IsFailed (FailsBy old new)) s course new
 
--- The promise. So many of the task's requests were answered, as its page says. If earlier requests led to the office's state, a stop leaves the state after the
--- accepted ones of a beginning of these and those. That beginning has each earlier and each answered one, and at most one more. With status 0 all were answered.
+-- The contract of a task: this many of its requests were answered, as its page says. If earlier requests led to the office's state, a stop leaves the state after the
+-- accepted requests of a prefix of these and those. That prefix contains each earlier and each answered one, and at most one more. With status 0 all were answered.
 pub record IsPerformed (folder : Folder) (s : OfficeState) (task : Task) (cut : Cut) (page : Page) (ends : ℕ) (old new : State) : Type 0 where
   pub requests : List Request
   pub answered : ℕ
@@ -98,27 +100,27 @@ pub record IsPerformed (folder : Folder) (s : OfficeState) (task : Task) (cut : 
   pub keeps : (earlier : List Request) → s ≡ after empty_office earlier → Keeps earlier requests answered new
   pub all : ends ≡ 0 → answered ≡ length requests
 
--- In an empty database an office is made; or the page has a fault, and a stop leaves nothing or the empty office. Where a table has one of our names none is made.
+-- In an empty database an office is made; or the page has a fault, and a stop leaves nothing or the empty office. If a table has one of our names, none is made.
 pub record Makes (page : Page) (old new : State) : Type 0 where
   pub made : IsBlank old → ((page ≡ replied (codes "office ready")) × IsAt empty_office new)
       ⊎ IsFailed (λ fault. IsMemoryOrStore fault × ((trees : Trees) → new.may_leave trees → old.may_leave trees ⊎ Stores (tables_of empty_office) trees)) page
   pub taken : (db : Database) → RestsAt db old → has_some_table db.schema ≡ true → (page ≡ failed (Office WrongDatabase)) × OnlyReads old new
 
--- An earlier program's office is brought over at the very state that it had, or the page has a fault. A stop leaves the older tables of that state or the
--- tables of this version. Where there is no office of either version, the page has the fault that the database gives, and a stop leaves what it could before.
+-- An earlier program's office is migrated with exactly the state that it had, or the page has a fault. A stop leaves the older tables of that state or the tables of
+-- this version. If there is no office of either version, the page has the fault for the database, and a stop leaves what it could before.
 pub record BringsOver (page : Page) (old new : State) : Type 0 where
   pub older : (form : OlderForm) (s : OfficeState) → RestsOlder form s old → LeavesOldOrNew form s old new × (((page ≡ replied (migrated_text Done)) × IsAt s new) ⊎ IsFailed IsMemoryOrStore page)
   pub beyond : (db : Database) → IsOurs db.schema → IsOlderSchema db.schema → RestsAt db old → HoldsNoState db → HoldsNoOlder db
       → IsFailed (λ fault. IsToldInMigration db fault × FailsToList db old new fault × (IsMemoryOrStore fault ⊎ OnlyReads old new)) page × ((trees : Trees) → new.may_leave trees → old.may_leave trees)
 
--- What comes of a task where no office of this version is. With any task but `init` and `migrate` the page has the fault that the database gives, and nothing changes.
+-- The outcome of a task if there is no office of this version. For any task except `init` and `migrate`, the page has the fault for the database, and nothing changes.
 abbrev pub Elsewhere : Task → Page → State → State → Type 0
 Elsewhere task.Init page old new = Makes page old new
 Elsewhere task.Migrate page old new = BringsOver page old new
 Elsewhere (task.InOffice job) page old new = (db : Database) → IsOurs db.schema → RestsAt db old → HoldsNoState db
     → IsFailed (λ fault. IsToldBy db fault × FailsToList db old new fault) page × OnlyReads old new
 
--- What a task does, wherever its connection rests, by the page, how much of it was taken, and the status that the program ends with.
+-- The outcome of a task on any connection: the page, how much of it was written, and the exit status.
 pub record Headline (folder : Folder) (task : Task) (cut : Cut) (page : Page) (ends : ℕ) (old new : State) : Type 0 where
   pub in_office : (db : Database) → RestsAt db old → (s : OfficeState) → IsLeftAt s db → IsPerformed folder s task cut page ends old new
   pub elsewhere : Elsewhere task page old new

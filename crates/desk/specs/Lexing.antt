@@ -1,4 +1,4 @@
--- What the program's values of a script stand for.
+-- The mathematical values that the program's values of a script represent.
 use Rattle.std.specs.Prelude.{◌≡◌, ◌⊎◌, ⊤, Bool, List, [], None, Result, Ok, Err, map, option_map}
 use Rattle.std.specs.Borrow.{Bor}
 use Rattle.std.specs.declared.vec.Vec.{Vec}
@@ -19,7 +19,7 @@ use Rattle.desk.specs.declared.scripts.ScriptFault.{ScriptFault}
 use Rattle.desk.specs.declared.scripts.ScriptStep.{ScriptStep}
 use Rattle.desk.specs.declared.scripts.ScriptFault.TheVariants as fault
 
--- how far a line is cut
+-- how far a line is split
 abbrev pub lexer_entry : Lexer → LexerEntry
 lexer_entry c = record { words = map (λ w. w.items) c.words.items; word = c.word.items; place = c.place }
 
@@ -36,17 +36,17 @@ said_words (Err why) = Err why
 abbrev pub typed_line_entry : TypedLine → Typed
 typed_line_entry said = record { number = said.number; words = said_words said.words }
 
--- what is wrong with a line, or that memory was wanting
+-- what is wrong with a line, or that an allocation failed
 abbrev pub IsFaultOfLine : Typed → ScriptFault → Type 0
 IsFaultOfLine line fault.Memory = ⊤
 IsFaultOfLine line (fault.ScriptLine number flaw) = (line.number ≡ number) × IsFlawOf line.words flaw
 
--- the same of the first of some lines that is no turn
+-- what is wrong with the first of some lines that isn't a step, or that an allocation failed
 abbrev pub IsFaultOfLines : List Typed → ScriptFault → Type 0
 IsFaultOfLines lines fault.Memory = ⊤
 IsFaultOfLines lines (fault.ScriptLine number flaw) = IsFirstFlaw lines number flaw
 
--- what comes of a script's lines: their turns are taken; or what is wrong with them is reported, and nothing is sent
+-- the outcome of a script's lines: their steps are run; or what is wrong with them is reported, and nothing is sent
 abbrev pub IsReplayOf : Bool → Folder → OfficeState → List Typed → Course → State → Bool → State → Type 0
 IsReplayOf keep folder s lines course old closed st =
     ((turns : List ScriptStep) × AreTurns lines turns × IsPlayed old closed st keep folder s turns course)

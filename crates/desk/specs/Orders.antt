@@ -1,4 +1,4 @@
--- The orders of the program: the name and the words of each, and what it means by their values.
+-- The orders of the program: the name and the words of each, and what it means by the values of these.
 use Rattle.std.specs.Prelude.{ℕ, Bool, true, false, List, [], ◌∷◌, ◌++◌, Option, Some, None, codes, map, option_map, string_bytes}
 use Rattle.clap.specs.Words.{Text}
 use Rattle.register.specs.declared.command.Command.{Command}
@@ -29,7 +29,7 @@ use Rattle.desk.specs.declared.orders.Task.TheVariants as task
 
 -- ---- the words of an order
 
--- a word that an order takes
+-- a word of an order
 pub record WordEntry : Type 0 where
   pub name : Text
   pub kind : Kind
@@ -39,23 +39,23 @@ pub record OrderWords : Type 0 where
   pub name : Text
   pub words : List WordEntry
 
--- the word that one of the program's table is
+-- the entry of a word of the program's table
 abbrev pub word_of : Word → WordEntry
 word_of w = record { name = w.name.now; kind = w.kind }
 
--- the name and the words that an entry of the program's table has
+-- the name and the words of an entry of the program's table
 abbrev pub words_of : Entry → OrderWords
 words_of e = record { name = e.name.now; words = map word_of e.words.now }
 
--- a word that is a number of 0 to 4294967295
+-- a word that is a number from 0 to 4294967295
 abbrev pub number : Text → WordEntry
 number name = record { name = name; kind = kind.Number }
 
--- the same, which may be left out
+-- an optional word that is such a number
 abbrev pub number_or_none : Text → WordEntry
 number_or_none name = record { name = name; kind = kind.NumberOrNone }
 
--- a word that is a port, and one that is a number of connections, which may be left out
+-- a word that is a port, and an optional word that is a number of connections
 abbrev pub port : Text → WordEntry
 port name = record { name = name; kind = kind.Port }
 
@@ -74,33 +74,33 @@ verdict name = record { name = name; kind = kind.Verdict }
 abbrev pub id : WordEntry
 id = record { name = codes "id"; kind = kind.Id }
 
--- an origin, after `--` and its name, which may be left out
+-- an origin, after `--` and its name, optional
 abbrev pub origin : WordEntry
 origin = record { name = codes "origin"; kind = kind.Origin }
 
--- the path of a file of codes, after `--` and its name, which may be left out
+-- the path of a file of codes, after `--` and its name, optional
 abbrev pub codes_file : WordEntry
 codes_file = record { name = codes "codes"; kind = kind.CodesFile }
 
--- a title, after `--` and its name, which may be left out
+-- a title, after `--` and its name, optional
 abbrev pub title : WordEntry
 title = record { name = codes "title"; kind = kind.Title }
 
--- the digest of a file, after `--` and its name, which may be left out
+-- the digest of a file, after `--` and its name, optional
 abbrev pub digest : WordEntry
 digest = record { name = codes "sha256"; kind = kind.Digest }
 
--- words that are any texts, behind the others; there may be none
+-- words that are any texts, zero or more after the others
 abbrev pub texts : Text → WordEntry
 texts name = record { name = name; kind = kind.Texts }
 
--- a flag, `--` and its name, which may be left out
+-- a flag, `--` and its name, optional
 abbrev pub flag : Text → WordEntry
 flag name = record { name = name; kind = kind.Flag }
 
--- ---- what a command asks
+-- ---- what a command asks for
 
--- what a command asks, its names as text
+-- what a command asks for, with its names as text
 pub data Asked : Type 0 where
   ward_to_add : ℕ → ℕ → Text → Asked
   ward_to_close : ℕ → Asked
@@ -116,7 +116,7 @@ pub data Asked : Type 0 where
   lot_to_record : ℕ → ℕ → ℕ → Asked
   ward_to_declare : ℕ → Asked
 
--- what a command of the register asks
+-- what a command of the register asks for
 abbrev pub asked_by : Command → Asked
 asked_by (command.Ward (ward_command.Add ward seats name)) = ward_to_add ward seats (string_bytes name)
 asked_by (command.Ward (ward_command.Close ward)) = ward_to_close ward
@@ -132,7 +132,7 @@ asked_by (command.Count (count_command.Advance ward)) = stage_to_count ward
 asked_by (command.Count (count_command.Lot ward stage candidate)) = lot_to_record ward stage candidate
 asked_by (command.Count (count_command.Declare ward)) = ward_to_declare ward
 
--- a request: who sends it, under which id, and what it asks
+-- a request: its actor, its id, and what it asks for
 pub record Sent : Type 0 where
   pub actor : ℕ
   pub id : Text
@@ -146,13 +146,13 @@ sent_as r = record { actor = r.actor; id = string_bytes r.id; asked = asked_by r
 abbrev pub by_office : Text → Asked → Sent
 by_office id asked = record { actor = 0; id = id; asked = asked }
 
--- a request of a clerk himself
+-- a request of a clerk
 abbrev pub by_clerk : ℕ → Text → Asked → Sent
 by_clerk clerk id asked = record { actor = clerk; id = id; asked = asked }
 
 -- ---- what an order means
 
--- what is to be done; or nothing, since the word of a verdict says none, or the one of an origin or of a digest is none
+-- what is to be done; or nothing, since the word of a verdict, of an origin or of a digest is invalid
 pub data Meant : Type 0 where
   make : Meant
   migrate : Meant
@@ -169,18 +169,18 @@ pub data Meant : Type 0 where
   replay : Text → Bool → Meant
   copy : Text → Meant
   journal : Meant
-  make_codes : Text → Text → Meant
+  make_codes : Text → Text → Bool → Meant
   serve : ℕ → Option ℕ → Option Text → Option Text → Meant
   no_verdict : Meant
   no_origin : Meant
   no_digest : Meant
 
--- what the printing of a text of a ward is, the title of a page as such
+-- the meaning of printing a text of a ward; the title of a page is taken as text
 abbrev pub told_text : ℕ → WardText → Meant
 told_text ward (ward_text.Page title) = print_page ward title.now
 told_text ward text = print ward text
 
--- what an errand is, its request and its texts as such
+-- the meaning of an errand, with its request and its texts as mathematical values
 abbrev pub told_errand : Errand → Meant
 told_errand (errand.Send r) = send (sent_as r)
 told_errand (errand.ImportCandidates file id digest) = import_candidates file.now id.now (asked_digest digest)
@@ -192,7 +192,7 @@ told_errand (errand.Print ward text) = told_text ward text
 told_errand (errand.PrintIndex title) = print_index title.now
 told_errand (errand.Ask question) = ask question
 
--- what an order is
+-- the meaning of an order
 abbrev pub told : Order → Meant
 told (order.Perform task.Init) = make
 told (order.Perform task.Migrate) = migrate
@@ -200,17 +200,17 @@ told (order.Perform (task.InOffice (job.Run errand))) = told_errand errand
 told (order.Perform (task.InOffice (job.Replay file keep_going))) = replay file.now keep_going
 told (order.Copy path) = copy path.now
 told order.Journal = journal
-told (order.Codes path clerks) = make_codes path.now clerks.now
+told (order.Codes path clerks with_office) = make_codes path.now clerks.now with_office
 told (order.Serve port connections origin file) = serve port connections (option_map origin_text origin) (option_map (λ path. path.now) file)
 
--- the task that an order is to perform, if it is such an order
+-- the task that an order is to perform, if it has one
 abbrev pub task_of : Order → Option Task
 task_of (order.Perform task) = Some task
 task_of other = None
 
 -- ---- the orders
 
--- what the value of a word is
+-- the value of a word
 abbrev pub WordValue : Kind → Type 0
 WordValue kind.Number = ℕ
 WordValue kind.NumberOrNone = Option ℕ
@@ -226,31 +226,31 @@ WordValue kind.Digest = Option (List ℕ)
 WordValue kind.Texts = List Text
 WordValue kind.Flag = Bool
 
--- what comes of the values of some words, in their sequence
+-- a function of the values of some words, in sequence
 abbrev pub OfWords : List WordEntry → Type 0 → Type 0
 OfWords [] T = T
 OfWords (w ∷ ws) T = WordValue w.kind → OfWords ws T
 
--- an order's name and words, what it means, by the values of its words, and whether that is a command of the office
+-- an order's name and words, what it means by the values of its words, and whether that is a command of the office
 pub record OrderEntry : Type 0 where
   pub typed : OrderWords
   pub means : OfWords typed.words Meant
   pub is_command : Bool
 
--- an order of this name takes these words, in their sequence, and means this of their values
+-- an order of this name with these words, in sequence, which means this of their values
 abbrev pub takes : Text → (words : List WordEntry) → OfWords words Meant → OrderEntry
 takes name words means = record { typed = record { name = name; words = words }; means = means; is_command = false }
 
--- the office sends a command, of the values of some words, under the id that stands behind them
+-- the office sends a command, made from the values of some words, under the id that follows them
 abbrev pub under_id : (words : List WordEntry) → OfWords words Asked → OfWords (words ++ id ∷ []) Meant
 under_id [] asked = λ id. send (by_office id asked)
 under_id (w ∷ ws) asked = λ value. under_id ws (asked value)
 
--- an order of this name takes these words and an id, and sends a command of the office
+-- an order of this name with these words and an id, which sends a command of the office
 abbrev pub sends : Text → (words : List WordEntry) → OfWords words Asked → OrderEntry
 sends name words asked = record { typed = record { name = name; words = words ++ id ∷ [] }; means = under_id words asked; is_command = true }
 
--- a clerk, and never the office, keeps his keying of a batch in a round: the marks of its papers in turn, under an id
+-- a clerk, never the office, stores the clerk's keying of a batch in a round: the marks of its papers in turn, under an id
 abbrev pub key : ℕ → ℕ → ℕ → List Text → Text → Meant
 key clerk batch round papers id = send (by_clerk clerk id (keying_to_keep batch round papers))
 
@@ -289,7 +289,7 @@ orders =
     ∷ takes (codes "journal") [] journal
     ∷ takes (codes "replay") (text (codes "FILE") ∷ flag (codes "keep-going") ∷ []) replay
     ∷ takes (codes "copy") (text (codes "NEW") ∷ []) copy
-    ∷ takes (codes "codes") (text (codes "FILE") ∷ text (codes "CLERKS") ∷ []) make_codes
+    ∷ takes (codes "codes") (text (codes "FILE") ∷ text (codes "CLERKS") ∷ flag (codes "office") ∷ []) make_codes
     ∷ takes (codes "ballots") (number (codes "WARD") ∷ []) (λ ward. print ward ward_text.Ballots)
     ∷ takes (codes "page") (number (codes "WARD") ∷ title ∷ []) print_page
     ∷ takes (codes "table") (number (codes "WARD") ∷ []) (λ ward. print ward ward_text.Table)

@@ -1,5 +1,5 @@
--- How all stands, in lines: the wards, the batches of a ward, the papers of a batch as they count, the doubtful ones of a ward, where a batch
--- differs, and what was kept.
+-- Overviews in lines: the wards, the batches of a ward, the papers of a batch as they count, the doubtful papers of a ward, the differences in a batch, and the
+-- receipts.
 use Rattle.std.specs.Prelude.{ℕ, Bool, true, false, ◌==◌, ◌+◌, ◌-◌, ◌++◌, ◌∷◌, if◌then◌else◌, List, [], Option, Some, None, codes, length}
 use Rattle.std.specs.Fmt.{decimal}
 use Rattle.std.specs.List.{flat_map}
@@ -12,7 +12,7 @@ use Rattle.store.specs.Overviews.{BatchView, DifferencesView, DoubtfulPapersView
 use Rattle.store.specs.declared.overviews.batches.BatchStanding.{BatchStanding}
 use Rattle.store.specs.declared.overviews.batches.BatchStanding.TheVariants.{Taken, Differing, Waiting}
 use Rattle.office.specs.Overviews.{batches_told, differences_told, doubtful_told, papers_told, receipts_told, wards_told}
-use Rattle.desk.specs.Names.{name_in, names_of}
+use Rattle.desk.specs.CandidateNames.{name_in, names_of}
 use Rattle.desk.specs.Pages.{Page, line, page_found, printed, replied}
 use Rattle.desk.specs.WardStatus.{phase_word}
 use Rattle.desk.specs.declared.orders.Question.{Question}
@@ -28,7 +28,7 @@ seats_words v = codes "ward " ++ (decimal v.ward.number ++ (codes " " ++ (phase_
 unfoldable pub untaken_words : WardView → Text
 untaken_words v = decimal v.status.candidates ++ (codes " candidates, " ++ (decimal v.status.batches ++ (codes " batches, " ++ (decimal (v.status.batches - v.status.taken) ++ codes " not taken"))))
 
--- how many differ, how many doubtful papers are open, and how far its count is
+-- how many batches differ, how many doubtful papers are open, and how far its count is
 unfoldable pub open_words : WardView → Text
 open_words v = decimal v.status.differing ++ (codes " differing, " ++ (decimal v.status.doubtful_open ++ (codes " doubtful open, " ++ (decimal v.status.stages ++ codes " stages"))))
 
@@ -37,7 +37,7 @@ unfoldable pub elected_words : ℕ → Option (List ℕ) → Text
 elected_words seats None = []
 elected_words seats (Some elected) = codes ", elected " ++ (listed elected ++ (codes ", " ++ (decimal (seats - length elected) ++ codes " seats empty")))
 
--- the line on how a ward stands, its name last
+-- the line on a ward, its name last
 unfoldable pub ward_line : WardView → Text
 ward_line v = seats_words v ++ (codes ", " ++ (untaken_words v ++ (codes ", " ++ (open_words v ++ (elected_words v.ward.seats v.elected ++ (codes ": " ++ v.ward.name))))))
 
@@ -47,16 +47,16 @@ ward_line v = seats_words v ++ (codes ", " ++ (untaken_words v ++ (codes ", " ++
 unfoldable pub size_words : BatchView → Text
 size_words v = codes "batch " ++ (decimal v.batch.number ++ (codes " round " ++ (decimal v.batch.round ++ (codes ": " ++ (decimal v.batch.size ++ codes " papers")))))
 
--- whether a clerk has keyed it, in a word
+-- whether a clerk has keyed it, in words
 abbrev pub keyed_word : Bool → Text
 keyed_word true = codes "keyed"
 keyed_word false = codes "not keyed"
 
--- a clerk of it, and whether he has keyed it
+-- a clerk of it, and whether the clerk has keyed it
 unfoldable pub clerk_words : ℕ × Bool → Text
 clerk_words c = codes ", clerk " ++ (decimal c.0 ++ (codes " " ++ keyed_word c.1))
 
--- how it stands, in a word
+-- its status, in a word
 abbrev pub standing_word : BatchStanding → Text
 standing_word Taken = codes "taken"
 standing_word Differing = codes "differing"
@@ -67,14 +67,14 @@ unfoldable pub twin_words : Option ℕ → Text
 twin_words None = []
 twin_words (Some batch) = codes ", same papers as batch " ++ decimal batch
 
--- the line on how a batch stands
+-- the line on a batch
 unfoldable pub batch_line : BatchView → Text
 batch_line v =
     size_words v ++ (flat_map clerk_words v.clerks ++ (codes ", " ++ (standing_word v.standing ++ (codes ", " ++ (decimal v.doubtful_open ++ (codes " doubtful open" ++ twin_words v.twin))))))
 
 -- ---- a paper as it counts
 
--- what stands before a preference: nothing before the first
+-- what separates a preference from the one before: nothing before the first
 abbrev pub parting : ℕ → Text
 parting number = if number == 1 then [] else codes ", "
 
@@ -82,12 +82,12 @@ parting number = if number == 1 then [] else codes ", "
 unfoldable pub preference_words : ℕ → Text → Text
 preference_words number name = parting number ++ (decimal number ++ (codes " " ++ name))
 
--- preferences from a number on, by the names of the numbers of candidates: `1 Ann, 2 Cy`
+-- preferences from a number on, with the candidates' names: `1 Ann, 2 Cy`
 abbrev pub preferences_from : List Text → ℕ → List ℕ → Text
 preferences_from names number [] = []
 preferences_from names number (c ∷ cs) = preference_words number (name_in names c) ++ preferences_from names (number + 1) cs
 
--- why a paper is rejected, by its code
+-- why a paper is rejected, by its code, in words
 abbrev pub rejection_words : ℕ → Text
 rejection_words code =
     if code == 1 then codes "no first preference" else (
@@ -102,25 +102,25 @@ judgement_words names (Valid prefs) = codes "preferences " ++ preferences_from n
 judgement_words names (Rejected code) = codes "rejected " ++ (decimal code ++ (codes ", " ++ rejection_words code))
 judgement_words names Open = codes "doubtful, no verdict yet"
 
--- the line on it
+-- the line on a paper
 unfoldable pub paper_line : List Text → PaperView → Text
 paper_line names v = codes "batch " ++ (decimal v.batch ++ (codes " paper " ++ (decimal v.paper ++ (codes ": " ++ judgement_words names v.judgement))))
 
 -- ---- a doubtful paper
 
--- the verdict on it: accepted with these marks, and how it counts by them; or rejected with this code
+-- the verdict on a doubtful paper: accepted with these marks, and how it counts by them; or rejected with this code
 unfoldable pub verdict_words : List Text → Judgement → Option JudgedEntry → Text
 verdict_words names judgement None = codes "open"
 verdict_words names judgement (Some v) = if v.code == 0 then codes "accepted " ++ (v.marks ++ (codes ": " ++ judgement_words names judgement)) else codes "rejected " ++ decimal v.code
 
--- the line on it
+-- the line on a doubtful paper
 unfoldable pub doubtful_line : List Text → DoubtfulView → Text
 doubtful_line names v =
     codes "batch " ++ (decimal v.counted.batch ++ (codes " paper " ++ (decimal v.counted.paper ++ (codes " " ++ verdict_words names v.counted.judgement v.verdict))))
 
 -- ---- differences, and receipts
 
--- the line on which papers a batch differs
+-- the line on which papers the keyings of a batch differ
 unfoldable pub differences_line : DifferencesView → Text
 differences_line v = codes "batch " ++ (decimal v.batch.number ++ (codes " round " ++ (decimal v.batch.round ++ (codes " differs on papers " ++ listed v.papers))))
 
@@ -130,7 +130,7 @@ receipt_line r = codes "actor " ++ (decimal r.actor ++ (codes " id " ++ (r.id ++
 
 -- ---- what is printed
 
--- each in a line of its own
+-- each value in a line of its own
 abbrev pub lines_of : {X : Type 0} → (X → Text) → List X → Text
 lines_of text xs = flat_map (λ x. line (text x)) xs
 
@@ -141,7 +141,7 @@ paper_lines v = lines_of (paper_line (names_of v.candidates)) v.papers
 unfoldable pub doubtful_lines : DoubtfulPapersView → Text
 doubtful_lines v = lines_of (doubtful_line (names_of v.candidates)) v.papers
 
--- the page on how all stands, or why there is nothing
+-- the page that answers a question, or why there is no answer
 abbrev pub page_asked : OfficeState → Question → Page
 page_asked s question.Wards = page_found (λ wards. printed (lines_of ward_line wards)) (wards_told s)
 page_asked s (question.Batches ward) = page_found (λ batches. printed (lines_of batch_line batches)) (batches_told s ward)

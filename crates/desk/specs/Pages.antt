@@ -1,4 +1,4 @@
--- What the program prints, and how it ends.
+-- What the program prints, and its exit status.
 use Rattle.std.specs.Prelude.{◌≡◌, ◌⊎◌, ◌+◌, ◌++◌, ◌==◌, ◌&&◌, ◌||◌, ℕ, Bool, List, [], ◌∷◌, Option, Some, None, Result, Ok, Err, codes, string_bytes, if◌then◌else◌, OnOk, OnErr}
 use Rattle.std.specs.Fmt.{decimal}
 use Rattle.std.specs.Io.KnownBytes.{Appends}
@@ -6,7 +6,7 @@ use Rattle.std.specs.List.{flat_map}
 use Rattle.clap.specs.Words.{Text}
 use Rattle.streams.specs.Streams.{AppendsBeginning}
 use Rattle.register.specs.Offices.{OfficeState}
-use Rattle.register.specs.Keepings.{is_kept_otherwise}
+use Rattle.register.specs.Repeats.{is_kept_otherwise}
 use Rattle.register.specs.Reasons.{reason_number, reason_text}
 use Rattle.register.specs.declared.refusal.Reason.{Reason}
 use Rattle.register.specs.declared.refusal.Reason.TheVariants.{CountFinished, LotNeeded, WrongPhase}
@@ -35,17 +35,17 @@ use Rattle.desk.specs.declared.words.WordsFault.TheVariants as words
 use Rattle.desk.specs.declared.lines.LineOutcome.{LineOutcome}
 use Rattle.desk.specs.declared.lines.LineOutcome.TheVariants as outcome
 
--- what goes to the output and to the error output, and the status that the program ends with
+-- what is written to the output and to the error output, and the exit status
 pub record Page : Type 0 where
   pub out : Text
   pub err : Text
   pub status : ℕ
 
--- pieces of text, one behind the other
+-- pieces of text, joined
 abbrev pub joined : List Text → Text
 joined pieces = flat_map (λ piece. piece) pieces
 
--- a text, and the end of its line
+-- a text and a line feed
 abbrev pub line : Text → Text
 line text = joined (text ∷ codes "\n" ∷ [])
 
@@ -55,7 +55,7 @@ numbered_line kind number text = joined (kind ∷ decimal number ∷ codes ": " 
 
 -- ---- failures in words
 
--- why the program gives up: its number,
+-- why the program fails: its number,
 abbrev pub failure_number : Failure → ℕ
 failure_number (Office fault) = fault_number fault
 failure_number Output = 107
@@ -73,14 +73,14 @@ failure_text CopyFailed = codes "copy not written"
 failure_text BeingServed = codes "office is being served"
 failure_text FileGone = codes "file gone or replaced"
 
--- why no copy was made; want of memory is reported as ever
+-- the failure for a copy that wasn't made; running out of memory is reported as usual
 abbrev pub failure_of : CopyFault → Failure
 failure_of (uncopied.Office fault) = Office fault
 failure_of uncopied.Taken = CopyTaken
 failure_of (uncopied.Copy fault.Memory) = Office fault.Memory
 failure_of (uncopied.Copy other) = CopyFailed
 
--- the status of a file that isn't taken: a fault where its reading was stopped
+-- the status for a refused file: a fault if its reading was stopped
 abbrev pub status_of_file : FileFault → ℕ
 status_of_file fault = if is_stop fault.flaw then 3 else 1
 
@@ -102,7 +102,7 @@ replied text = printed (line text)
 abbrev pub refused : Reason → Page
 refused why = record { out = []; err = numbered_line (codes "refused ") (reason_number why) (reason_text why); status = 1 }
 
--- why a file isn't taken
+-- why a file is refused
 abbrev pub unread : FileFault → Page
 unread fault = record {
   out = [];
@@ -110,12 +110,12 @@ unread fault = record {
   status = status_of_file fault;
 }
 
--- of which line a fault of codes is, where it is of one
+-- the line of a fault of codes, if it is at one
 abbrev pub codes_place : Option ℕ → Text
 codes_place None = []
 codes_place (Some number) = joined (codes " at line " ∷ decimal number ∷ [])
 
--- why codes aren't taken, or not made
+-- why codes are refused, or not made
 abbrev pub codes_page : CodesFault → Page
 codes_page fault = record {
   out = [];
@@ -123,11 +123,15 @@ codes_page fault = record {
   status = 1;
 }
 
--- that codes were made for so many clerks
+-- that codes were made for this many clerks
 abbrev pub codes_made_page : ℕ → Page
 codes_made_page count = printed (joined (codes "codes written: " ∷ decimal count ∷ codes "\n" ∷ []))
 
--- why the program gives up
+-- that codes were made for so many clerks, and one for the office
+abbrev pub codes_and_office_made_page : ℕ → Page
+codes_and_office_made_page count = printed (joined (codes "codes written: " ∷ decimal count ∷ codes ", and the office's\n" ∷ []))
+
+-- why the program fails
 abbrev pub failed : Failure → Page
 failed failure = record { out = []; err = numbered_line (codes "fault ") (failure_number failure) (failure_text failure); status = 3 }
 
@@ -135,11 +139,11 @@ failed failure = record { out = []; err = numbered_line (codes "fault ") (failur
 abbrev pub closed_page : Page
 closed_page = failed (Office fault.Closed)
 
--- that there is no journal of the office: the orders that were written from its tables don't make it
+-- that the office has no journal: the orders that were written from its tables don't make it
 abbrev pub unjournalled : Page
 unjournalled = record { out = []; err = line (codes "no journal: what was written does not make this office"); status = 1 }
 
--- the note that a request was kept before, and that what it says now did nothing
+-- the note that a request was accepted before, and that its content now had no effect
 abbrev pub note_line : Text → Text
 note_line id = joined (codes "note: " ∷ id ∷ codes " was kept before with other words; nothing was changed\n" ∷ [])
 
@@ -147,45 +151,45 @@ note_line id = joined (codes "note: " ∷ id ∷ codes " was kept before with ot
 abbrev pub noted : Text → Text → Page
 noted id reply = record { out = line reply; err = note_line id; status = 0 }
 
--- the reply to a request that was kept before, with the note if what is kept differs from what the request says
+-- the reply to a request that was accepted before, with the note if the stored content differs from the request's
 abbrev pub page_kept : Text → Text → Bool → Page
 page_kept id reply differs = if differs then noted id reply else replied reply
 
--- what is printed of the machine's answer to a request at a state
+-- what is printed for the machine's answer to a request at a state
 abbrev pub page_for : OfficeState → Request → Told → Page
 page_for s r (done reply) = replied reply
 page_for s r (again reply) = page_kept (string_bytes r.id) reply (is_kept_otherwise s r)
 page_for s r (no why) = refused why
 
--- why a count goes no further. That no seat is left, and that a lot is needed, are replies. So is, behind the first request, that the ward was declared since.
+-- why a count doesn't continue. That no seat is left, and that a lot is needed, are replies. So is, after the first request, that the ward was declared meanwhile.
 abbrev pub page_at_rest : Bool → Reason → Page
 page_at_rest is_first CountFinished = replied (codes "count finished")
 page_at_rest is_first (LotNeeded stage tied) = replied (reason_text (LotNeeded stage tied))
 page_at_rest is_first WrongPhase = if is_first then refused WrongPhase else replied (codes "count finished")
 page_at_rest is_first why = refused why
 
--- what is printed of the machine's answer to a request for one stage more
+-- what is printed for the machine's answer to a request for one more stage
 abbrev pub page_counted : Bool → Told → Page
 page_counted is_first (done reply) = replied reply
 page_counted is_first (again reply) = replied reply
 page_counted is_first (no why) = page_at_rest is_first why
 
--- what was found of a state, or why there is nothing
+-- what was found at a state, or why there is nothing
 abbrev pub page_found : {X : Type 0} → (X → Page) → Result X Reason → Page
 page_found page (Ok x) = page x
 page_found page (Err why) = refused why
 
--- why nothing is found: a refusal, or a fault
+-- why nothing was found: a refusal, or a fault
 abbrev pub page_stopped : Stop → Page
 page_stopped (Refused why) = refused why
 page_stopped (Fault fault) = failed (Office fault)
 
--- what a migration came to
+-- the outcome of a migration
 abbrev pub migrated_text : Migrated → Text
 migrated_text Done = codes "office migrated"
 migrated_text Already = codes "office is at version 2"
 
--- an outcome
+-- the page for an outcome
 abbrev pub page_of : LineOutcome → Page
 page_of outcome.Ready = replied (codes "office ready")
 page_of (outcome.Migrated migrated) = replied (migrated_text migrated)
@@ -200,7 +204,7 @@ page_of (outcome.Failed fault) = failed (Office fault)
 page_of (outcome.Uncopied why) = failed (failure_of why)
 page_of outcome.Unjournalled = unjournalled
 
--- why words are no order: help goes to the output, and what isn't understood to the error output
+-- why words aren't an order: help goes to the output, and what isn't understood to the error output
 abbrev pub words_page : WordsFault → Page
 words_page words.Memory = failed (Office fault.Memory)
 words_page words.Origin = record { out = []; err = bad_origin; status = 2 }
@@ -210,69 +214,69 @@ words_page (words.Words text status) = if status == 0 then printed (string_bytes
 
 -- ---- pages of a script's lines
 
--- the front of what is printed of a script's line, by its number
+-- the prefix of what is printed about a script's line, by its number
 abbrev pub line_front : Option ℕ → Text
 line_front None = []
 line_front (Some number) = joined (codes "line " ∷ decimal number ∷ codes ": " ∷ [])
 
--- a text behind a front, where there is any
+-- a text after a prefix, if it isn't empty
 abbrev pub behind_front : Text → Text → Text
 behind_front front [] = []
 behind_front front (byte ∷ bytes) = front ++ (byte ∷ bytes)
 
--- a page, where it is that of a script's line: its number stands before what goes to the error output
+-- a page; if it is that of a script's line, its number precedes what goes to the error output
 abbrev pub fronted : Option ℕ → Page → Page
 fronted None page = page
 fronted (Some number) page = record { out = page.out; err = behind_front (line_front (Some number)) page.err; status = page.status }
 
--- why a text is no script
+-- why a text isn't a script
 abbrev pub script_page : ScriptFault → Page
 script_page script.Memory = failed (Office fault.Memory)
 script_page (script.ScriptLine number flaw) = record { out = []; err = line_front (Some number) ++ line_flaw_text flaw; status = 2 }
 
--- ---- pages below one another
+-- ---- pages in sequence
 
--- it goes on after a page of this status: of 0, and of 1, a refusal, where it is to keep going
+-- the sequence continues after a page of status 0, and, if it is to keep going, after a refusal, of status 1
 abbrev pub goes_on : Bool → ℕ → Bool
 goes_on keep status = status == 0 || (keep && status == 1)
 
--- the status behind another one: that of the last page that has one other than 0
+-- the status after one more page: the last one other than 0
 abbrev pub status_behind : ℕ → ℕ → ℕ
 status_behind before status = if status == 0 then before else status
 
--- a page with another one above it
+-- a page after another one
 abbrev pub below : Page → Page → Page
 below above page = record { out = above.out ++ page.out; err = above.err ++ page.err; status = status_behind above.status page.status }
 
--- ---- a text that is put to one output
+-- ---- a text that is written to one output
 
--- the text was taken; or a beginning of it, and a call failed
+-- the text was written; or a prefix of it, and a call failed
 pub record IsPut {W X E : Type 0} (taken : W → Option (List ℕ)) (failed : W → ℕ) (old new : W) (text : Text) (result : Result X E) : Type 0 where
   pub all : OnOk result (Appends (taken old) (taken new) text)
   pub ok : OnOk result (failed new ≡ failed old)
   pub cut_off : OnErr result (AppendsBeginning (taken old) (taken new) text)
   pub err : OnErr result (failed new ≡ failed old + 1)
 
--- the text was printed on the error output, with this status; or a beginning of it, and the status is 3
+-- the text was printed on the error output, with this status; or a prefix of it, and the status is 3
 abbrev pub IsErrorTold : {E : Type 0} → (E → Option (List ℕ)) → (E → ℕ) → E → E → Text → ℕ → ℕ → Type 0
 IsErrorTold taken failed old new text wanted status =
     (Appends (taken old) (taken new) text × (failed new ≡ failed old) × (status ≡ wanted))
     ⊎ (AppendsBeginning (taken old) (taken new) text × (failed new ≡ failed old + 1) × (status ≡ 3))
 
--- ---- what was printed of a page
+-- ---- how much of a page was printed
 
--- the two outputs: the bytes that each took, as far as it says which, and how many of its calls failed
+-- the two outputs: the bytes written to each, as far as these are known, and how many of its calls failed
 pub record Outputs : Type 0 where
   pub out : Option (List ℕ)
   pub out_failed : ℕ
   pub err : Option (List ℕ)
   pub err_failed : ℕ
 
--- two outputs, by what each says of itself
+-- two outputs, by the values of each
 abbrev pub outputs_of : {O E : Type 0} → (O → Option (List ℕ)) → (O → ℕ) → (E → Option (List ℕ)) → (E → ℕ) → O → E → Outputs
 outputs_of taken failed taken_err failed_err out err = record { out = taken out; out_failed = failed out; err = taken_err err; err_failed = failed_err err }
 
--- the page was taken whole, and the program ends with its status
+-- the page was written whole, and the program ends with its status
 pub record IsWhole (old new : Outputs) (page : Page) (status : ℕ) : Type 0 where
   pub out : Appends old.out new.out page.out
   pub out_failed : new.out_failed ≡ old.out_failed
@@ -280,20 +284,20 @@ pub record IsWhole (old new : Outputs) (page : Page) (status : ℕ) : Type 0 whe
   pub err_failed : new.err_failed ≡ old.err_failed
   pub ends : status ≡ page.status
 
--- how much was taken of a page: all; or a beginning, where the output failed; or all that goes to the output, where the error output failed
+-- how much of a page was written: all; or a prefix, if the output failed; or all that goes to the output, if the error output failed
 pub data Cut : Type 0 where
   uncut : Cut
   cut_behind : Text → Cut
   cut_error : Cut
 
--- the output failed: it took this beginning, and the error output says so, behind what the page has for it; or it has a beginning of that, where it failed too
+-- the output failed after this prefix, and the error output says so after the page's own text for it; or it has a prefix of that, if it failed too
 pub record IsOutputBroken (took : Text) (old new : Outputs) (page : Page) (status : ℕ) : Type 0 where
   pub out : Appends old.out new.out took
   pub begins : (left : Text) × (took ++ left ≡ page.out)
   pub out_failed : new.out_failed ≡ old.out_failed + 1
   pub told : IsErrorTold (λ (o : Outputs). o.err) (λ (o : Outputs). o.err_failed) old new (page.err ++ (failed Output).err) 3 status
 
--- the error output failed: it took a beginning
+-- the error output failed after a prefix
 pub record IsErrorOutputBroken (old new : Outputs) (page : Page) (status : ℕ) : Type 0 where
   pub out : Appends old.out new.out page.out
   pub out_failed : new.out_failed ≡ old.out_failed
@@ -301,23 +305,23 @@ pub record IsErrorOutputBroken (old new : Outputs) (page : Page) (status : ℕ) 
   pub err_failed : new.err_failed ≡ old.err_failed + 1
   pub ends : status ≡ 3
 
--- a page was taken as far as this
+-- a page was written as far as this
 abbrev pub IsShown : Cut → Outputs → Outputs → Page → ℕ → Type 0
 IsShown uncut old new page status = IsWhole old new page status
 IsShown (cut_behind took) old new page status = IsOutputBroken took old new page status
 IsShown cut_error old new page status = IsErrorOutputBroken old new page status
 
--- a page was taken, however far
+-- a page was written, however far
 abbrev pub Shows : Outputs → Outputs → Page → ℕ → Type 0
 Shows old new page status = (cut : Cut) × IsShown cut old new page status
 
--- how much was taken of a page, where a text above it was taken whole
+-- how much of a page was written, if a text before it was written whole
 abbrev pub cut_below : Text → Cut → Cut
 cut_below text uncut = uncut
 cut_below text (cut_behind took) = cut_behind (text ++ took)
 cut_below text cut_error = cut_error
 
--- what was printed is some page of a kind, that of a script's line or not
+-- some page of a kind was printed, that of a script's line or not
 pub record TellsOf (line : Option ℕ) (old new : Outputs) (status : ℕ) (P : Cut → Page → Type 0) : Type 0 where
   pub page : Page
   pub cut : Cut

@@ -1,4 +1,4 @@
--- What the parts of an order answer.
+-- The outcomes of the parts of an order.
 use Rattle.std.specs.Prelude.{◌≡◌, ◌⊎◌, ◌==◌, ◌&&◌, ℕ, Bool, not, List, [], ◌∷◌, Option, None, Result, Ok, Err}
 use Rattle.sqlite.specs.State.{State}
 use Rattle.clap.specs.Words.{Text}
@@ -20,15 +20,16 @@ use Rattle.desk.specs.declared.lines.Failure.TheVariants.{Office}
 use Rattle.desk.specs.declared.orders.KeyingFile.{KeyingFile}
 use Rattle.desk.specs.declared.orders.Question.{Question}
 
--- there are requests of which this page came, so much of which was taken, and so many of which were answered
+-- P holds of an outcome with this page, written as far as this, for some requests of which some number was answered
 abbrev pub ComesTo : Cut → Page → (Course → Type 0) → Type 0
 ComesTo cut page P = (requests : List Request) × (answered : ℕ) × P (record { requests = requests; answered = answered; page = page; cut = cut })
 
--- nothing is left to be done, in the office that is open at a state
+-- nothing remains to be done, in the office that is open at a state
 abbrev pub IsOver : Bool → State → OfficeState → Course → Type 0
 IsOver closed st s course = (course ≡ ended None [] 0 empty_page uncut) × IsOpenAt s closed st
 
--- What came of a request for one stage more, the first or not, and whether the count goes on behind it: where the machine doesn't refuse it, and no fault was met.
+-- The outcome of a request for one more stage, the first or a later one, and whether the count continues after it: it does if the machine doesn't refuse it and there
+-- is no fault.
 abbrev pub IsStage : State → Bool → State → Bool → OfficeState → Request → Page → Bool → Type 0
 IsStage old closed st first s r page goes = (answered : ℕ) × IsAnswered old closed st (λ t q. page_counted first) s r answered page × (goes ≡ (answered == 1 && not (is_refused (step_of s r))))
 
@@ -37,23 +38,23 @@ abbrev pub IsCounted : State → Bool → State → Bool → Option ℕ → Offi
 IsCounted old closed st keep line s ward id course =
     (requests : List Request) × AreAdvances s ward id 1 requests × IsSent old closed st keep line (λ t r. page_counted (is_first id r)) (IsOver closed st) s requests course
 
--- the page has what is found of a state, or why there is nothing; or a fault
+-- the page has what is found at a state, or why there is nothing; or a fault
 abbrev pub IsFound : {X : Type 0} → OfficeState → (X → Page) → Result X Reason → Page → Bool → State → State → Type 0
 IsFound s shown found page closed old st = ((page ≡ page_found shown found) × IsOpenAt s closed st) ⊎ IsStopped old closed st s page
 
--- the page has how all stands, or why that can't be had; or a fault
+-- the page answers a question, or says why there is no answer; or it has a fault
 abbrev pub IsAskedOf : OfficeState → Question → Page → Bool → State → State → Type 0
 IsAskedOf s question page closed old st = ((page ≡ page_asked s question) × IsOpenAt s closed st) ⊎ IsStopped old closed st s page
 
--- why a file that was read isn't taken, or want of memory
+-- why a file that was read is refused, or an allocation failed
 abbrev pub IsUnread : {Row : Type 0} → Format Row → Option (List ℕ) → File → Page → Type 0
 IsUnread format digest file page = IsRefusedFile format digest file page ⊎ (page ≡ failed (Office Memory))
 
--- why no text is read of a script's file
+-- why a script's file can't be read
 abbrev pub IsUnreadScript : Page → Type 0
 IsUnreadScript page = (page ≡ unopened) ⊎ (page ≡ failed (Office Memory))
 
--- the keying that a file holds, of a batch at a state; or why there is none
+-- the keying of a batch in a file, at a state; or why there is none
 abbrev pub IsKeyingRead : {O : Type 0} → OfficeState → KeyingFile → File → (O → Page) → Result Request O → Bool → State → State → Type 0
 IsKeyingRead s k file page_of (Ok request) closed old st = HoldsKeying (columns_told s k.batch) k file (request ∷ []) × IsOpenAt s closed st
 IsKeyingRead s k file page_of (Err outcome) closed old st = (IsRefusedKeying (columns_told s k.batch) k file (page_of outcome) × IsOpenAt s closed st) ⊎ IsStopped old closed st s (page_of outcome)

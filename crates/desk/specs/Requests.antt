@@ -46,17 +46,17 @@ id_at id k = id ++ (codes "-" ++ decimal k)
 abbrev pub request_at : Text → ℕ → CandidateEntry → Sent
 request_at id k c = by_office (id_at id k) (candidate_to_add c.0 c.1 c.2)
 
--- the requests for candidates, whose records have these numbers from some number on
+-- the requests for candidates, whose records are numbered from some number on
 abbrev pub requests_from : Text → ℕ → List CandidateEntry → List Sent
 requests_from id k [] = []
 requests_from id k (c ∷ cs) = request_at id k c ∷ requests_from id (suc k) cs
 
--- the requests for the rows of a file, one a record
+-- the requests for the rows of a file, one per record
 abbrev pub requests_for : Text → Result (List CandidateEntry) FileFault → Result (List Sent) FileFault
 requests_for id (Ok rows) = Ok (requests_from id 1 rows)
 requests_for id (Err fault) = Err fault
 
--- the request that keeps a clerk's keying of a batch, sent by the clerk
+-- the request that stores a clerk's keying of a batch, sent by the clerk
 abbrev pub keying_by : KeyingFile → List Text → Sent
 keying_by k papers = by_clerk k.clerk k.id.now (keying_to_keep k.batch k.round papers)
 
@@ -65,57 +65,57 @@ abbrev pub keyings_for : KeyingFile → Result (List Text) FileFault → Result 
 keyings_for k (Ok papers) = Ok (keying_by k papers ∷ [])
 keyings_for k (Err fault) = Err fault
 
--- the file is read as bytes that hold these requests, and have the digest that is asked for, if one is
+-- the file is read as bytes that contain these requests, and have the digest that is asked for, if any
 abbrev pub HoldsRequests : {Row : Type 0} → Format Row → (Result (List Row) FileFault → Result (List Sent) FileFault) → Option (List ℕ) → File → List Request → Type 0
 HoldsRequests format sent digest file requests = IsReadFrom digest file (λ bytes. sent (file_rows format (file_records bytes)) ≡ Ok (map sent_as requests))
 
--- the file of a clerk's keying of a batch whose columns are these, or can't be had for this reason
+-- the file of a clerk's keying of a batch with these columns, or without any for this reason
 abbrev pub HoldsKeying : Result (List ℕ) Reason → KeyingFile → File → List Request → Type 0
 HoldsKeying (Ok columns) k file requests = HoldsRequests (keying columns k.batch k.clerk) (keyings_for k) (asked_digest k.digest) file requests
 HoldsKeying (Err why) k file requests = ⊥
 
 -- ---- the stages of a count
 
--- the request that counts a stage of a ward, the one of some number in its order
+-- the request that counts a stage of a ward, with this number in its order
 abbrev pub advance_at : ℕ → Text → ℕ → Sent
 advance_at ward id k = by_office (id_at id k) (stage_to_count ward)
 
--- a request has the id of the first of an order that counts
+-- whether a request has the id of the first of an order that counts
 abbrev pub is_first : Text → Request → Bool
 is_first id r = bytes_eq (string_bytes r.id) (id_at id 1)
 
--- the first requests of an order that counts, so many
+-- the first requests of an order that counts, as many as this
 abbrev pub advances : ℕ → Text → ℕ → List Sent
 advances ward id n = map (advance_at ward id) (range_with_len 1 n)
 
--- the highest stage that a count can have. At most 30 candidates stand. The first stage is that of the first preferences. Each stage behind it transfers the papers
--- of one candidate, who is done with then: of one who is elected his surplus, of one who is excluded all. So this is the last stage for which a lot may be drawn.
+-- the highest stage that a count can have. There are at most 30 candidates. The first stage is that of the first preferences. Each later one transfers the papers of
+-- one candidate, who then needs no further stage: the surplus of an elected one, all papers of an excluded one. So this is the last stage for which a lot may be drawn.
 abbrev pub last_stage : ℕ
 last_stage = last_lot_stage
 
--- the most that such an order sends: one more than that, which is refused
+-- the maximum number of requests of such an order: one more than the stages, which is refused
 abbrev pub most_advances : ℕ
 most_advances = last_stage + 1
 
--- the machine refuses a request
+-- whether the machine refuses a request
 abbrev pub is_refused : Outcome → Bool
 is_refused (accepted next reply) = false
 is_refused (kept reply) = false
 is_refused (refused why) = true
 
--- where a request is the last, none stands behind it; where it isn't, the others follow so
+-- if a request is the last, none follows it; else the others do
 abbrev pub EndsOr : Bool → List Request → Type 0 → Type 0
 EndsOr true others Follow = others ≡ []
 EndsOr false others Follow = Follow
 
--- requests that count stages of a ward, from this number in their order on: each in its turn, up to the first that the machine refuses, or to the most
+-- requests that count stages of a ward, numbered in their order from this number on: each in its turn, up to the first that the machine refuses, or to the maximum
 abbrev pub AreAdvances : OfficeState → ℕ → Text → ℕ → List Request → Type 0
 AreAdvances s ward id k [] = ⊥
 AreAdvances s ward id k (r ∷ rs) = (sent_as r ≡ advance_at ward id k) × EndsOr (is_refused (step_of s r) || k == most_advances) rs (AreAdvances (after_one s r) ward id (suc k) rs)
 
 -- ---- the requests of an errand
 
--- the requests that an errand sends at a state: its own one, those that its file holds, or those that count; an errand that asks something sends none
+-- the requests that an errand sends at a state: its own one, those in its file, or those that count; an errand that asks a question sends none
 abbrev pub Sends : OfficeState → Errand → File → List Request → Type 0
 Sends s (errand.Send request) file requests = map sent_as requests ≡ sent_as request ∷ []
 Sends s (errand.ImportCandidates path id digest) file requests = HoldsRequests candidates (requests_for id.now) (asked_digest digest) file requests

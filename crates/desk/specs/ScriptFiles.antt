@@ -7,16 +7,16 @@ use Rattle.desk.specs.Scripts.{AreTurns, IsFirstFlaw, script_lines}
 use Rattle.desk.specs.declared.scripts.LineFlaw.{LineFlaw}
 use Rattle.desk.specs.declared.scripts.ScriptStep.{ScriptStep}
 
--- a path that may be none, as a list
+-- an optional path, as a list
 abbrev pub listed : Option Text → List Text
 listed None = []
 listed (Some path) = path ∷ []
 
--- the paths of the files that turns read, in turn
+-- the paths of the files that steps read, in order
 abbrev pub files_of : List ScriptStep → List Text
 files_of turns = flat_map (λ turn. listed (file_of turn.errand)) turns
 
--- These are the paths that a text names: those of its turns, where it is a script; or none, where something is wrong with a line.
+-- These are the paths that a text names: those of its steps, if it is a script; or none, if something is wrong with a line.
 abbrev pub AreNamedIn : Text → List Text → Type 0
 AreNamedIn text paths =
     ((turns : List ScriptStep) × AreTurns (script_lines text) turns × (paths ≡ files_of turns))

@@ -1,4 +1,4 @@
--- The orders of a script: the lines of its text, the words of a line, and the order that these are.
+-- The orders of a script: the lines of its text, the words of a line, and the order that they mean.
 use Rattle.std.specs.Prelude.{◌≡◌, ◌≢◌, ◌⊎◌, ◌==◌, ◌&&◌, ◌||◌, ◌++◌, ℕ, suc, Bool, true, false, List, [], ◌∷◌, Option, Some, None, Result, Ok, Err}
 use Rattle.std.specs.Prelude.{codes, if◌then◌else◌, map, fold, string_bytes, IsOkAnd}
 use Rattle.std.specs.List.{list_all, list_any}
@@ -25,23 +25,23 @@ use Rattle.desk.specs.declared.scripts.ScriptStep.{ScriptStep}
 
 -- ---- the lines of a text
 
--- the lines of a text behind the beginning of the first; a line feed ends one
+-- the lines of a text, given the beginning of the first; a line feed ends one
 abbrev pub lines_from : Text → Text → List Text
 lines_from line [] = line ∷ []
 lines_from line (byte ∷ bytes) = if byte == 10 then line ∷ lines_from [] bytes else lines_from (line ++ byte ∷ []) bytes
 
--- a text behind its byte order mark, where it begins with one
+-- a text without its byte order mark, if it begins with one
 abbrev pub behind_byte_order_mark : Text → Text
 behind_byte_order_mark (a ∷ b ∷ c ∷ text) = if a == 239 && (b == 187 && c == 191) then text else a ∷ b ∷ c ∷ text
 behind_byte_order_mark text = text
 
--- the lines of a text; a byte order mark at its front is passed over
+-- the lines of a text; a byte order mark at its beginning is skipped
 abbrev pub lines_of : Text → List Text
 lines_of text = lines_from [] (behind_byte_order_mark text)
 
 -- ---- the words of a line
 
--- a space, a tab, or a carriage return, as before a line's end
+-- a space, a tab, or a carriage return; one may precede a line feed
 abbrev pub is_blank : ℕ → Bool
 is_blank byte = byte == 32 || (byte == 9 || byte == 13)
 
@@ -49,34 +49,34 @@ is_blank byte = byte == 32 || (byte == 9 || byte == 13)
 abbrev pub is_quote : ℕ → Bool
 is_quote byte = byte == 34 || byte == 39
 
--- a line is passed over: nothing but blanks stands in it, or the first byte that isn't one is #
+-- a line is skipped: it consists of blanks, or the first byte after its blanks is #
 abbrev pub passes_over : Text → Bool
 passes_over [] = true
 passes_over (byte ∷ bytes) = if is_blank byte then passes_over bytes else byte == 35
 
--- how far a line is cut: its words so far, the one that is begun, and where the next byte stands
+-- the state of splitting a line: its complete words, the current word, and the context of the next byte
 pub record LexerEntry : Type 0 where
   pub words : List Text
   pub word : Text
   pub place : LexerState
 
--- the next byte stands elsewhere
+-- the context of the next byte changes
 abbrev pub moved_to : LexerState → LexerEntry → LexerEntry
 moved_to place c = record { words = c.words; word = c.word; place = place }
 
--- the word has one byte more
+-- a byte is appended to the current word
 abbrev pub with_byte : LexerEntry → ℕ → LexerEntry
 with_byte c byte = record { words = c.words; word = c.word ++ byte ∷ []; place = c.place }
 
--- the word is whole
+-- the current word is complete
 abbrev pub with_word : LexerEntry → LexerEntry
 with_word c = record { words = c.words ++ c.word ∷ []; word = []; place = Between }
 
--- a byte that is no blank, outside quotes: a quote opens, any other belongs to the word
+-- a byte that isn't a blank, outside quotes: a quote opens, any other belongs to the word
 abbrev pub cut_open : LexerEntry → ℕ → LexerEntry
 cut_open c byte = if is_quote byte then moved_to (Quoted byte) c else moved_to Within (with_byte c byte)
 
--- one byte more: in quotes each belongs to the word up to the same quote, and outside a blank ends a word
+-- one more byte: inside quotes each belongs to the word up to the same quote, and outside them a blank ends a word
 abbrev pub cut_at : LexerState → LexerEntry → ℕ → LexerEntry
 cut_at Between c byte = if is_blank byte then c else cut_open c byte
 cut_at Within c byte = if is_blank byte then with_word c else cut_open c byte
@@ -85,7 +85,7 @@ cut_at (Quoted quote) c byte = if byte == quote then moved_to Within c else with
 abbrev pub cut_byte : LexerEntry → ℕ → LexerEntry
 cut_byte c byte = cut_at c.place c byte
 
--- the words of a line that was cut to its end; none where a quote isn't closed
+-- the words of a line once all its bytes were processed; None if a quote isn't closed
 abbrev pub words_at : LexerState → LexerEntry → Option (List Text)
 words_at Between c = Some c.words
 words_at Within c = Some (c.words ++ c.word ∷ [])
@@ -94,7 +94,7 @@ words_at (Quoted quote) c = None
 abbrev pub words_cut : LexerEntry → Option (List Text)
 words_cut c = words_at c.place c
 
--- the words of a line, none where a quote isn't closed
+-- the words of a line; None if a quote isn't closed
 abbrev pub words_of : Text → Option (List Text)
 words_of line = words_cut (fold cut_byte (record { words = []; word = []; place = Between }) line)
 
@@ -105,12 +105,12 @@ pub record Numbered : Type 0 where
   pub number : ℕ
   pub words : Option (List Text)
 
--- the lines from some number on that aren't passed over
+-- the lines that aren't skipped, numbered from some number on
 abbrev pub numbered_from : ℕ → List Text → List Numbered
 numbered_from k [] = []
 numbered_from k (line ∷ lines) = if passes_over line then numbered_from (suc k) lines else record { number = k; words = words_of line } ∷ numbered_from (suc k) lines
 
--- the words as typed behind the program's name, with DB; or why they are none: a quote isn't closed, or one isn't UTF-8
+-- the words as typed after the program's name, with DB; or why there are none: a quote isn't closed, or a word isn't UTF-8
 abbrev pub typed : Option (List Text) → Result (List Text) Garbled
 typed None = Err garbled.Quote
 typed (Some words) = if list_all is_utf8 words then Ok (codes "DB" ∷ words) else Err garbled.NotUtf8
@@ -129,7 +129,7 @@ script_lines text = map typed_line (numbered_from 1 (lines_of text))
 
 -- ---- the order of a line
 
--- an errand sends requests; one that sends none stands in no script
+-- whether an errand sends requests; only one that does can be in a script
 abbrev pub sends_requests : Errand → Bool
 sends_requests (errand.Send request) = true
 sends_requests (errand.ImportCandidates file id digest) = true
@@ -137,33 +137,33 @@ sends_requests (errand.ImportKeying keying) = true
 sends_requests (errand.Count ward id) = true
 sends_requests other = false
 
--- an order stands in a script where its errand sends requests
+-- whether an order can be in a script: its errand sends requests
 abbrev pub stands_in_script : Order → Bool
 stands_in_script (order.Perform (task.InOffice (job.Run errand))) = sends_requests errand
 stands_in_script other = false
 
--- the words are those of an order that stands in a script, and this is its errand
+-- the words are those of an order that can be in a script, and this is its errand
 pub record Means (words : List Text) (errand : Errand) : Type 0 where
   pub right : wrong_with words ≡ []
   pub means : meaning (subcommand_of office_words words) ≡ Some (told (order.Perform (task.InOffice (job.Run errand))))
   pub sends : sends_requests errand ≡ true
 
--- a line is this turn
+-- a line is this step
 pub record IsTurn (line : Typed) (turn : ScriptStep) : Type 0 where
   pub line_number : turn.line ≡ Some line.number
   pub means : IsOkAnd line.words (λ words. Means words turn.errand)
 
--- the lines are these turns, one each
+-- the lines are these steps, one each
 abbrev pub AreTurns : List Typed → List ScriptStep → Type 0
 AreTurns [] turns = turns ≡ []
 AreTurns (line ∷ lines) turns = (turn : ScriptStep) × (others : List ScriptStep) × (turns ≡ turn ∷ others) × IsTurn line turn × AreTurns lines others
 
--- the turns of a job: an errand alone is one turn, of no line; the turns of a script are the errands that its lines mean
+-- the steps of a job: an errand alone is one step, without a line; the steps of a script are the errands that its lines mean
 abbrev pub HasTurns : Folder → Job → List ScriptStep → Type 0
 HasTurns folder (job.Run errand) turns = turns ≡ record { line = None; errand = errand } ∷ []
 HasTurns folder (job.Replay path keep_going) turns = (file : File) × IsFileAt folder (Some path.now) file × HoldsText file (λ text. AreTurns (script_lines text) turns)
 
--- a job goes past refusals: a script does where it is to keep going
+-- whether a job continues after refusals: a script does if it is to keep going
 abbrev pub keeps_going : Job → Bool
 keeps_going (job.Run errand) = false
 keeps_going (job.Replay path keep_going) = keep_going
@@ -180,8 +180,8 @@ line_flaw_text flaw.Digest = bad_digest
 line_flaw_text (flaw.Words text) = string_bytes text
 line_flaw_text flaw.Elsewhere = codes "error: this order stands in no script\n"
 
--- what is wrong with its words. It is that one which stands for a verdict, an origin or a digest is none, though `clap` takes them; or what `clap` says
--- of them; or that the order stands in no script, as one that asks for help.
+-- what is wrong with its words. The word of a verdict, an origin or a digest is invalid, though `clap` accepts the words; or it is what `clap` says of them; or the
+-- order can't be in a script, such as one that asks for help.
 abbrev pub IsFlawOfWords : List Text → LineFlaw → Type 0
 IsFlawOfWords words (flaw.NoWords why) = ⊥
 IsFlawOfWords words flaw.Verdict = (wrong_with words ≡ []) × (meaning (subcommand_of office_words words) ≡ Some no_verdict)
@@ -197,7 +197,7 @@ abbrev pub IsFlawOf : Result (List Text) Garbled → LineFlaw → Type 0
 IsFlawOf (Err why) found = found ≡ flaw.NoWords why
 IsFlawOf (Ok words) found = IsFlawOfWords words found
 
--- this is wrong with the line of some number, and nothing with those before it
+-- this is wrong with the line of some number, and nothing is with those before it
 abbrev pub IsFirstFlaw : List Typed → ℕ → LineFlaw → Type 0
 IsFirstFlaw [] k found = ⊥
 IsFirstFlaw (line ∷ lines) k found = ((line.number ≡ k) × IsFlawOf line.words found) ⊎ ((turn : ScriptStep) × IsTurn line turn × IsFirstFlaw lines k found)

@@ -1,4 +1,4 @@
--- What is printed where nothing is sent: what was asked, or why a file isn't taken.
+-- What is printed if nothing is sent: the answer to a question, or why a file is refused.
 use Rattle.std.specs.Prelude.{◌≡◌, ◌⊎◌, ℕ, List, Option, Some, None, Result, Ok, Err}
 use Rattle.register.specs.Offices.{OfficeState}
 use Rattle.register.specs.declared.command.Request.{Request}
@@ -29,8 +29,8 @@ use Rattle.desk.specs.declared.orders.KeyingFile.{KeyingFile}
 use Rattle.desk.specs.declared.scripts.LineFlaw.{LineFlaw}
 use Rattle.desk.specs.declared.scripts.ScriptFault.TheVariants as script
 
--- What an errand prints of the answer to a request that it sends. One that counts prints why the count rests; and since the subject of such a request says all
--- of it, none of these has a note.
+-- What an errand prints for the answer to a request that it sends. One that counts prints why the count rests. None of its replies has a note, since the subject of
+-- such a request determines its content.
 abbrev pub page_answered : Errand → OfficeState → Request → Told → Page
 page_answered (errand.Count ward id) = λ s r. page_counted (is_first id.now r)
 page_answered other = page_for
@@ -39,17 +39,17 @@ page_answered other = page_for
 abbrev pub unopened : Page
 unopened = unread (record { flaw = ReadFailed; record_number = 0 })
 
--- why the file isn't taken, where a digest is asked for or none
+-- why the file is refused, whether or not a digest is asked for
 abbrev pub IsRefusedFile : {Row : Type 0} → Format Row → Option (List ℕ) → File → Page → Type 0
 IsRefusedFile format digest None page = page ≡ unopened
 IsRefusedFile format digest (Some told) page = (fault : FileFault) × (page ≡ unread fault) × Known told (λ bytes. IsFaultBy digest format bytes fault)
 
--- the same of a clerk's keying of a batch, which may not be there
+-- why the file of a clerk's keying of a batch is refused; there may be no such batch
 abbrev pub IsRefusedKeying : Result (List ℕ) Reason → KeyingFile → File → Page → Type 0
 IsRefusedKeying (Ok columns) k file page = IsRefusedFile (keying columns k.batch k.clerk) (asked_digest k.digest) file page
 IsRefusedKeying (Err why) k file page = page ≡ refused why
 
--- what is printed of a state, or why nothing is sent
+-- what is printed for a state, or why nothing is sent
 abbrev pub IsTold : OfficeState → Errand → File → Page → Type 0
 IsTold s (errand.Send request) file page = ⊥
 IsTold s (errand.ImportCandidates path id digest) file page = IsRefusedFile candidates (asked_digest digest) file page
@@ -61,13 +61,13 @@ IsTold s (errand.Print ward text) file page = page ≡ page_found printed (text_
 IsTold s (errand.PrintIndex title) file page = page ≡ page_found printed (index_told title.now s)
 IsTold s (errand.Ask question) file page = page ≡ page_asked s question
 
--- why a file isn't taken for a script: it can't be opened or read, or this is wrong with the first line that isn't understood
+-- why a file is refused as a script: it can't be opened or read, or this is wrong with the first line that isn't understood
 abbrev pub IsRefusedScript : File → Page → Type 0
 IsRefusedScript None page = page ≡ unopened
 IsRefusedScript (Some told) page =
     (page ≡ unopened) ⊎ ((number : ℕ) × (flaw : LineFlaw) × (page ≡ script_page (script.ScriptLine number flaw)) × Known told (λ text. IsFirstFlaw (script_lines text) number flaw))
 
--- why the file of a job isn't taken for a script
+-- why the file of a job is refused as a script
 abbrev pub IsNoScript : Folder → Job → Page → Type 0
 IsNoScript folder (job.Run errand) page = ⊥
 IsNoScript folder (job.Replay path keep_going) page = (file : File) × IsFileAt folder (Some path.now) file × IsRefusedScript file page

@@ -1,4 +1,4 @@
--- What the word of a verdict says, and what a verdict is.
+-- The verdict that a word denotes.
 use Rattle.std.specs.Prelude.{ℕ, nat_eq, drop, length, Option, Some, None, codes, if◌then◌else◌, option_map, string_bytes}
 use Rattle.std.specs.List.{starts_with}
 use Rattle.clap.specs.Words.{Text}
@@ -16,20 +16,20 @@ abbrev pub judgement_given : Verdict → Judgement
 judgement_given (verdict.Accept marks) = accepted (string_bytes marks)
 judgement_given (verdict.Reject code) = rejected code
 
--- what stands behind a front in a text, where the text begins with it
+-- the text after a prefix, if it begins with that
 abbrev pub behind : Text → Text → Option Text
 behind front t = if starts_with nat_eq t front then Some (drop (length front) t) else None
 
--- a rejection, by what stands behind `reject:`
+-- a rejection, by the text after `reject:`
 abbrev pub rejection_in : Option Text → Option Judgement
 rejection_in None = None
 rejection_in (Some code) = option_map rejected (number_in code)
 
--- a verdict, by what stands behind `accept:`, and if nothing does, behind `reject:`
+-- a verdict, by the text after `accept:` if there is one, else by that after `reject:`
 abbrev pub judged_by : Option Text → Option Text → Option Judgement
 judged_by (Some marks) code = Some (accepted marks)
 judged_by None code = rejection_in code
 
--- the verdict that a word says: `accept:` and a marks text, or `reject:` and a number
+-- the verdict that a word denotes: `accept:` and a marks text, or `reject:` and a number
 abbrev pub judgement_in : Text → Option Judgement
 judgement_in t = judged_by (behind (codes "accept:") t) (behind (codes "reject:") t)

@@ -1,8 +1,8 @@
--- How the election of a ward stands, in words.
+-- The status of the election of a ward, in words.
 use Rattle.std.specs.Prelude.{◌++◌, codes}
 use Rattle.std.specs.Fmt.{decimal}
 use Rattle.clap.specs.Words.{Text}
-use Rattle.register.specs.Standings.{StatusEntry}
+use Rattle.register.specs.Status.{StatusEntry}
 use Rattle.register.specs.declared.phase.Phase.{Phase}
 use Rattle.register.specs.declared.phase.Phase.TheVariants.{Nominations, Keying, Sealed, Declared}
 
@@ -25,6 +25,6 @@ batch_words s = decimal s.batches ++ (codes " batches, " ++ (decimal s.taken ++ 
 unfoldable pub count_words : StatusEntry → Text
 count_words s = decimal s.doubtful_open ++ (codes " doubtful open, " ++ (decimal s.stages ++ codes " stages"))
 
--- the line on how a ward stands
+-- the status line of a ward
 unfoldable pub status_text : StatusEntry → Text
 status_text s = ward_words s ++ (codes ", " ++ (batch_words s ++ (codes ", " ++ count_words s)))

@@ -1,4 +1,4 @@
--- What `clap` takes for the words of an order, and the order that its matches mean, by the table of orders.
+-- What `clap` accepts as the words of an order, and the order that its matches mean, by the table of orders.
 use Rattle.std.specs.Prelude.{◌≡◌, ◌≢◌, ◌==◌, ◌&&◌, ⊤, ℕ, Bool, true, false, List, [], ◌∷◌, Option, Some, None, pos, IfSome}
 use Rattle.std.specs.Prelude.{codes, map, find, option_and_then, option_map, string_bytes, unwrap_or}
 use Rattle.std.specs.List.{list_any}
@@ -21,7 +21,7 @@ use Rattle.register.specs.declared.command.Command.{Command}
 use Rattle.origins.specs.Origins.{origin_in}
 use Rattle.keyfile.specs.Digests.{digest_in}
 
--- the numbers that a word may be
+-- the numbers that a word may denote
 abbrev pub any_number : ValueParser
 any_number = parser.Signed (pos 0) (pos 4294967295)
 
@@ -35,7 +35,7 @@ any_connections = parser.Signed (pos 1) (pos 1000000)
 abbrev pub number_rule : ValueParser → Text → Rule
 number_rule numbers name = record (new_rule name) { parser = Some numbers; required = true }
 
--- the same, which may be left out
+-- an optional word that is one of some numbers
 abbrev pub free_number_rule : ValueParser → Text → Rule
 free_number_rule numbers name = record (new_rule name) { parser = Some numbers }
 
@@ -43,23 +43,23 @@ free_number_rule numbers name = record (new_rule name) { parser = Some numbers }
 abbrev pub text_rule : Text → Rule
 text_rule name = record (new_rule name) { required = true }
 
--- one value after `--` and the word's name
+-- a required value after `--` and the word's name
 abbrev pub id_rule : Text → Rule
 id_rule name = record (new_rule name) { long = Some name; value_names = 1; required = true }
 
--- the same, which may be left out
+-- an optional value after `--` and the word's name
 abbrev pub option_rule : Text → Rule
 option_rule name = record (new_rule name) { long = Some name; value_names = 1 }
 
--- any values behind the other words, each of them one word more of the same name
+-- any values after the other words, each under the same name
 abbrev pub texts_rule : Text → Rule
 texts_rule name = record (new_rule name) { action = Some Append }
 
--- `--` and the word's name, with no value behind it
+-- `--` and the word's name, with no value after it
 abbrev pub flag_rule : Text → Rule
 flag_rule name = record (new_rule name) { long = Some name; action = Some SetTrue }
 
--- the rule that `clap` gets for a word
+-- the `clap` rule for a word
 abbrev pub rule_of_kind : Kind → Text → Rule
 rule_of_kind kind.Number = number_rule any_number
 rule_of_kind kind.NumberOrNone = free_number_rule any_number
@@ -75,7 +75,7 @@ rule_of_kind kind.Digest = option_rule
 rule_of_kind kind.Texts = texts_rule
 rule_of_kind kind.Flag = flag_rule
 
--- a command, and these words more
+-- a command with these words added
 abbrev pub with_words : App → List WordEntry → App
 with_words app [] = app
 with_words app (w ∷ ws) = with_words (with_rule app (rule_of_kind w.kind w.name)) ws
@@ -84,12 +84,12 @@ with_words app (w ∷ ws) = with_words (with_rule app (rule_of_kind w.kind w.nam
 abbrev pub order_words : OrderWords → App
 order_words e = with_words (new_app e.name) e.words
 
--- a command, and these orders more
+-- a command with these orders added
 abbrev pub with_orders : App → List OrderWords → App
 with_orders app [] = app
 with_orders app (e ∷ es) = with_orders (with_subcommand app (order_words e).top) es
 
--- DB, and then an order, which may not be left out
+-- DB, and then a required order
 abbrev pub start_words : App
 start_words = on_top (λ s. record s { subcommand_required = true; arg_required_else_help = true; disable_help_subcommand = true; has_version = true })
     (new_app (codes "count-office"))
@@ -100,52 +100,52 @@ office_words = with_orders start_words (map (λ e. e.typed) orders)
 
 -- ---- the order that the matches mean
 
--- the number that was matched under a name, if there is one
+-- the number that was matched under a name, if any
 abbrev pub number_found : Text → List Row → Option ℕ
 number_found name rows = option_and_then number_in (one_of name rows)
 
--- the number that was matched under a name, and 0 without one
+-- the number that was matched under a name, or 0
 abbrev pub number_at : Text → List Row → ℕ
 number_at name rows = unwrap_or (number_found name rows) 0
 
--- the text that was matched under a name, and the empty one without one
+-- the text that was matched under a name, or the empty text
 abbrev pub text_at : Text → List Row → Text
 text_at name rows = unwrap_or (first_of name rows) []
 
--- the texts that were matched under a name, and none without one
+-- the texts that were matched under a name, or none
 abbrev pub texts_at : Text → List Row → List Text
 texts_at name rows = unwrap_or (all_of name rows) []
 
--- whether a flag was given: `clap` matches it as `true`, and as `false` where it was left out
+-- whether a flag was present: `clap` matches it as `true` if it was, and else as `false`
 abbrev pub flag_at : Text → List Row → Bool
 flag_at name rows = bytes_eq (text_at name rows) (codes "true")
 
--- what was matched under a name, if a text was: the origin that it is, or none
+-- the text that was matched under a name, if any: the origin that it denotes, or None
 abbrev pub origin_at : Text → List Row → Option (Option Text)
 origin_at name rows = option_map origin_in (first_of name rows)
 
--- what was matched under a name, if a text was: the digest that it is, or none
+-- the text that was matched under a name, if any: the digest that it denotes, or None
 abbrev pub digest_at : Text → List Row → Option (Option (List ℕ))
 digest_at name rows = option_map digest_in (first_of name rows)
 
--- what comes of a verdict, or that there is none
+-- what a verdict means, or that it is invalid
 abbrev pub judged : Option Judgement → (Judgement → Meant) → Meant
 judged None means = no_verdict
 judged (Some judgement) means = means judgement
 
--- what comes of an origin that may be left out, or that what was given is none
+-- what an optional origin means, or that the one given is invalid
 abbrev pub served_to : Option (Option Text) → (Option Text → Meant) → Meant
 served_to None means = means None
 served_to (Some None) means = no_origin
 served_to (Some (Some origin)) means = means (Some origin)
 
--- what comes of a digest that may be left out, or that what was given is none
+-- what an optional digest means, or that the one given is invalid
 abbrev pub digested_by : Option (Option (List ℕ)) → (Option (List ℕ) → Meant) → Meant
 digested_by None means = means None
 digested_by (Some None) means = no_digest
 digested_by (Some (Some digest)) means = means (Some digest)
 
--- what comes of the value that the matches give a word
+-- what the matched value of a word means
 abbrev pub with_value : (k : Kind) → List Row → Text → (WordValue k → Meant) → Meant
 with_value kind.Number rows name means = means (number_at name rows)
 with_value kind.NumberOrNone rows name means = means (number_found name rows)
@@ -161,12 +161,12 @@ with_value kind.Digest rows name means = digested_by (digest_at name rows) means
 with_value kind.Texts rows name means = means (texts_at name rows)
 with_value kind.Flag rows name means = means (flag_at name rows)
 
--- what comes of the values that the matches give some words
+-- what the matched values of some words mean
 abbrev pub with_values : List Row → (words : List WordEntry) → OfWords words Meant → Meant
 with_values rows [] means = means
 with_values rows (w ∷ ws) means = with_value w.kind rows w.name (λ value. with_values rows ws (means value))
 
--- what the matches mean by the order of a name
+-- what the matches mean for the order of a name
 abbrev pub meaning_of : Text → List Row → Option Meant
 meaning_of name rows = option_map (λ e. with_values rows e.typed.words e.means) (find (λ e. bytes_eq name e.typed.name) orders)
 
@@ -192,20 +192,20 @@ abbrev pub names_order : Option (Text × List Row) → Bool
 names_order None = false
 names_order (Some found) = is_order_name found.0
 
--- ---- words that are no order
+-- ---- words that aren't an order
 
--- what `clap` first finds wrong with the words; nothing where it takes them
+-- what `clap` first finds wrong with the words; nothing if it accepts them
 abbrev pub wrong_with : List Text → Kinds
 wrong_with words = fault_of office_words words
 
--- the status with which words end that ask for help or the version, or aren't understood
+-- the exit status for words that ask for help or the version, or aren't understood
 abbrev pub status_of_kind : ErrorKind → ℕ
 status_of_kind DisplayHelp = 0
 status_of_kind DisplayVersion = 0
 status_of_kind _ = 2
 
--- what is printed of words, by what is wrong with them. It is a text that isn't empty, with the status of that. Where nothing is wrong, it is that the word
--- of a verdict says no verdict, or that the word of an origin or of a digest is none. Or it is want of memory.
+-- what is printed for words, by what is wrong with them: a text that isn't empty, with the status for that. If nothing is wrong, it is that the word of a verdict, an
+-- origin or a digest is invalid. Or it is that an allocation failed.
 abbrev pub IsToldOf : Kinds → WordsFault → Type 0
 IsToldOf kinds words_fault.Memory = ⊤
 IsToldOf kinds words_fault.Verdict = kinds ≡ []
@@ -213,7 +213,7 @@ IsToldOf kinds words_fault.Origin = kinds ≡ []
 IsToldOf kinds words_fault.Digest = kinds ≡ []
 IsToldOf kinds (words_fault.Words text status) = (list_any (λ kind. status_of_kind kind == status) kinds ≡ true) × (string_bytes text ≢ [])
 
--- where it is reported that the word of a verdict says none, or that the word of an origin or of a digest is none, the words mean just that
+-- if it is reported that the word of a verdict, an origin or a digest is invalid, the words mean just that
 abbrev pub IsNoneMeant : Option Meant → WordsFault → Type 0
 IsNoneMeant meant words_fault.Memory = ⊤
 IsNoneMeant meant words_fault.Verdict = meant ≡ Some no_verdict
@@ -221,19 +221,19 @@ IsNoneMeant meant words_fault.Origin = meant ≡ Some no_origin
 IsNoneMeant meant words_fault.Digest = meant ≡ Some no_digest
 IsNoneMeant meant (words_fault.Words text status) = ⊤
 
--- what is printed of a word behind `--origin` that is none
+-- what is printed if the word after `--origin` is invalid
 abbrev pub bad_origin : Text
 bad_origin = codes "error: an origin is http:// or https://, a host in small letters, and its port where it isn't the usual one, as https://count.example.org\n"
 
--- what is printed of a word behind `--sha256` that is none
+-- what is printed if the word after `--sha256` is invalid
 abbrev pub bad_digest : Text
 bad_digest = codes "error: a digest is 64 hexadecimal digits, as sha256sum prints them\n"
 
--- the text is what something displays of itself, where that is known and not empty
+-- the text is what a value displays, if that is known and not empty
 abbrev pub IsOwnText : Option Text → Text → Type 0
 IsOwnText own text = IfSome own (λ bytes. bytes ≢ [] → text ≡ bytes)
 
--- what is printed of a refusal of this kind: a text that isn't empty, with the status of the kind; or want of memory
+-- what is printed for a refusal of this kind: a text that isn't empty, with the status for the kind; or that an allocation failed
 abbrev pub TellsRefusal : ErrorKind → WordsFault → Type 0
 TellsRefusal kind words_fault.Memory = ⊤
 TellsRefusal kind words_fault.Verdict = ⊥

@@ -1,11 +1,11 @@
-//! A copy of the office.
+//! Copying the office.
 
 ghost use Rattle.std.specs.Prelude.{◌≡◌, ◌-◌, ◌^◌, ◌<◌, true, IfOk, string_bytes};
 ghost use Rattle.sqlite.specs.State.{HasCleanDisk};
 ghost use Rattle.sqlite.specs.Held.{state};
 ghost use Rattle.tables.specs.Reading.{OnlyReads};
 ghost use Rattle.register.specs.Offices.{OfficeState};
-ghost use Rattle.store.specs.Offices.{IsAt, Wears};
+ghost use Rattle.store.specs.StateTables.{IsAt, KeepsConnection};
 ghost use Rattle.store.specs.Openings.{IsBlank};
 ghost use Rattle.office.specs.Answers.{IsReadAt, WhenOpenAt};
 ghost use Rattle.desk.specs.Copying.{HoldsCopy, IsCopied, IsCopiedOpen, copied_text, state_behind};
@@ -19,7 +19,7 @@ use store::{CopyFault, Fault};
 use streams::Sink;
 
 #[tactic(auto, unfolding(crate::specs::Copying::copied_text))]
-/// How much a copy has, in a line without its end.
+/// Returns how much a copy contains, as a line without its end.
 fn copied_text(alloc: Global, holdings: Holdings) -> Result<String, AllocError>
     ensures { IfOk result (λ text. string_bytes text ≡ copied_text holdings) }
 {
@@ -30,18 +30,18 @@ fn copied_text(alloc: Global, holdings: Holdings) -> Result<String, AllocError>
     )
 }
 
-/// What the other database of a copy is known to hold once the order is over.
+/// What the other database is known to contain after the order.
 #[derive(Clone, Copy)]
 pub enum CopyState {
-    /// The whole office, whose reply was printed, or was to be: the output may have failed.
+    /// The whole office. Its reply was printed, unless the output failed.
     Whole,
-    /// What it held before: nothing was written.
+    /// What it contained before: nothing was written.
     Untouched,
-    /// What it held before or the whole office, of which no reply is printed.
+    /// What it contained before or the whole office, for which no reply is printed.
     Unknown,
 }
 
-/// What the other database holds where no copy is reported.
+/// Returns what the other database contains if no copy is reported.
 fn state_behind(fault: CopyFault) -> CopyState
     ensures { result ≡ state_behind fault }
 {
@@ -52,7 +52,7 @@ fn state_behind(fault: CopyFault) -> CopyState
     }
 }
 
-/// Copies the office, and says what came of it, and what the other database holds.
+/// Copies the office, and returns the outcome and what the other database contains.
 fn copied<S: Alter, T: Alter>(
     alloc: Global,
     conn: &mut Connection<S>,
@@ -62,7 +62,7 @@ fn copied<S: Alter, T: Alter>(
     ensures copied { HasCleanDisk (state S.Store conn.new) → IsCopied (page_of result.0) result.1 (state S.Store conn.old) (state S.Store conn.new) (state T.Store copy.old) (state T.Store copy.new) }
     ensures untouched { result.1 ≡ CopyState.Untouched → copy.new ≡ copy.old }
     ensures reads { OnlyReads (state S.Store conn.old) (state S.Store conn.new) }
-    ensures wears { Wears (state T.Store copy.old) (state T.Store copy.new) }
+    ensures keeps_connection { KeepsConnection (state T.Store copy.old) (state T.Store copy.new) }
     ensures clean { HasCleanDisk (state T.Store copy.new) → HasCleanDisk (state T.Store copy.old) }
 {
     match Office::copy(alloc, conn, copy) {
@@ -74,7 +74,7 @@ fn copied<S: Alter, T: Alter>(
     }
 }
 
-/// Copies an open office, which goes on, and says what came of it, and what the other database holds.
+/// Copies an open office, which stays open, and returns the outcome and what the other database contains.
 fn copied_open<S: Alter, T: Alter>(
     alloc: Global,
     office: &mut Office<S>,
@@ -87,7 +87,7 @@ fn copied_open<S: Alter, T: Alter>(
     ensures untouched { result.1 ≡ CopyState.Untouched → copy.new ≡ copy.old }
     ensures reads { OnlyReads (state S.Store office.old.held) (state S.Store office.new.held) }
     ensures closed { office.old.closed ≡ true → (page_of result.0 ≡ closed_page) × (office.new ≡ office.old) }
-    ensures wears { Wears (state T.Store copy.old) (state T.Store copy.new) }
+    ensures keeps_connection { KeepsConnection (state T.Store copy.old) (state T.Store copy.new) }
     ensures clean { HasCleanDisk (state T.Store copy.new) → HasCleanDisk (state T.Store copy.old) }
 {
     match office.copy_open(copy) {
@@ -99,11 +99,11 @@ fn copied_open<S: Alter, T: Alter>(
     }
 }
 
-/// Copies an open office, which goes on, into the database of another connection, which has nothing in it. Prints how much
-/// the copy has, and gives the status and what the other database holds. The connection isn't closed.
+/// Copies an open office, which stays open, into the empty database of another connection. Prints how much the copy contains, and
+/// returns the status and what the other database contains. The connection isn't closed.
 ///
-/// It is made as by `copy_office`, but the office is open already: no other is
-/// opened for it. It is only read. A closed office reports that it is closed.
+/// The copy is made as by `copy_office`, except that the office is open already. It is only read. For a closed office, it reports that
+/// it is closed.
 pub fn copy_open<S: Alter, T: Alter, O: Sink, E: Sink>(
     alloc: Global,
     office: &mut Office<S>,
@@ -124,22 +124,23 @@ pub fn copy_open<S: Alter, T: Alter, O: Sink, E: Sink>(
     ensures untouched { result.1 ≡ CopyState.Untouched → copy.new ≡ copy.old }
     ensures reads { OnlyReads (state S.Store office.old.held) (state S.Store office.new.held) }
     ensures closed { office.old.closed ≡ true → office.new ≡ office.old }
-    ensures wears { Wears (state T.Store copy.old) (state T.Store copy.new) }
+    ensures keeps_connection { KeepsConnection (state T.Store copy.old) (state T.Store copy.new) }
     ensures clean { HasCleanDisk (state T.Store copy.new) → HasCleanDisk (state T.Store copy.old) }
 {
     let (outcome, state) = copied_open(alloc, office, copy);
     (tell(None, &outcome, out, err), state)
 }
 
-/// Copies the office that an opened connection has into the database of another one, which has nothing in it. Prints how
-/// much the copy has, and gives the status and what the other database holds. Neither connection is closed.
+/// Copies the office of an open connection into the empty database of another. Prints how much the copy contains, and returns the
+/// status and what the other database contains. Neither connection is closed.
 ///
-/// The copy is made whole in one transaction. After its reply it keeps the very state of the office, with every receipt. Whatever
-/// a stop leaves of it before is nothing or the whole of it. The office is only read, whatever comes of it.
+/// The whole copy is made in one transaction. Once its reply is printed, it contains exactly the state of the office, including every
+/// receipt. If the program stops before that, the other database contains either nothing or the whole copy. The office is only read,
+/// whatever the outcome.
 ///
-/// A database that holds no office, or a newer, an older or a damaged one, is reported by that fault (105, 106, 108, 103), and
-/// nothing is copied. Where a table of the other database has one of our names, 109 is reported, and that database is not changed.
-/// A copy that can't be written is 110; and want of memory, or a store that fails while the office is read, is reported as ever.
+/// A database that contains no office, or a newer, an older or a damaged one, is reported by that fault (105, 106, 108, 103), and
+/// nothing is copied. If a table of the other database has one of our names, 109 is reported, and that database is not changed. A copy
+/// that can't be written is 110. Running out of memory, or a store that fails while the office is read, is reported as usual.
 pub fn copy_office<S: Alter, T: Alter, O: Sink, E: Sink>(
     alloc: Global,
     conn: &mut Connection<S>,
@@ -156,7 +157,7 @@ pub fn copy_office<S: Alter, T: Alter, O: Sink, E: Sink>(
         × (HasCleanDisk (state T.Store copy.new) → IsBlank (state T.Store copy.old) → (s : OfficeState) × IsAt s (state T.Store copy.new)) }
     ensures untouched { result.1 ≡ CopyState.Untouched → copy.new ≡ copy.old }
     ensures reads { OnlyReads (state S.Store conn.old) (state S.Store conn.new) }
-    ensures wears { Wears (state T.Store copy.old) (state T.Store copy.new) }
+    ensures keeps_connection { KeepsConnection (state T.Store copy.old) (state T.Store copy.new) }
     ensures clean { HasCleanDisk (state T.Store copy.new) → HasCleanDisk (state T.Store copy.old) }
 {
     let (outcome, state) = copied(alloc, conn, copy);

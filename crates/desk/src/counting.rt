@@ -1,10 +1,10 @@
-//! The stages of a ward, counted by one order.
+//! Counting the stages of a ward by one order.
 
 ghost use Rattle.std.specs.Prelude.{◌≡◌, ◌-◌, ◌^◌, ◌<◌, ℕ, Bool, map};
 ghost use Rattle.sqlite.specs.State.{HasCleanDisk};
 ghost use Rattle.sqlite.specs.Held.{state};
 ghost use Rattle.clap.specs.Words.{Text};
-ghost use Rattle.store.specs.Offices.{Wears};
+ghost use Rattle.store.specs.StateTables.{KeepsConnection};
 ghost use Rattle.office.specs.Answers.{WhenOpenAt};
 ghost use Rattle.desk.specs.Orders.{sent_as};
 ghost use Rattle.desk.specs.Pages.{Tells, outputs_of, page_at_rest, page_of};
@@ -17,8 +17,8 @@ use register::{Reason, Refusal, Request};
 use sqlite::Alter;
 use streams::Sink;
 
-/// What comes of a refusal of one stage more: that the count rests is a reply.
-/// Behind the first request a ward in another phase is one that was declared since.
+/// Returns the outcome of a request for one more stage that was refused. That the count rests is a reply. After the first request, a
+/// ward in another phase is one that was declared meanwhile.
 fn at_rest(is_first: bool, refusal: Refusal) -> LineOutcome
     ensures { page_of result ≡ page_at_rest is_first refusal }
 {
@@ -30,8 +30,8 @@ fn at_rest(is_first: bool, refusal: Refusal) -> LineOutcome
     }
 }
 
-/// What comes of a request for one stage more, the first of an order or another; and whether the count goes on behind it. It goes
-/// on where the request was accepted, now or before.
+/// Requests one more stage, as the first request of an order or a later one. Returns the outcome, and whether the count continues
+/// after it: it does if the request was accepted, now or before.
 fn stage_of<S: Alter>(
     office: &mut Office<S>,
     is_first: bool,
@@ -39,7 +39,7 @@ fn stage_of<S: Alter>(
 ) -> (LineOutcome, bool)
     ensures told { WhenOpenAt (state S.Store) office.old office.new
         (λ s. IsStage (state S.Store office.old.held) office.new.closed (state S.Store office.new.held) is_first s request.now (page_of result.0) result.1) }
-    ensures wears { Wears (state S.Store office.old.held) (state S.Store office.new.held) }
+    ensures keeps_connection { KeepsConnection (state S.Store office.old.held) (state S.Store office.new.held) }
     ensures clean { HasCleanDisk (state S.Store office.new.held) → HasCleanDisk (state S.Store office.old.held) }
 {
     match office.handle(request.actor, request.id.as_str(), &request.command) {
@@ -50,7 +50,7 @@ fn stage_of<S: Alter>(
     }
 }
 
-/// The id of the first of some requests.
+/// Returns the id of the first of these requests.
 fn first_id(requests: &[Request]) -> &str
     ensures { (ward : ℕ) (id : Text) → map sent_as requests.now ≡ advances ward id most_advances → result.now ≡ id_at id 1 }
 {
@@ -60,10 +60,10 @@ fn first_id(requests: &[Request]) -> &str
     }
 }
 
-/// Counts stage by stage, by the requests of an order, and prints each reply. It ends behind the first request that isn't
-/// accepted, now or before. Where the count rests there, at a lot or its end, it prints that in a line too, with status 0. Any
-/// other refusal is printed as ever, with status 1, and so is a fault, with status 3. The first output that fails ends it, with
-/// status 3. Each stage that was replied stays counted.
+/// Counts stage by stage, by the requests of an order, and prints each reply. It ends after the first request that isn't accepted, now
+/// or before. If the count rests there, at a lot or its end, a line says so too, with status 0. Any other refusal is printed as usual,
+/// with status 1, and a fault with status 3. The first output that fails ends it, with status 3. Each stage that was replied remains
+/// counted.
 pub(crate) fn count_stages<S: Alter, O: Sink, E: Sink>(
     office: &mut Office<S>,
     line: Option<usize>,
@@ -76,7 +76,7 @@ pub(crate) fn count_stages<S: Alter, O: Sink, E: Sink>(
     ensures counted { let outputs = outputs_of O.taken O.failed E.taken E.failed in Tells (outputs out.old err.old) (outputs out.new err.new) result
         (λ cut page. WhenOpenAt (state S.Store) office.old office.new (λ s. (keep : Bool) (ward : ℕ) (id : Text) → map sent_as requests.now ≡ advances ward id most_advances
         → ComesTo cut page (IsCounted (state S.Store office.old.held) office.new.closed (state S.Store office.new.held) keep line s ward id))) }
-    ensures wears { Wears (state S.Store office.old.held) (state S.Store office.new.held) }
+    ensures keeps_connection { KeepsConnection (state S.Store office.old.held) (state S.Store office.new.held) }
     ensures clean { HasCleanDisk (state S.Store office.new.held) → HasCleanDisk (state S.Store office.old.held) }
 {
     let first = first_id(requests);

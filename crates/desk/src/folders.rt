@@ -1,4 +1,4 @@
-//! Where the files lie that the orders of a script name.
+//! The directory in which the files that a script's orders name are opened.
 
 ghost use Rattle.std.specs.Prelude.{◌≡◌, IfSome, None, option_map};
 ghost use Rattle.clap.specs.Words.{Text};
@@ -12,7 +12,7 @@ pub trait Folder {
 
     ghost held: { Self → Folder } = { λ _ _. None };
 
-    /// The file at a path, None where it can't be opened.
+    /// Opens the file at a path; None if it can't be opened.
     fn open(&self, path: &str) -> Option<Self::File>
         ensures { IfSome (held self.now path.now) (λ file. option_map Self.File.remaining result ≡ file) };
 }

@@ -1,4 +1,4 @@
-//! The requests that import files hold.
+//! The requests that import files contain.
 
 ghost use Rattle.std.specs.Prelude.{option_map, [], ◌∷◌, IfErr, IfOk};
 ghost use Rattle.sqlite.specs.Held.{state};
@@ -29,8 +29,8 @@ pub(crate) const UNOPENED: FileFault = FileFault {
     record_number: 0,
 };
 
-/// The requests that add the candidates of a file; or why there are none. The file is None where it can't be opened,
-/// and is read to its end. Where a digest is asked for, the requests are those of bytes that have it.
+/// Returns the requests that add the candidates of a file, or why there are none. The file is None if it can't be opened, and is read
+/// to its end. If a digest is asked for, the requests are those of bytes that have it.
 pub(crate) fn candidate_requests<R: Read + Drop>(
     alloc: Global,
     id: &str,
@@ -53,9 +53,9 @@ pub(crate) fn candidate_requests<R: Read + Drop>(
     }
 }
 
-/// The request that keeps the keying that a file holds, of papers with these columns; or why there is none. The file
-/// is None where it can't be opened, and is read to its end. It may name its batch and its clerk, and these are then
-/// the request's. Where a digest is asked for, the request is that of bytes that have it.
+/// Returns the request that stores the keying in a file, of papers with these columns; or why there is none. The file is None if it
+/// can't be opened, and is read to its end. If it names a batch and a clerk, these are the request's. If a digest is asked for, the
+/// request is that of bytes that have it.
 fn keying_in<R: Read + Drop>(
     alloc: Global,
     keyed: KeyingFile<'_>,
@@ -81,10 +81,9 @@ fn keying_in<R: Read + Drop>(
     }
 }
 
-/// The request that keeps the keying of a batch that a file holds; or why there is none. The file is None where it
-/// can't be opened.
+/// Returns the request that stores the keying of a batch in a file, or why there is none. The file is None if it can't be opened.
 ///
-/// The columns are those of the batch's ward; where there is no such batch, the file isn't read.
+/// The columns are those of the batch's ward; if there is no such batch, the file isn't read.
 pub(crate) fn keying_of<S: Alter, R: Read + Drop>(
     alloc: Global,
     office: &mut Office<S>,

@@ -1,13 +1,12 @@
 //! The text of a journal: the orders that an office accepted, in a sequence in which each is accepted again.
 //!
-//! There is a line for each receipt, and what the receipt doesn't say stands in the other tables. First come the
-//! nominations, ward by ward; then the papers, batch by batch, each with the verdicts on them; then the counts, ward
-//! by ward. So what is asked for stands above what asks for it, and the rows of papers come in the order of their keys.
-//! The last line says how many orders they are.
+//! There is one line per receipt; what the receipt doesn't contain is taken from the other tables. First come the nominations, ward by
+//! ward; then the papers, batch by batch, each with the verdicts on them; then the counts, ward by ward. So each order follows those
+//! that it depends on, and the rows of papers are in key order. The last line says how many orders there are.
 //!
-//! No clause speaks of the text. Whoever prints it reads it back first, and sees what it makes of an empty office.
+//! No contract describes the text. The caller that prints it first reads it back, and checks what it makes of an empty office.
 
-ghost use Rattle.register.specs.Offices.{MapsRise};
+ghost use Rattle.register.specs.Offices.{MapsAreSorted};
 ghost use Rattle.rowcheck.specs.States.{state_of};
 
 mod counts;
@@ -24,17 +23,17 @@ use crate::journal::words::put_heading;
 use rowcheck::Rows;
 use std::alloc::{AllocError, Global};
 
-/// What a journal begins with.
+/// The first lines of a journal.
 const FRONT: &str =
     "# The orders that an office accepted, in a sequence in which each is accepted again.\n# 'replay' sends them to an empty office, and makes the same one.\n";
 
-/// Puts the nominations of all wards.
+/// Appends the nominations of all wards.
 fn put_all_nominations(
     alloc: Global,
     text: &mut String,
     kept: &KeptReceipts<'_>,
 ) -> Result<(), AllocError>
-    requires { MapsRise (state_of kept.now.rows.now) }
+    requires { MapsAreSorted (state_of kept.now.rows.now) }
 {
     for ward in &kept.rows.wards {
         put_nominations(alloc, text, kept, ward)?;
@@ -42,13 +41,13 @@ fn put_all_nominations(
     Ok(())
 }
 
-/// Puts all batches.
+/// Appends all batches.
 fn put_all_batches(
     alloc: Global,
     text: &mut String,
     kept: &KeptReceipts<'_>,
 ) -> Result<(), AllocError>
-    requires { MapsRise (state_of kept.now.rows.now) }
+    requires { MapsAreSorted (state_of kept.now.rows.now) }
 {
     for batch in &kept.rows.batches {
         put_batch(alloc, text, kept, batch)?;
@@ -56,13 +55,13 @@ fn put_all_batches(
     Ok(())
 }
 
-/// Puts the counts of all wards.
+/// Appends the counts of all wards.
 fn put_all_counts(
     alloc: Global,
     text: &mut String,
     kept: &KeptReceipts<'_>,
 ) -> Result<(), AllocError>
-    requires { MapsRise (state_of kept.now.rows.now) }
+    requires { MapsAreSorted (state_of kept.now.rows.now) }
 {
     for ward in &kept.rows.wards {
         put_count(alloc, text, kept, ward)?;
@@ -70,15 +69,15 @@ fn put_all_counts(
     Ok(())
 }
 
-/// Puts the end: how many orders stand above it, one for each receipt. So one can see where a text was cut.
+/// Appends the last line: how many orders precede it, one per receipt. A truncated text can be recognized by it.
 fn put_end(alloc: Global, text: &mut String, orders: usize) -> Result<(), AllocError> {
     let says = format!(in alloc; "end: {orders} orders")?;
     put_heading(text, says.as_str())
 }
 
-/// The text of the journal of the office of these rows.
+/// Returns the text of the journal of the office of these rows.
 pub(crate) fn journal_text(alloc: Global, rows: &Rows) -> Result<String, AllocError>
-    requires { MapsRise (state_of rows.now) }
+    requires { MapsAreSorted (state_of rows.now) }
 {
     let places = places_of(alloc, &rows.receipts)?;
     let kept = KeptReceipts {

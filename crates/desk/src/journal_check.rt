@@ -1,11 +1,11 @@
-//! The journal of the office: its accepted orders as a script. It is printed once it was read back and played over an
-//! empty office, and made the same one.
+//! The journal of the office: its accepted orders as a script. Before it is printed, it is read back and replayed in an empty office,
+//! which must then be the same.
 
 ghost use Rattle.std.specs.Prelude.{◌≡◌, ◌-◌, ◌^◌, ◌<◌, true, string_bytes, IfOk, IfSome};
 ghost use Rattle.sqlite.specs.State.{HasCleanDisk};
 ghost use Rattle.sqlite.specs.Held.{state};
 ghost use Rattle.tables.specs.Reading.{OnlyReads};
-ghost use Rattle.register.specs.Offices.{MapsRise};
+ghost use Rattle.register.specs.Offices.{MapsAreSorted};
 ghost use Rattle.rowcheck.specs.States.{state_of};
 ghost use Rattle.store.specs.Openings.{IsBlank};
 ghost use Rattle.office.specs.Answers.{IsReadAt, WhenOpenAt};
@@ -24,15 +24,14 @@ use std::alloc::{AllocError, Global};
 use store::Fault;
 use streams::Sink;
 
-/// The text of a journal that isn't tried yet, and the requests that a script's reader finds in it; None where it finds
-/// something else.
+/// The text of a journal that isn't tested yet, and the requests that it is parsed as; None if it is parsed as anything else.
 #[derive(Drop)]
 struct Draft {
     text: String,
     requests: Option<Vec<Request>>,
 }
 
-/// The requests that turns send, None where one of them reads a file or asks something.
+/// Returns the requests that these steps send; None if one of them reads a file or asks for something.
 fn requests_of(
     alloc: Global,
     turns: Vec<ScriptStep<'_>>,
@@ -50,7 +49,7 @@ fn requests_of(
     Ok(Some(requests))
 }
 
-/// The requests of a script, None where the text is no script of requests alone.
+/// Returns the requests of a script; None if the text isn't a script of requests alone.
 fn requests_in(alloc: Global, text: &str) -> Result<Option<Vec<Request>>, AllocError>
     ensures { IfOk result (λ found. IfSome found (λ requests. IsScriptOf text.now requests.items)) }
 {
@@ -63,9 +62,9 @@ fn requests_in(alloc: Global, text: &str) -> Result<Option<Vec<Request>>, AllocE
     }
 }
 
-/// The text of the journal of the office of these rows, and its requests as they are read back.
+/// Returns the text of the journal of the office of these rows, and its requests as they are read back.
 fn draft_of(alloc: Global, rows: &Rows) -> Result<Draft, AllocError>
-    requires { MapsRise (state_of rows.now) }
+    requires { MapsAreSorted (state_of rows.now) }
     ensures { IfOk result (λ draft. IfSome draft.requests (λ requests. IsScriptOf (string_bytes draft.text) requests.items)) }
 {
     let text = journal_text(alloc, rows)?;
@@ -73,14 +72,14 @@ fn draft_of(alloc: Global, rows: &Rows) -> Result<Draft, AllocError>
     Ok(Draft { text, requests })
 }
 
-/// The journal of the office of these rows, or why there is none: the text that was written doesn't make that office; or a fault, `Memory` or
-/// `Store`. It is played in the database of a connection, which has nothing in it. The connection is handed back, with whatever the trial left there.
+/// Returns the journal of the office of these rows, or why there is none: the text doesn't make that office, or a fault, `Memory` or
+/// `Store`. It is replayed in the empty database of a connection, which is returned with whatever the replay left in it.
 fn journal_of<T: Alter>(
     alloc: Global,
     rows: &Rows,
     blank: Connection<T>,
 ) -> (LineOutcome, Connection<T>)
-    requires { MapsRise (state_of rows.now) }
+    requires { MapsAreSorted (state_of rows.now) }
     ensures { HasCleanDisk (state T.Store result.1) → IsBlank (state T.Store blank) → IsJournalTold (state_of rows.now) (page_of result.0) }
 {
     let Draft { text, requests } = match draft_of(alloc, rows) {
@@ -98,7 +97,7 @@ fn journal_of<T: Alter>(
     }
 }
 
-/// The journal of the office that a connection has, or why there is none.
+/// Returns the journal of the office of a connection, or why there is none.
 fn journalled<S: Alter, T: Alter>(
     alloc: Global,
     conn: &mut Connection<S>,
@@ -114,7 +113,7 @@ fn journalled<S: Alter, T: Alter>(
     }
 }
 
-/// The journal of an open office, which goes on, or why there is none.
+/// Returns the journal of an open office, which stays open, or why there is none.
 fn journalled_open<S: Alter, T: Alter>(
     alloc: Global,
     office: &mut Office<S>,
@@ -131,10 +130,10 @@ fn journalled_open<S: Alter, T: Alter>(
     }
 }
 
-/// Prints the journal of an open office, which goes on, and gives the status. The other connection isn't closed.
+/// Prints the journal of an open office, which stays open, and returns the status. The other connection isn't closed.
 ///
-/// It is tried and printed as by `journal_office`, but the office is open already: no other is opened for it. It is only read. A
-/// closed office reports that it is closed.
+/// The journal is tested and printed as by `journal_office`, except that the office is open already. It is only read. For a closed
+/// office, it reports that it is closed.
 pub fn journal_open<S: Alter, T: Alter, O: Sink, E: Sink>(
     alloc: Global,
     office: &mut Office<S>,
@@ -155,17 +154,17 @@ pub fn journal_open<S: Alter, T: Alter, O: Sink, E: Sink>(
     (tell(None, &outcome, out, err), blank)
 }
 
-/// Prints the journal of the office that an opened connection has, and gives the status. Neither connection is closed.
+/// Prints the journal of the office of an open connection, and returns the status. Neither connection is closed.
 ///
-/// The journal is a script: each of its lines is an order that was accepted, and `replay` takes them. It needs no other
-/// file. Before it is printed it is read as a script is, and played over an empty office, which is made in the database
-/// of the other connection. With status 0 each line was accepted there, and they left the very state of this office,
-/// every receipt too. The office itself is only read.
+/// The journal is a script: each of its lines is an order that was accepted, and `replay` reads it. It needs no other file. Before it
+/// is printed, it is parsed as a script and replayed in an empty office, which is made in the database of the other connection. With
+/// status 0 each line was accepted there, and they made exactly the state of this office, including every receipt. The office itself
+/// is only read.
 ///
-/// Where the text doesn't make this very office, the page says so, with status 1. It is so where the receipts and the other
-/// tables don't belong together. No clause says that it is so nowhere else. A database that holds no office, or a newer, an older
-/// or a damaged one, is reported by that fault (105, 106, 108, 103), with its cause. Of want of memory (101), and of a store that
-/// fails (102), no clause says whether the office or the trial met it.
+/// If the text doesn't make exactly this office, the page says so, with status 1. That happens if the receipts and the other tables
+/// don't match; nothing guarantees that it happens in no other case. A database that contains no office, or a newer, an older or a
+/// damaged one, is reported by that fault (105, 106, 108, 103), with its cause. For an allocation that fails (101) and a store that
+/// fails (102), nothing tells whether it was while reading the office or during the replay.
 pub fn journal_office<S: Alter, T: Alter, O: Sink, E: Sink>(
     alloc: Global,
     conn: &mut Connection<S>,

@@ -1,4 +1,4 @@
-//! A text cut into lines, and a line into words.
+//! Splitting a text into lines, and a line into words.
 
 ghost use Rattle.std.specs.Prelude.{◌≡◌, [], IfOk, OnOk, map, option_map};
 ghost use Rattle.desk.specs.Lexing.{lexer_entry};
@@ -7,18 +7,18 @@ ghost use Rattle.desk.specs.Scripts.{behind_byte_order_mark, cut_byte, cut_open,
 use std::alloc::{AllocError, Global};
 use std::mem;
 
-/// Where the next byte of a line stands.
+/// The context of the next byte of a line.
 #[derive(Clone, Copy)]
 pub(crate) enum LexerState {
     /// Between two words.
     Between,
-    /// In a word, outside quotes.
+    /// Inside a word, outside quotes.
     Within,
-    /// In a word, between two quotes of this kind.
+    /// Inside a word, between two quotes of this kind.
     Quoted(u8),
 }
 
-/// How far a line is cut: its words so far, the one that is begun, and where the next byte stands.
+/// The state of splitting a line: its complete words, the current word, and the context of the next byte.
 #[derive(Drop)]
 struct Lexer {
     words: Vec<Vec<u8>>,
@@ -26,14 +26,14 @@ struct Lexer {
     place: LexerState,
 }
 
-/// A space, a tab, or a carriage return, as before a line's end.
+/// Returns whether a byte is a space, a tab, or a carriage return; one may precede a line feed.
 fn is_blank(byte: u8) -> bool
     ensures { result ≡ is_blank byte }
 {
     byte == b' ' || (byte == b'\t' || byte == b'\r')
 }
 
-/// Either quote.
+/// Returns whether a byte is a quote of either kind.
 fn is_quote(byte: u8) -> bool
     ensures { result ≡ is_quote byte }
 {
@@ -41,7 +41,7 @@ fn is_quote(byte: u8) -> bool
 }
 
 impl Lexer {
-    /// A line of which nothing is cut.
+    /// Returns the state at the beginning of a line.
     fn new(alloc: Global) -> Lexer
         ensures { lexer_entry result ≡ record { words = []; word = []; place = LexerState.Between } }
     {
@@ -52,7 +52,7 @@ impl Lexer {
         }
     }
 
-    /// The word is whole.
+    /// Ends the current word.
     fn end_word(&mut self, alloc: Global) -> Result<(), AllocError>
         ensures { OnOk result (lexer_entry self.new ≡ with_word (lexer_entry self.old)) }
     {
@@ -62,7 +62,7 @@ impl Lexer {
         Ok(())
     }
 
-    /// The word has one byte more.
+    /// Appends a byte to the current word.
     fn add(&mut self, byte: u8) -> Result<(), AllocError>
         ensures { OnOk result (lexer_entry self.new ≡ with_byte (lexer_entry self.old) byte) }
     {
@@ -70,7 +70,7 @@ impl Lexer {
         Ok(())
     }
 
-    /// A byte that is no blank, outside quotes.
+    /// Processes a byte that isn't a blank, outside quotes.
     fn cut_open(&mut self, byte: u8) -> Result<(), AllocError>
         ensures { OnOk result (lexer_entry self.new ≡ cut_open (lexer_entry self.old) byte) }
     {
@@ -83,7 +83,7 @@ impl Lexer {
         Ok(())
     }
 
-    /// One byte more.
+    /// Processes a byte.
     fn cut(&mut self, alloc: Global, byte: u8) -> Result<(), AllocError>
         ensures { OnOk result (lexer_entry self.new ≡ cut_byte (lexer_entry self.old) byte) }
     {
@@ -99,7 +99,7 @@ impl Lexer {
         }
     }
 
-    /// The words of a line that was cut to its end, None where a quote isn't closed.
+    /// Returns the words of the line, once all its bytes were processed; None if a quote isn't closed.
     fn into_words(mut self, alloc: Global) -> Result<Option<Vec<Vec<u8>>>, AllocError>
         ensures { IfOk result (λ words. option_map (λ ws. map (λ w. w.items) ws.items) words ≡ words_cut (lexer_entry self)) }
     {
@@ -114,10 +114,10 @@ impl Lexer {
     }
 }
 
-/// The words of a line, None where a quote isn't closed.
+/// Splits a line into words. Returns None if a quote isn't closed.
 ///
-/// A blank parts two words, outside of quotes. Quotes, `"..."` or `'...'`, may stand in the middle of a word, and
-/// belong to none; any other byte stands for itself.
+/// Blanks outside quotes separate words. Quotes, `"..."` or `'...'`, may begin inside a word, and aren't part of it; there are no
+/// escapes.
 pub(crate) fn words_of(alloc: Global, line: &[u8]) -> Result<Option<Vec<Vec<u8>>>, AllocError>
     ensures { IfOk result (λ words. option_map (λ ws. map (λ w. w.items) ws.items) words ≡ words_of line.now) }
 {
@@ -128,7 +128,7 @@ pub(crate) fn words_of(alloc: Global, line: &[u8]) -> Result<Option<Vec<Vec<u8>>
     cutter.into_words(alloc)
 }
 
-/// A line is passed over: nothing but blanks stands in it, or the first byte that isn't one is `#`.
+/// Returns whether a line is skipped: it consists of blanks, or the first byte after its blanks is `#`.
 pub(crate) fn passes_over(line: &[u8]) -> bool
     ensures { result ≡ passes_over line.now }
 {
@@ -140,7 +140,7 @@ pub(crate) fn passes_over(line: &[u8]) -> bool
     true
 }
 
-/// A text behind its byte order mark, where it begins with one.
+/// Returns a text without its byte order mark, if it begins with one.
 fn behind_byte_order_mark(text: &[u8]) -> &[u8]
     ensures { result.now ≡ behind_byte_order_mark text.now }
 {
@@ -150,7 +150,7 @@ fn behind_byte_order_mark(text: &[u8]) -> &[u8]
     }
 }
 
-/// The lines of a text. A line feed ends one, and a byte order mark at the front is passed over.
+/// Splits a text into lines. A line feed ends each, and a byte order mark at the beginning is skipped.
 pub(crate) fn lines_of(alloc: Global, text: &[u8]) -> Result<Vec<Vec<u8>>, AllocError>
     ensures { IfOk result (λ lines. map (λ line. line.items) lines.items ≡ lines_of text.now) }
 {

@@ -1,12 +1,13 @@
-//! The office's desk: words to one order, an order to the office, and what comes of it to lines and a status.
+//! The office's desk: it parses words to an order, performs it, and prints the outcome in lines, with a status.
 //!
-//! [`order`](words) reads the words to an [`Order`](orders), and [`perform`](perform) does its task over an opened connection, to
-//! any store of `sqlite`, and prints its lines; [`plain`] has it over one opened file. A [`Folder`](folders) opens a file that it names, or that a script names.
-//! [`lines`](lines) prints what is wrong with words that are no order, and other failures. [`copy_office`](copying) follows an
-//! order to copy, and [`journal_office`](journal_check) one for the journal, each over two connections; the crate `server` follows
-//! one to serve. In an office that is open already, as one that is served, [`follow`](replaying) does a job, and `copy_open` and
-//! `journal_open` copy it and print its journal. [`files_named_in`](script_files) says which files a script names, for who hands it
-//! over. Which files, outputs and sockets these are, the program says.
+//! [`order`](words) parses the words to an [`Order`](orders). [`perform`](perform) performs its task on an open connection to any
+//! store of `sqlite`, and prints its lines; [`plain`] does so with one open file. A [`Folder`](folders) opens a file that the order or
+//! its script names. [`lines`](lines) prints what is wrong with words that aren't an order, and other failures.
+//! [`copy_office`](copying) performs an order to copy, and [`journal_office`](journal_check) one for the journal, each on two
+//! connections; the crate `server` performs one to serve. In an office that is open already, such as a served one,
+//! [`follow`](order_running) does a job, and `copy_open` and `journal_open` copy it and print its journal.
+//! [`files_named_in`](script_files) returns which files a script names, for a client that sends it. The program decides which files,
+//! outputs and sockets these are.
 //!
 //! ```text
 //! match order(alloc, words) {
@@ -17,35 +18,35 @@
 //! ```
 #![tactic(auto)]
 
-// Words to an order.
+// From words to an order.
 mod order_entry;
 mod order_table;
 pub mod orders;
 mod verdicts;
 pub mod version;
 pub mod words;
-// A script to orders.
+// From a script to orders.
 pub mod folders;
 mod lexer;
 pub mod script_files;
 mod scripts;
-// An order to requests,
+// From an order to requests,
 mod requests;
-// and those to lines and a status.
+// and from those to lines and a status.
+mod candidate_names;
 pub mod copying;
 mod counting;
 mod import;
 mod journal;
 pub mod journal_check;
 pub mod lines;
-mod names;
+pub mod order_running;
 mod overviews;
 mod papers;
 pub mod perform;
 pub mod plain;
 mod printing;
 pub mod progress;
-pub mod replaying;
 mod sending;
 mod steps;
 mod ward_status;
@@ -53,9 +54,12 @@ mod ward_status;
 pub use copying::{CopyState, copy_office, copy_open};
 pub use folders::Folder;
 pub use journal_check::{journal_office, journal_open};
-pub use lines::{Failure, tell_codes_fault, tell_codes_made, tell_failure, tell_words};
+pub use lines::{
+    Failure, tell_codes_and_office_made, tell_codes_fault, tell_codes_made, tell_failure,
+    tell_words,
+};
+pub use order_running::follow;
 pub use orders::{Errand, Job, KeyingFile, Order, Question, Task};
 pub use progress::ProgressSink;
-pub use replaying::follow;
 pub use script_files::files_named_in;
 pub use words::{WordsFault, order};

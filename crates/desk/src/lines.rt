@@ -5,7 +5,8 @@ ghost use Rattle.std.specs.List.{flat_map};
 ghost use Rattle.keyfile.specs.Faults.{flaw_batch, flaw_between, flaw_clerk};
 ghost use Rattle.desk.specs.Pages.{IsErrorTold, IsPut, Shows, fronted, line_front, migrated_text, note_line, noted, numbered_line, outputs_of, printed, status_of_file};
 ghost use Rattle.codes.specs.Faults.{fault_line, fault_text as codes_text};
-ghost use Rattle.desk.specs.Pages.{codes_made_page, codes_page, codes_place, failed, failure_number, failure_of, failure_text, page_of, refused, script_page, unjournalled, unread, words_page};
+ghost use Rattle.desk.specs.Pages.{codes_and_office_made_page, codes_made_page, codes_page, codes_place};
+ghost use Rattle.desk.specs.Pages.{failed, failure_number, failure_of, failure_text, page_of, refused, script_page, unjournalled, unread, words_page};
 
 use crate::scripts::ScriptFault;
 use crate::words::{BAD_DIGEST, BAD_ORIGIN, WordsFault};
@@ -17,40 +18,41 @@ use store::{CopyFault, Fault, Migrated};
 use streams::{Broken, Sink, put_all};
 use thiserror::Error;
 
-/// What is printed where the journal that was written doesn't make its office, as where its receipts and its other tables don't belong together.
+/// What is printed if the journal that was written doesn't make its office, for example if its receipts and its other tables don't
+/// match.
 const NO_JOURNAL: &str = "no journal: what was written does not make this office";
 
-/// What an order came to.
+/// The outcome of an order.
 #[derive(Drop)]
 pub(crate) enum LineOutcome {
     /// An office was made.
     Ready,
-    /// An office was brought over, or was at this program's version already.
+    /// An office was migrated, or was of this program's version already.
     Migrated(Migrated),
-    /// This is the reply to a request that was accepted, now or before; or it says how a ward stands, or what comes next.
+    /// The reply to a request that was accepted, now or before; or the status of a ward, or what comes next.
     Replied(Reply),
-    /// This is the reply to a request that was accepted before under this id, with other words. A note says so.
+    /// The reply to a request that was accepted before under this id, with other content. A note says so.
     Noted { reply: Reply, id: String },
-    /// This text is printed as it is, its lines ended.
+    /// This text, printed as it is; its lines are terminated.
     Printed(String),
     /// No seat is left in a count.
     CountFinished,
-    /// A count waits for a lot, for which a request for one stage more was refused. That is printed as a reply, not as a refusal.
+    /// A count waits for a lot, so a request for one more stage was refused. This is printed as a reply, not as a refusal.
     LotNeeded(Refusal),
     /// A request was refused.
     Refused(Refusal),
     /// The file was refused, or couldn't be read.
     Unread(FileFault),
-    /// The office gave up.
+    /// The office reported a fault.
     Failed(Fault),
     /// No copy is reported.
     Uncopied(CopyFault),
-    /// No journal of the office was found: the one that was written doesn't make it.
+    /// The office has no journal: the one that was written doesn't make it.
     Unjournalled,
 }
 
-/// Why the program gives up. 101 to 106 and 108 are faults of the office. 107 is an output that fails. 109 is a copy that is there
-/// already, and 110 one that can't be written. 111 is an order that isn't for an office that is being served. 113 is an office whose
+/// Why the program fails. 101 to 106 and 108 are faults of the office. 107 is an output that fails. 109 is a copy that exists already,
+/// and 110 one that can't be written. 111 is an order that isn't allowed for an office that is being served. 113 is an office whose
 /// file was removed or replaced while it was served.
 #[derive(Clone, Copy, Debug, PartialEq, Eq, Drop, Error)]
 #[error("{}", self.text())]
@@ -91,7 +93,7 @@ impl Failure {
     }
 }
 
-/// Puts pieces of text one behind the other.
+/// Writes pieces of text one after the other.
 fn put_pieces<W: Sink>(pieces: &[&str], sink: &mut W) -> Result<(), Broken>
     requires { W.failed sink.old < 2 ^ 64 - 1 }
     ensures { IsPut W.taken W.failed sink.old sink.new (flat_map (λ piece. piece.now) pieces.now) result }
@@ -102,7 +104,7 @@ fn put_pieces<W: Sink>(pieces: &[&str], sink: &mut W) -> Result<(), Broken>
     Ok(())
 }
 
-/// Prints a text in pieces on the output, and gives the status: 0, or 3 where the output fails, which the error output says.
+/// Prints a text in pieces on the output, and returns the status: 0, or 3 if the output fails, which is reported on the error output.
 fn tell_text<O: Sink, E: Sink>(pieces: &[&str], out: &mut O, err: &mut E) -> u8
     requires out { O.failed out.old < 2 ^ 64 - 1 }
     requires err { E.failed err.old < 2 ^ 64 - 1 }
@@ -114,7 +116,7 @@ fn tell_text<O: Sink, E: Sink>(pieces: &[&str], out: &mut O, err: &mut E) -> u8
     }
 }
 
-/// Puts the front of what is printed of a script's line, `line 3: `; nothing, where it is of none.
+/// Writes the prefix for a script's line, `line 3: `; nothing if it isn't about one.
 fn put_front<W: Sink>(line: Option<usize>, sink: &mut W) -> Result<(), Broken>
     requires { W.failed sink.old < 2 ^ 64 - 1 }
     ensures { IsPut W.taken W.failed sink.old sink.new (line_front line) result }
@@ -125,7 +127,7 @@ fn put_front<W: Sink>(line: Option<usize>, sink: &mut W) -> Result<(), Broken>
     }
 }
 
-/// Puts the front, and pieces of text behind it.
+/// Writes the prefix, then pieces of text.
 fn put_line<W: Sink>(line: Option<usize>, pieces: &[&str], sink: &mut W) -> Result<(), Broken>
     requires { W.failed sink.old < 2 ^ 64 - 1 }
     ensures { IsPut W.taken W.failed sink.old sink.new (line_front line ++ flat_map (λ piece. piece.now) pieces.now) result }
@@ -134,8 +136,8 @@ fn put_line<W: Sink>(line: Option<usize>, pieces: &[&str], sink: &mut W) -> Resu
     put_pieces(pieces, sink)
 }
 
-/// Prints a line in pieces on the error output, and gives the status: this one, or 3 where the error output fails. If it is about
-/// a script's line, the number of that stands in front.
+/// Prints a line in pieces on the error output, and returns the status: this one, or 3 if the error output fails. If it is about a
+/// script's line, it is prefixed by that line's number.
 fn tell_error<E: Sink>(line: Option<usize>, pieces: &[&str], status: u8, err: &mut E) -> u8
     requires { E.failed err.old < 2 ^ 64 - 1 }
     ensures { IsErrorTold E.taken E.failed err.old err.new (line_front line ++ flat_map (λ piece. piece.now) pieces.now) status result }
@@ -146,7 +148,8 @@ fn tell_error<E: Sink>(line: Option<usize>, pieces: &[&str], status: u8, err: &m
     }
 }
 
-/// Prints a kind, a number and a text in a line on the error output, and gives the status: this one, or 3 where the error output fails.
+/// Prints a kind, a number and a text in one line on the error output, and returns the status: this one, or 3 if the error output
+/// fails.
 fn tell_numbered<E: Sink>(
     line: Option<usize>,
     kind: &str,
@@ -163,7 +166,7 @@ fn tell_numbered<E: Sink>(
     tell_error(line, &pieces, status, err)
 }
 
-/// Prints a refusal, and gives the status: 1, or 3 where the error output fails.
+/// Prints a refusal, and returns the status: 1, or 3 if the error output fails.
 fn tell_refusal<E: Sink>(line: Option<usize>, refusal: &Refusal, err: &mut E) -> u8
     requires { E.failed err.old < 2 ^ 64 - 1 }
     ensures { IsErrorTold E.taken E.failed err.old err.new (line_front line ++ (refused refusal.now).err) 1 result }
@@ -171,7 +174,7 @@ fn tell_refusal<E: Sink>(line: Option<usize>, refusal: &Refusal, err: &mut E) ->
     tell_numbered(line, "refused ", refusal.number(), refusal.text(), 1, err)
 }
 
-/// The status of a file that isn't taken: 3 where its reading was stopped.
+/// Returns the status for a refused file: 3 if its reading was stopped.
 fn status_of_file(fault: FileFault) -> u8
     ensures { result ≡ status_of_file fault }
 {
@@ -181,7 +184,7 @@ fn status_of_file(fault: FileFault) -> u8
     }
 }
 
-/// The batch that a flaw names, in digits; nothing, where it names none.
+/// Returns the batch that a flaw names, in digits; the empty text if it names none.
 fn batch_of(flaw: Flaw, digits: &mut Buffer) -> &str
     ensures { result.now ≡ flaw_batch flaw }
 {
@@ -191,7 +194,7 @@ fn batch_of(flaw: Flaw, digits: &mut Buffer) -> &str
     }
 }
 
-/// What stands between the batch and the clerk that a flaw names.
+/// Returns the text between the batch and the clerk that a flaw names.
 fn between_of(flaw: Flaw) -> &'static str
     ensures { result.now ≡ flaw_between flaw }
 {
@@ -201,7 +204,7 @@ fn between_of(flaw: Flaw) -> &'static str
     }
 }
 
-/// The clerk whom a flaw names, in digits; nothing, where it names none.
+/// Returns the clerk that a flaw names, in digits; the empty text if it names none.
 fn clerk_of(flaw: Flaw, digits: &mut Buffer) -> &str
     ensures { result.now ≡ flaw_clerk flaw }
 {
@@ -211,7 +214,7 @@ fn clerk_of(flaw: Flaw, digits: &mut Buffer) -> &str
     }
 }
 
-/// Prints why a file isn't taken, and gives the status: 1, or 3 where its reading was stopped or the error output fails.
+/// Prints why a file is refused, and returns the status: 1, or 3 if its reading was stopped or the error output fails.
 fn tell_file_fault<E: Sink>(line: Option<usize>, fault: FileFault, err: &mut E) -> u8
     requires { E.failed err.old < 2 ^ 64 - 1 }
     ensures { IsErrorTold E.taken E.failed err.old err.new (line_front line ++ (unread fault).err) (status_of_file fault) result }
@@ -233,7 +236,7 @@ fn tell_file_fault<E: Sink>(line: Option<usize>, fault: FileFault, err: &mut E) 
     tell_error(line, &pieces, status_of_file(fault), err)
 }
 
-/// Puts the line at which a fault of codes is, ` at line 3`; nothing, where it is at none.
+/// Writes the number of the line with a fault of codes, ` at line 3`; nothing if the fault isn't at a line.
 fn put_place<W: Sink>(fault: CodesFault, sink: &mut W) -> Result<(), Broken>
     requires { W.failed sink.old < 2 ^ 64 - 1 }
     ensures { IsPut W.taken W.failed sink.old sink.new (codes_place (fault_line fault)) result }
@@ -244,7 +247,7 @@ fn put_place<W: Sink>(fault: CodesFault, sink: &mut W) -> Result<(), Broken>
     }
 }
 
-/// Puts the line at which a fault of codes is, and its text behind it.
+/// Writes the number of the line with a fault of codes, and the fault's text.
 fn put_codes_text<W: Sink>(fault: CodesFault, sink: &mut W) -> Result<(), Broken>
     requires { W.failed sink.old < 2 ^ 64 - 1 }
     ensures { IsPut W.taken W.failed sink.old sink.new (codes_place (fault_line fault) ++ flat_map (λ piece. piece) (codes ": " ∷ codes_text fault ∷ codes "\n" ∷ [])) result }
@@ -253,7 +256,7 @@ fn put_codes_text<W: Sink>(fault: CodesFault, sink: &mut W) -> Result<(), Broken
     put_pieces(&[": ", fault.text(), "\n"], sink)
 }
 
-/// Puts a line that reports a fault of codes.
+/// Writes a line that reports a fault of codes.
 fn put_codes_fault<W: Sink>(fault: CodesFault, sink: &mut W) -> Result<(), Broken>
     requires { W.failed sink.old < 2 ^ 64 - 1 }
     ensures { IsPut W.taken W.failed sink.old sink.new (codes_page fault).err result }
@@ -265,7 +268,7 @@ fn put_codes_fault<W: Sink>(fault: CodesFault, sink: &mut W) -> Result<(), Broke
     put_codes_text(fault, sink)
 }
 
-/// Prints why codes aren't taken, or not made, and gives the status: 1, or 3 where the error output fails.
+/// Prints why codes are refused, or not made, and returns the status: 1, or 3 if the error output fails.
 pub fn tell_codes_fault<E: Sink>(fault: CodesFault, err: &mut E) -> u8
     requires { E.failed err.old < 2 ^ 64 - 1 }
     ensures { IsErrorTold E.taken E.failed err.old err.new (codes_page fault).err (codes_page fault).status result }
@@ -276,7 +279,7 @@ pub fn tell_codes_fault<E: Sink>(fault: CodesFault, err: &mut E) -> u8
     }
 }
 
-/// Prints that codes were made for so many clerks, and gives the status: 0, or 3 where the output fails.
+/// Prints for how many clerks codes were made, and returns the status: 0, or 3 if the output fails.
 pub fn tell_codes_made<O: Sink, E: Sink>(count: u32, out: &mut O, err: &mut E) -> u8
     requires out { O.failed out.old < 2 ^ 64 - 1 }
     requires err { E.failed err.old < 2 ^ 64 - 1 }
@@ -287,7 +290,22 @@ pub fn tell_codes_made<O: Sink, E: Sink>(count: u32, out: &mut O, err: &mut E) -
     tell_text(&pieces, out, err)
 }
 
-/// Prints that an office has no journal, and gives the status: 1, or 3 where the error output fails.
+/// Prints that codes were made for so many clerks, and one for the office, and returns the status: 0, or 3 if the output fails.
+pub fn tell_codes_and_office_made<O: Sink, E: Sink>(count: u32, out: &mut O, err: &mut E) -> u8
+    requires out { O.failed out.old < 2 ^ 64 - 1 }
+    requires err { E.failed err.old < 2 ^ 64 - 1 }
+    ensures { let outputs = outputs_of O.taken O.failed E.taken E.failed in Shows (outputs out.old err.old) (outputs out.new err.new) (codes_and_office_made_page count) result }
+{
+    let mut digits = Buffer::new();
+    let pieces = [
+        "codes written: ",
+        digits.format(count),
+        ", and the office's\n",
+    ];
+    tell_text(&pieces, out, err)
+}
+
+/// Prints that an office has no journal, and returns the status: 1, or 3 if the error output fails.
 fn tell_no_journal<E: Sink>(line: Option<usize>, err: &mut E) -> u8
     requires { E.failed err.old < 2 ^ 64 - 1 }
     ensures { IsErrorTold E.taken E.failed err.old err.new (line_front line ++ unjournalled.err) 1 result }
@@ -295,7 +313,7 @@ fn tell_no_journal<E: Sink>(line: Option<usize>, err: &mut E) -> u8
     tell_error(line, &[NO_JOURNAL, "\n"], 1, err)
 }
 
-/// Prints a failure, and gives its status, 3.
+/// Prints a failure, and returns its status, 3.
 fn tell_failure_at<E: Sink>(line: Option<usize>, failure: Failure, err: &mut E) -> u8
     requires { E.failed err.old < 2 ^ 64 - 1 }
     ensures { IsErrorTold E.taken E.failed err.old err.new (line_front line ++ (failed failure).err) 3 result }
@@ -303,9 +321,9 @@ fn tell_failure_at<E: Sink>(line: Option<usize>, failure: Failure, err: &mut E) 
     tell_numbered(line, "fault ", failure.number(), failure.text(), 3, err)
 }
 
-/// Prints a failure on the error output, and gives its status, 3.
+/// Prints a failure on the error output, and returns its status, 3.
 ///
-/// Where the error output fails too, nothing more can be printed.
+/// If the error output fails too, nothing more can be printed.
 pub fn tell_failure<E: Sink>(failure: Failure, err: &mut E) -> u8
     requires { E.failed err.old < 2 ^ 64 - 1 }
     ensures { IsErrorTold E.taken E.failed err.old err.new (failed failure).err 3 result }
@@ -313,7 +331,7 @@ pub fn tell_failure<E: Sink>(failure: Failure, err: &mut E) -> u8
     tell_failure_at(None, failure, err)
 }
 
-/// Why no copy was made, as the program prints it; want of memory is reported as ever.
+/// Returns the failure that is printed for a copy that wasn't made; running out of memory is reported as usual.
 fn failure_of(fault: CopyFault) -> Failure
     ensures { result ≡ failure_of fault }
 {
@@ -325,7 +343,7 @@ fn failure_of(fault: CopyFault) -> Failure
     }
 }
 
-/// What a migration came to, in words.
+/// Returns the outcome of a migration in words.
 fn migrated_text(migrated: Migrated) -> &'static str
     ensures { result.now ≡ migrated_text migrated }
 {
@@ -335,8 +353,8 @@ fn migrated_text(migrated: Migrated) -> &'static str
     }
 }
 
-/// Puts the note that the request of an id was kept before with other words. If it is about a script's line, the number of that
-/// comes first.
+/// Writes the note that the request with an id was accepted before with other content. If it is about a script's line, it is prefixed
+/// by that line's number.
 fn put_note<W: Sink>(line: Option<usize>, id: &str, sink: &mut W) -> Result<(), Broken>
     requires { W.failed sink.old < 2 ^ 64 - 1 }
     ensures { IsPut W.taken W.failed sink.old sink.new (line_front line ++ note_line id.now) result }
@@ -371,8 +389,8 @@ fn tell_note_and_failure<E: Sink>(line: Option<usize>, id: &str, err: &mut E) ->
     }
 }
 
-/// Prints the reply to a request that was kept before with other words, and the note that says so. Returns the status: 0, or 3 if
-/// one of the two outputs fails; that one has taken a beginning then.
+/// Prints the reply to a request that was accepted before with other content, and the note that says so. Returns the status: 0, or 3
+/// if one of the two outputs fails; a prefix was then written to it.
 fn tell_noted<O: Sink, E: Sink>(
     line: Option<usize>,
     reply: &str,
@@ -390,10 +408,10 @@ fn tell_noted<O: Sink, E: Sink>(
     }
 }
 
-/// Prints an outcome, and gives its status. The status is 0 where the outcome goes to the output. On the error output it is 1 for
-/// a refusal of a request or a file, and for an office without a journal, and 3 for a fault or a file that couldn't be read.
-/// Where one of the two fails it is 3, and that output has taken a beginning. If the outcome is that of a script's line, what
-/// goes to the error output begins with the number of that line.
+/// Prints an outcome, and returns its status. The status is 0 if the outcome goes to the output. On the error output it is 1 for a
+/// refusal of a request or a file, and for an office without a journal, and 3 for a fault or a file that couldn't be read. It is 3 too
+/// if one of the two fails; a prefix was then written to that output. If the outcome is that of a script's line, what goes to the
+/// error output begins with that line's number.
 pub(crate) fn tell<O: Sink, E: Sink>(
     line: Option<usize>,
     outcome: &LineOutcome,
@@ -420,8 +438,8 @@ pub(crate) fn tell<O: Sink, E: Sink>(
     }
 }
 
-/// Prints why a text is no script, and gives the status: 2 for a line that
-/// isn't understood, and 3 for want of memory or where the error output fails.
+/// Prints why a text isn't a script, and returns the status: 2 for a line that isn't understood, and 3 if an allocation or the error
+/// output fails.
 pub(crate) fn tell_script_fault<E: Sink>(fault: &ScriptFault, err: &mut E) -> u8
     requires { E.failed err.old < 2 ^ 64 - 1 }
     ensures { IsErrorTold E.taken E.failed err.old err.new (script_page fault.now).err (script_page fault.now).status result }
@@ -432,8 +450,8 @@ pub(crate) fn tell_script_fault<E: Sink>(fault: &ScriptFault, err: &mut E) -> u8
     }
 }
 
-/// Prints why the words are no order, and gives the status: 0 with help on the output, 2 with a text on the error
-/// output, and 3 for want of memory. Where one of the two fails it is 3, and that output has taken a beginning.
+/// Prints why the words aren't an order, and returns the status: 0 for help on the output, 2 for a text on the error output, and 3 if
+/// an allocation failed. If one of the two outputs fails it is 3, and a prefix was written to that output.
 pub fn tell_words<O: Sink, E: Sink>(fault: &WordsFault, out: &mut O, err: &mut E) -> u8
     requires out { O.failed out.old < 2 ^ 64 - 1 }
     requires err { E.failed err.old < 2 ^ 64 - 1 }

@@ -1,37 +1,37 @@
-//! The words that orders take, and what an entry of the table of orders has.
+//! The words of orders, and the entries of the table of orders.
 
-/// What a word of an order holds.
+/// What a word of an order contains.
 #[derive(Clone, Copy)]
 pub(crate) enum Kind {
-    /// A number of 0 to 4294967295.
+    /// A number from 0 to 4294967295.
     Number,
-    /// The same, which may be left out.
+    /// A number from 0 to 4294967295, optional.
     NumberOrNone,
     /// A port, 1 to 65535.
     Port,
-    /// A number of connections, 1 to 1000000, which may be left out.
+    /// A number of connections, 1 to 1000000, optional.
     Connections,
     /// Any text.
     Text,
-    /// A verdict: `accept:` and a marks text, or `reject:` and a number of 0 to 4294967295.
+    /// A verdict: `accept:` and a marks text, or `reject:` and a number from 0 to 4294967295.
     Verdict,
     /// Any text, after `--id`.
     Id,
-    /// An origin as a browser writes it, after `--origin`; it may be left out.
+    /// An origin as a browser writes it, after `--origin`, optional.
     Origin,
-    /// The path of a file of codes, after `--codes`; it may be left out.
+    /// The path of a file of codes, after `--codes`, optional.
     CodesFile,
-    /// Any text, after `--title`; left out, it is empty.
+    /// Any text, after `--title`, empty by default.
     Title,
-    /// A digest in 64 hexadecimal digits, after `--sha256`; it may be left out.
+    /// A digest in 64 hexadecimal digits, after `--sha256`, optional.
     Digest,
-    /// Any texts, one or more words behind the others; or none.
+    /// Any texts, zero or more words after the others.
     Texts,
-    /// A flag: `--` and its name, which may be left out.
+    /// A flag: `--` and its name, optional.
     Flag,
 }
 
-/// A word that an order takes, and its line of help.
+/// A word of an order, and its line of help.
 #[derive(Clone, Copy)]
 pub(crate) struct Word {
     pub(crate) name: &'static str,
@@ -39,18 +39,18 @@ pub(crate) struct Word {
     pub(crate) help: &'static str,
 }
 
-/// Where help shows an order.
+/// The heading of the help under which an order is listed.
 #[derive(Clone, Copy)]
 pub(crate) enum Heading {
-    /// Among the orders of an election.
+    /// The orders of an election.
     Election,
-    /// Among those for the office alone, whose heading the end of the help has.
+    /// The orders for the office alone, listed at the end of the help.
     Office,
-    /// Among those by which everyone can check a result, whose heading stands there too.
+    /// The orders by which anyone can check a result, listed there too.
     Everyone,
 }
 
-/// An order's name and words, and its help, which ends with an example as it is typed.
+/// An order's name and words, and its help, which ends with an example.
 #[derive(Clone, Copy)]
 pub(crate) struct Entry {
     pub(crate) name: &'static str,
@@ -59,7 +59,7 @@ pub(crate) struct Entry {
     pub(crate) heading: Heading,
 }
 
-/// A word that an order takes: what it holds, its name, and its line of help.
+/// Makes a word of an order from what it contains, its name, and its line of help.
 macro_rules! word {
     ($kind:ident $name:literal, $help:literal) => {
         Word {
@@ -129,7 +129,7 @@ pub(crate) const MAX_PORT: i64 = 65535;
 
 pub(crate) const PORT: Word = word!(Port "PORT", "The port of this machine, 1 to 65535");
 
-/// The most connections that one order answers.
+/// The maximum number of connections that one order serves.
 pub(crate) const MAX_CONNECTIONS: i64 = 1_000_000;
 
 pub(crate) const CONNECTIONS: Word =
@@ -146,6 +146,9 @@ pub(crate) const CODES_FILE: Word =
 
 pub(crate) const CLERKS: Word =
     word!(Text "CLERKS", "The clerks from one number to another, 1 to 999, as 1-40");
+
+pub(crate) const WITH_OFFICE: Word =
+    word!(Flag "office", "Also writes a code for the office, for its console in the browser");
 
 pub(crate) const TITLE: Word =
     word!(Title "title", "What stands above, as the names of the election and of the council;\nin quotes where it has spaces");

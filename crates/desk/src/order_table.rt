@@ -1,8 +1,8 @@
 //! The table of orders, and the order that matched words mean.
 //!
-//! One order more is an entry of [`ORDERS_TO_SEAL`] or [`ORDERS_FROM_SEAL`], and an arm that makes of its words what it means.
-//! The arm stands in [`command_named`] where the order sends a command, and in [`order_named`] where it doesn't; that may want a
-//! variant of [`Errand`](crate::orders::Errand) too. A line of `orders` in specs/Orders.antt says what the order means.
+//! To add an order, add an entry to [`ORDERS_TO_SEAL`] or [`ORDERS_FROM_SEAL`], and an arm that returns what its words mean. The arm
+//! is in [`command_named`] if the order sends a command, and otherwise in [`order_named`]; it may need a new variant of
+//! [`Errand`](crate::orders::Errand) too. A line of `orders` in specs/Orders.antt defines what the order means.
 #![tactic(auto, unfolding(crate::specs::Orders::orders))]
 
 ghost use Rattle.std.specs.Prelude.{◌≡◌, ◌⊎◌, false, Err, None, Some, codes, drop, map, take, IfErr, IfOk, option_map, string_bytes};
@@ -16,7 +16,7 @@ ghost use Rattle.desk.specs.Words.{flag_at, texts_at};
 use crate::order_entry::{
     ACTOR, BATCH, CANDIDATE, CLERK, CLERKS, CODES, CODES_FILE, CONNECTIONS, DIGEST, Entry, FILE,
     FIRST_CLERK, Heading, ID, KEEP_GOING, MARKS, NAME, NEW, ORIGIN, PAPER, PORT, ROUND, SCRIPT,
-    SEATS, SECOND_CLERK, SIZE, STAGE, TITLE, VERDICT, WARD, Word,
+    SEATS, SECOND_CLERK, SIZE, STAGE, TITLE, VERDICT, WARD, WITH_OFFICE, Word,
 };
 use crate::orders::{Errand, Job, KeyingFile, Order, Question, Task};
 use crate::requests::{by_clerk, by_office};
@@ -33,7 +33,7 @@ use std::alloc::{AllocError, Global};
 
 // ---- the table
 
-/// An order: where help shows it, its name, its words in their sequence, and its help.
+/// Makes the entry of an order: its heading in the help, its name, its words in sequence, and its help.
 macro_rules! order {
     ($heading:ident $name:literal [$($word:ident),*], $help:literal) => {
         Entry {
@@ -45,8 +45,8 @@ macro_rules! order {
     };
 }
 
-/// The orders up to the seal of a ward, in the sequence of an election. They are a table of their own, since a proof
-/// computes each table whole.
+/// The orders up to the seal of a ward, in the sequence of an election. They are in a table of their own, since a proof computes each
+/// table whole.
 #[rattlefmt::skip]
 const ORDERS_TO_SEAL: [Entry; 12] = [
     order!(Election "init" [], "Makes an office in DB, a new file or an empty one:\ncount-office town.db init"),
@@ -64,8 +64,7 @@ const ORDERS_TO_SEAL: [Entry; 12] = [
     order!(Election "judge" [BATCH, PAPER, VERDICT, ID], "Keeps the verdict on a doubtful paper of a batch that is taken:\ncount-office town.db judge 12 6 accept:1,,, --id v1"),
 ];
 
-/// The others, from the seal on in the same sequence; then the one that brings an older office over, those for the office
-/// alone, and those for everyone.
+/// The other orders: those from the seal on in the same sequence, then `migrate`, those for the office alone, and those for everyone.
 #[rattlefmt::skip]
 const ORDERS_FROM_SEAL: [Entry; 25] = [
     order!(Election "seal" [WARD, ID], "Seals a ward whose papers are all agreed and judged:\ncount-office town.db seal 7 --id s1"),
@@ -88,21 +87,21 @@ const ORDERS_FROM_SEAL: [Entry; 25] = [
     order!(Office "journal" [], "Prints the accepted orders of the office as a script, whole:\ncount-office town.db journal"),
     order!(Office "replay" [SCRIPT, KEEP_GOING], "Sends the orders of a text file, a line each, up to a refusal:\ncount-office town.db replay evening.txt"),
     order!(Office "copy" [NEW], "Makes a copy of the office, in a file that isn't there yet:\ncount-office town.db copy evening.db"),
-    order!(Office "codes" [CODES_FILE, CLERKS], "Writes a new file of codes, one for each of these clerks:\ncount-office town.db codes codes.txt 1-40"),
+    order!(Office "codes" [CODES_FILE, CLERKS, WITH_OFFICE], "Writes a new file of codes, one for each of these clerks:\ncount-office town.db codes codes.txt 1-40"),
     order!(Everyone "ballots" [WARD], "Prints the ballots of a sealed ward, in a form that counting programs read:\ncount-office town.db ballots 7"),
     order!(Everyone "page" [WARD, TITLE], "Prints the result of a sealed ward as a page for a browser, to print and sign:\ncount-office town.db page 7"),
     order!(Everyone "table" [WARD], "Prints the stages of a sealed ward as a table for a spreadsheet:\ncount-office town.db table 7"),
     order!(Everyone "index" [TITLE], "Prints how all wards stand, and who is elected, as a page to hang at the door:\ncount-office town.db index"),
 ];
 
-/// The orders up to the seal, which are the first 12 of all.
+/// Returns the orders up to the seal, the first 12 of all.
 pub(crate) fn entries_to_seal() -> &'static [Entry]
     ensures { map words_of result.now ≡ map (λ e. e.typed) (take 12 orders) }
 {
     &ORDERS_TO_SEAL
 }
 
-/// The orders from the seal on.
+/// Returns the orders from the seal on.
 pub(crate) fn entries_from_seal() -> &'static [Entry]
     ensures { map words_of result.now ≡ map (λ e. e.typed) (drop 12 orders) }
 {
@@ -114,15 +113,15 @@ pub(crate) fn entries_from_seal() -> &'static [Entry]
 /// Why matched words mean no order.
 #[derive(Clone, Copy)]
 pub(crate) enum NoOrder {
-    /// They name none.
+    /// They name no order.
     Unknown,
-    /// The word of a verdict says none.
+    /// The word of a verdict is invalid.
     BadVerdict,
-    /// The word of an origin is none.
+    /// The word of an origin is invalid.
     BadOrigin,
-    /// The word of a digest is none.
+    /// The word of a digest is invalid.
     BadDigest,
-    /// Memory was wanting.
+    /// An allocation failed.
     Memory,
 }
 
@@ -177,7 +176,7 @@ fn text_copied(alloc: Global, matches: &ArgMatches<'_>, word: Word) -> Result<St
     String::from_str(alloc, text_in(matches, word))
 }
 
-/// The texts that were matched, of which there may be none.
+/// Copies the texts that were matched, if any.
 fn texts_copied(
     alloc: Global,
     matches: &ArgMatches<'_>,
@@ -194,14 +193,14 @@ fn texts_copied(
     Ok(texts)
 }
 
-/// Whether a flag was matched, which reads `true` where it was given.
+/// Returns whether a flag was matched; its value is `true` if it was present.
 fn flag_in(matches: &ArgMatches<'_>, word: Word) -> bool
     ensures { result ≡ flag_at word.name.now (rows_of (found_of matches.now)) }
 {
     text_in(matches, word) == "true"
 }
 
-/// The origin that was matched, if one was.
+/// Returns the origin that was matched, if any.
 fn origin_in<'a>(matches: &ArgMatches<'a>) -> Result<Option<Origin<'a>>, NoOrder>
     ensures ok { IfOk result (λ found. origin_at (codes "origin") (rows_of (found_of matches.now)) ≡ option_map (λ o. Some (origin_text o)) found) }
     ensures err { IfErr result (λ why. (why ≡ NoOrder.BadOrigin) × (origin_at (codes "origin") (rows_of (found_of matches.now)) ≡ Some None)) }
@@ -215,7 +214,7 @@ fn origin_in<'a>(matches: &ArgMatches<'a>) -> Result<Option<Origin<'a>>, NoOrder
     }
 }
 
-/// The digest that was matched, if one was.
+/// Returns the digest that was matched, if any.
 fn digest_in(matches: &ArgMatches<'_>) -> Result<Option<FileDigest>, NoOrder>
     ensures ok { IfOk result (λ found. digest_at (codes "sha256") (rows_of (found_of matches.now)) ≡ option_map (λ d. Some (digest_bytes d)) found) }
     ensures err { IfErr result (λ why. (why ≡ NoOrder.BadDigest) × (digest_at (codes "sha256") (rows_of (found_of matches.now)) ≡ Some None)) }
@@ -257,7 +256,7 @@ fn verdict_command(alloc: Global, matches: &ArgMatches<'_>) -> Result<Command, N
     }
 }
 
-/// The command that the order of this name sends, with the values that were matched.
+/// Returns the command that the order of this name sends, with the values that were matched.
 fn command_named(alloc: Global, name: &str, matches: &ArgMatches<'_>) -> Result<Command, NoOrder>
     ensures ok { IfOk result (λ command. meaning_of name.now (rows_of (found_of matches.now)) ≡ Some (sent (rows_of (found_of matches.now)) command)) }
     ensures unknown { result ≡ Err NoOrder.Unknown → is_command_name name.now ≡ false }
@@ -302,14 +301,14 @@ fn command_named(alloc: Global, name: &str, matches: &ArgMatches<'_>) -> Result<
 
 // ---- orders
 
-/// The order of an errand in an open office.
+/// Returns the order to run an errand in an open office.
 fn in_office<'a>(errand: Errand<'a>) -> Order<'a>
     ensures { told result ≡ told_errand errand.entry }
 {
     Order::Perform(Task::InOffice(Job::Run(errand)))
 }
 
-/// Sends a command of the office under the id that was matched.
+/// Returns the order that sends a command of the office under the id that was matched.
 fn sending<'a>(
     alloc: Global,
     matches: &ArgMatches<'a>,
@@ -347,7 +346,7 @@ fn import_keying<'a>(matches: &ArgMatches<'a>) -> Result<Order<'a>, NoOrder>
     })))
 }
 
-/// A clerk's keying of the papers that were matched, sent by the clerk.
+/// Returns the order that sends a clerk's keying of the papers that were matched.
 fn key<'a>(alloc: Global, matches: &ArgMatches<'a>) -> Result<Order<'a>, NoOrder>
     ensures ok { IfOk result (λ o. meaning_of (codes "key") (rows_of (found_of matches.now)) ≡ Some (told o)) }
     ensures err { IfErr result (λ why. why ≡ NoOrder.Memory) }
@@ -392,7 +391,7 @@ fn serve<'a>(matches: &ArgMatches<'a>) -> Result<Order<'a>, NoOrder>
     })
 }
 
-/// The order that prints a text of the ward that was matched.
+/// Returns the order that prints a text of the ward that was matched.
 fn printing<'a>(matches: &ArgMatches<'a>, text: Text<'a>) -> Order<'a>
     ensures { told result ≡ told_text (number_at (codes "WARD") (rows_of (found_of matches.now))) text.entry }
 {
@@ -422,7 +421,7 @@ fn asking<'a>(question: Question) -> Order<'a>
     in_office(Errand::Ask(question))
 }
 
-/// The order of this name, with the values that were matched.
+/// Returns the order of this name, with the values that were matched.
 fn order_named<'a>(
     alloc: Global,
     name: &str,
@@ -467,12 +466,13 @@ fn order_named<'a>(
         "codes" => Ok(Order::Codes {
             path: text_in(matches, CODES_FILE),
             clerks: text_in(matches, CLERKS),
+            with_office: flag_in(matches, WITH_OFFICE),
         }),
         _ => sending(alloc, matches, command_named(alloc, name, matches)?),
     }
 }
 
-/// The order that the matched words mean.
+/// Returns the order that the matched words mean.
 pub(crate) fn order_in<'a>(alloc: Global, matches: &ArgMatches<'a>) -> Result<Order<'a>, NoOrder>
     ensures ok { IfOk result (λ o. meaning (subcommand_rows_of matches.now) ≡ Some (told o)) }
     ensures unknown { result ≡ Err NoOrder.Unknown → names_order (subcommand_rows_of matches.now) ≡ false }

@@ -1,4 +1,4 @@
-//! The orders that the program takes.
+//! The orders that the program accepts.
 
 ghost use Rattle.std.specs.Prelude.{◌≡◌, option_map};
 ghost use Rattle.desk.specs.Requests.{file_of, file_of_task};
@@ -9,7 +9,7 @@ use office::Text;
 use origins::Origin;
 use register::Request;
 
-/// A clerk's keying of a batch, which a file holds.
+/// A clerk's keying of a batch, read from a file.
 #[derive(Clone, Copy, Debug)]
 pub struct KeyingFile<'a> {
     pub clerk: u32,
@@ -17,16 +17,16 @@ pub struct KeyingFile<'a> {
     pub round: u32,
     pub file: &'a str,
     pub id: &'a str,
-    /// The digest that the file must have, if one is asked for.
+    /// The digest that the file must have, if any.
     pub digest: Option<FileDigest>,
 }
 
-/// What the office alone asks of how all stands.
+/// A question that only the office asks.
 #[derive(Clone, Copy, Debug)]
 pub enum Question {
-    /// How each ward stands.
+    /// The status of each ward.
     Wards,
-    /// How each batch of a ward stands.
+    /// The status of each batch of a ward.
     Batches { ward: u32 },
     /// Which papers of a ward are doubtful.
     Doubtful { ward: u32 },
@@ -34,31 +34,30 @@ pub enum Question {
     Differences { batch: u32 },
     /// How each paper of a batch counts.
     Papers { batch: u32 },
-    /// What was kept of an actor, or of all.
+    /// The receipts of an actor, or of all.
     Receipts { actor: Option<u32> },
 }
 
-/// What the program is to do in an office that is there. The numbers are as they were given, in range or
-/// not.
+/// A task in an existing office. The numbers are as given, in range or not.
 #[derive(Debug, Drop)]
 pub enum Errand<'a> {
-    /// Send it this request: one of the office's own, or a clerk's keying.
+    /// Send this request: one of the office's own, or a clerk's keying.
     Send(Request),
-    /// Add the candidates of a file, each under this id, a hyphen, and its record's number. The file must have a
-    /// digest, if one is asked for.
+    /// Add the candidates of a file, each under this id, a hyphen, and its record's number. If a digest is given, the file must have
+    /// it.
     ImportCandidates {
         file: &'a str,
         id: &'a str,
         digest: Option<FileDigest>,
     },
-    /// Keep a clerk's keying.
+    /// Store a clerk's keying.
     ImportKeying(KeyingFile<'a>),
-    /// Count the stages of a ward up to a lot or the end, each under this id, a hyphen, and its number in the order.
+    /// Count the stages of a ward up to a lot or the end, each under this id, a hyphen, and its number in this order.
     Count {
         ward: u32,
         id: &'a str,
     },
-    /// Print how a ward stands.
+    /// Print the status of a ward.
     TellStatus {
         ward: u32,
     },
@@ -75,12 +74,12 @@ pub enum Errand<'a> {
     PrintIndex {
         title: &'a str,
     },
-    /// Print this of how all stands.
+    /// Print the answer to this question.
     Ask(Question),
 }
 
 impl<'a> Errand<'a> {
-    /// The path of the file that the errand reads, if it reads one.
+    /// Returns the path of the file that the errand reads, if any.
     pub fn file(&self) -> Option<&'a str>
         ensures { option_map (λ path. path.now) result ≡ file_of self.now }
     {
@@ -91,7 +90,7 @@ impl<'a> Errand<'a> {
         }
     }
 
-    /// Whether it sends requests. One that sends none stands in no script.
+    /// Returns whether the errand sends requests. Only errands that do can be in a script.
     pub(crate) fn sends(&self) -> bool
         ensures { result ≡ sends_requests self.now }
     {
@@ -105,28 +104,28 @@ impl<'a> Errand<'a> {
     }
 }
 
-/// What is done in an office that is opened for it.
+/// What is done in an office once it is open.
 #[derive(Debug, Drop)]
 pub enum Job<'a> {
     /// Run this errand.
     Run(Errand<'a>),
-    /// Run the errands of a script in turn, up to the first that is refused; or past each of these.
+    /// Run the errands of a script in turn, up to the first that is refused; with `keep_going` also past those.
     Replay { file: &'a str, keep_going: bool },
 }
 
-/// What is done over a connection to the office's database, and needs no more than that.
+/// A task on a connection to the office's database, which needs nothing else.
 #[derive(Debug, Drop)]
 pub enum Task<'a> {
     /// Make an office.
     Init,
-    /// Bring an office that an earlier program made over to this one.
+    /// Migrate an office that an earlier program made to this version.
     Migrate,
     /// Open the office, and do this in it.
     InOffice(Job<'a>),
 }
 
 impl<'a> Task<'a> {
-    /// The path of the file that the task reads, if it reads one.
+    /// Returns the path of the file that the task reads, if any.
     pub fn file(&self) -> Option<&'a str>
         ensures { option_map (λ path. path.now) result ≡ file_of_task self.now }
     {
@@ -141,22 +140,23 @@ impl<'a> Task<'a> {
 /// What the program is to do.
 #[derive(Debug, Drop)]
 pub enum Order<'a> {
-    /// Do this over the office's database.
+    /// Perform this on the office's database.
     Perform(Task<'a>),
-    /// Make a copy of the office, in a file that isn't there yet.
+    /// Make a copy of the office, in a file that doesn't exist yet.
     Copy {
         path: &'a str,
     },
     /// Print the journal of the office.
     Journal,
-    /// Write a new file of codes, which isn't there yet, for the clerks that a word names.
+    /// Write a new file of codes, which isn't there yet, for the clerks that a word names, and for the office too if that is
+    /// asked for.
     Codes {
         path: &'a str,
         clerks: &'a str,
+        with_office: bool,
     },
-    /// Answer connections on a port of this machine, and pages of an origin through a proxy, if one is given. It ends
-    /// after so many connections, or with no number never. Clerks' codes are asked for, if the path of a file of them is
-    /// given.
+    /// Serve connections on a port of this machine, and pages of an origin through a proxy, if one is given. It ends after this many
+    /// connections, or never if no number is given. Clerks need codes if the path of a file of codes is given.
     Serve {
         port: u32,
         connections: Option<u32>,

@@ -3,18 +3,18 @@
 ghost use Rattle.std.specs.Prelude.{◌≡◌, ◌++◌, map, option_map, IfOk, string_bytes};
 ghost use Rattle.register.specs.Offices.{judged_entry};
 ghost use Rattle.store.specs.Overviews.{doubtful_papers_view, doubtful_view, paper_view, papers_view};
-ghost use Rattle.desk.specs.Names.{names_told};
+ghost use Rattle.desk.specs.CandidateNames.{names_told};
 ghost use Rattle.desk.specs.Overviews.{doubtful_line, doubtful_lines, judgement_words, lines_of, paper_line, paper_lines, parting, preference_words, preferences_from, rejection_words, verdict_words};
 ghost use Rattle.desk.specs.Pages.{line};
 
-use crate::names::NamesByNumber;
+use crate::candidate_names::NamesByNumber;
 use register::{JudgedPaper, Judgement};
 use std::alloc::{AllocError, Global};
 use store::{CountedPaper, CountedPapers, DoubtfulPaper, DoubtfulPapers};
 
 // ---- how a paper counts
 
-/// What stands before a preference: nothing before the first.
+/// Returns what separates a preference from the one before: nothing before the first.
 fn parting(number: usize) -> &'static str
     ensures { result.now ≡ parting number }
 {
@@ -22,7 +22,7 @@ fn parting(number: usize) -> &'static str
 }
 
 #[tactic(auto, unfolding(crate::specs::Overviews::preference_words))]
-/// Puts a preference behind others: its number, and the candidate's name.
+/// Appends a preference: its number, and the candidate's name.
 fn put_preference(
     alloc: Global,
     text: &mut String,
@@ -36,7 +36,7 @@ fn put_preference(
     text.push_str(told.as_str())
 }
 
-/// Preferences in their order: `1 Ann, 2 Cy`.
+/// Returns preferences in order: `1 Ann, 2 Cy`.
 fn preferences(
     alloc: Global,
     names: &NamesByNumber,
@@ -51,7 +51,7 @@ fn preferences(
     Ok(text)
 }
 
-/// Why a paper is rejected, by its code.
+/// Returns why a paper is rejected, by its code.
 fn rejection_words(code: u32) -> &'static str
     ensures { result.now ≡ rejection_words code }
 {
@@ -66,7 +66,7 @@ fn rejection_words(code: u32) -> &'static str
 }
 
 #[tactic(auto, unfolding(crate::specs::Overviews::judgement_words))]
-/// How a paper counts: its preferences, why it is rejected, or that it has no verdict yet.
+/// Returns how a paper counts: its preferences, why it is rejected, or that it has no verdict yet.
 fn judgement_words(
     alloc: Global,
     names: &NamesByNumber,
@@ -87,7 +87,7 @@ fn judgement_words(
     }
 }
 
-/// Puts a line behind others.
+/// Appends a line.
 fn put_line(text: &mut String, told: &str) -> Result<(), AllocError>
     ensures { IfOk result (λ _. string_bytes text.new ≡ string_bytes text.old ++ line told.now) }
 {
@@ -96,7 +96,7 @@ fn put_line(text: &mut String, told: &str) -> Result<(), AllocError>
 }
 
 #[tactic(auto, unfolding(crate::specs::Overviews::paper_line))]
-/// Which paper it is, and how it counts.
+/// Returns which paper it is, and how it counts.
 fn paper_line(
     alloc: Global,
     names: &NamesByNumber,
@@ -109,7 +109,7 @@ fn paper_line(
     format!(in alloc; "batch {batch} paper {number}: {counts}")
 }
 
-/// Puts a paper behind others, in a line of its own.
+/// Appends a paper in a line of its own.
 fn put_paper(
     alloc: Global,
     text: &mut String,
@@ -122,7 +122,7 @@ fn put_paper(
     put_line(text, told.as_str())
 }
 
-/// Papers, each in a line of its own.
+/// Returns papers, each in a line of its own.
 fn lines_of_papers(
     alloc: Global,
     names: &NamesByNumber,
@@ -138,7 +138,7 @@ fn lines_of_papers(
 }
 
 #[tactic(auto, unfolding(crate::specs::Overviews::paper_lines))]
-/// The papers of a batch as they count, with the names of the candidates.
+/// Returns the papers of a batch as they count, with the names of the candidates.
 pub(crate) fn paper_lines(alloc: Global, found: &CountedPapers) -> Result<String, AllocError>
     ensures { IfOk result (λ text. string_bytes text ≡ paper_lines (papers_view found.now)) }
 {
@@ -149,7 +149,7 @@ pub(crate) fn paper_lines(alloc: Global, found: &CountedPapers) -> Result<String
 // ---- doubtful papers
 
 #[tactic(auto, unfolding(crate::specs::Overviews::verdict_words))]
-/// The verdict on a paper that counts so; with the marks that it is accepted with stands how it counts by them.
+/// Returns the verdict on a paper that counts like this; if it is accepted with marks, how it counts by them.
 fn verdict_words(
     alloc: Global,
     names: &NamesByNumber,
@@ -171,7 +171,7 @@ fn verdict_words(
 }
 
 #[tactic(auto, unfolding(crate::specs::Overviews::doubtful_line))]
-/// Which paper it is, and the verdict on it.
+/// Returns which paper it is, and the verdict on it.
 fn doubtful_line(
     alloc: Global,
     names: &NamesByNumber,
@@ -184,7 +184,7 @@ fn doubtful_line(
     format!(in alloc; "batch {batch} paper {number} {verdict}")
 }
 
-/// Puts a doubtful paper behind others, in a line of its own.
+/// Appends a doubtful paper in a line of its own.
 fn put_doubtful(
     alloc: Global,
     text: &mut String,
@@ -197,7 +197,7 @@ fn put_doubtful(
     put_line(text, told.as_str())
 }
 
-/// Doubtful papers, each in a line of its own.
+/// Returns doubtful papers, each in a line of its own.
 fn lines_of_doubtful(
     alloc: Global,
     names: &NamesByNumber,
@@ -213,7 +213,7 @@ fn lines_of_doubtful(
 }
 
 #[tactic(auto, unfolding(crate::specs::Overviews::doubtful_lines))]
-/// The doubtful papers of a ward, with the names of the candidates.
+/// Returns the doubtful papers of a ward, with the names of the candidates.
 pub(crate) fn doubtful_lines(alloc: Global, found: &DoubtfulPapers) -> Result<String, AllocError>
     ensures { IfOk result (λ text. string_bytes text ≡ doubtful_lines (doubtful_papers_view found.now)) }
 {

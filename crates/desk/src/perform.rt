@@ -1,4 +1,4 @@
-//! What the program does for an order, over a connection to the office's database.
+//! What the program does for an order, on a connection to the office's database.
 
 ghost use Rattle.std.specs.Prelude.{◌-◌, ◌^◌, ◌<◌};
 ghost use Rattle.sqlite.specs.State.{HasCleanDisk};
@@ -9,14 +9,14 @@ ghost use Rattle.desk.specs.Pages.{Tells, outputs_of};
 
 use crate::folders::Folder;
 use crate::lines::{LineOutcome, tell};
+use crate::order_running::follow;
 use crate::orders::{Job, Task};
-use crate::replaying::follow;
 use office::Office;
 use sqlite::{Alter, Connection};
 use std::alloc::Global;
 use streams::Sink;
 
-/// Opens the office that a connection has, and does a job in it.
+/// Opens the office of a connection, and does a job in it.
 fn in_office<S: Alter, F: Folder, O: Sink, E: Sink>(
     alloc: Global,
     job: &Job<'_>,
@@ -39,7 +39,7 @@ fn in_office<S: Alter, F: Folder, O: Sink, E: Sink>(
     }
 }
 
-/// Makes an office, and prints what came of it.
+/// Makes an office, and prints the outcome.
 fn make_office<S: Alter, O: Sink, E: Sink>(
     alloc: Global,
     conn: Connection<S>,
@@ -60,7 +60,7 @@ fn make_office<S: Alter, O: Sink, E: Sink>(
     }
 }
 
-/// Brings an office that an earlier program made over to this one, and prints what came of it.
+/// Migrates an office that an earlier program made to this version, and prints the outcome.
 fn migrate_office<S: Alter, O: Sink, E: Sink>(
     alloc: Global,
     mut conn: Connection<S>,
@@ -78,30 +78,30 @@ fn migrate_office<S: Alter, O: Sink, E: Sink>(
     }
 }
 
-/// Does a task over an opened connection, prints its lines, and gives the status and the connection.
+/// Performs a task on an open connection, prints its lines, and returns the status and the connection.
 ///
-/// `folder` opens the file that the task names, once the office is open; and the import files that a script names,
-/// each when its turn comes. A file is read to its end before anything of it is sent.
+/// `folder` opens the file that the task names, once the office is open; and the import files that a script names, each when it is
+/// needed. A file is read to its end before any request from it is sent.
 ///
-/// The status is 0 where all that was to be printed went to `out`: each reply, `office ready`, what a migration came to, how a
-/// ward or all stand, or a text of a ward. It is 1 where a request or the file was refused, and 3 at a fault; `err` gets which.
-/// It is 3 too where one of the two failed, which has then taken a beginning.
+/// The status is 0 if all output was written to `out`: each reply, `office ready`, the outcome of a migration, the status of a ward,
+/// an overview, or a text of a ward. It is 1 if a request or the file was refused, and 3 for a fault; `err` says which. It is 3 too if
+/// one of the two failed; a prefix was then written to it.
 ///
-/// What was replied before the first refusal or fault stands. Whatever a stop then leaves is the state after the
-/// accepted requests of a beginning of all that were ever sent. The beginning contains every answered request, and at
-/// most one more. With status 0 all requests of the task were answered.
+/// What was replied before the first refusal or fault remains in effect. Whenever the program is stopped, what remains is the state
+/// after the accepted requests of a prefix of all that were ever sent. The prefix contains every answered request, and at most one
+/// more. With status 0 all requests of the task were answered.
 ///
-/// All lines of a script are understood before its first order is sent. Where one isn't, the first such line is printed, with
-/// status 2, and nothing is sent. A refusal or a fault of one of its orders ends the script, and is printed behind the number of
-/// its line. The requests of a script are those of its orders up to that one. A script that is to keep going isn't ended by a
-/// refusal. It prints each of them, and its status is 1 then, if no fault ends it.
+/// All lines of a script are parsed before its first order is sent. If one isn't understood, the first such line is reported, with
+/// status 2, and nothing is sent. A refusal or a fault of one of its orders ends the script, and is printed after its line's number.
+/// The requests of a script are those of its orders up to that one. With `keep_going` a refusal doesn't end the script: each one is
+/// printed, and the status is 1 unless a fault ends the script.
 ///
-/// A database that holds no office, or a newer, an older or a damaged one, is reported by that fault, and isn't changed. Where a
-/// table has one of our names, `init` makes no office: it reports fault 105, and changes nothing. `migrate` alone takes an older
-/// office. After it a stop leaves the older office or the whole of the new one, at the very state that it had.
+/// A database that contains no office, or a newer, an older or a damaged one, is reported by that fault, and isn't changed. If a table
+/// has one of our names, `init` makes no office: it reports fault 105, and changes nothing. Only `migrate` accepts an older office. If
+/// it is stopped, what remains is the older office or the whole of the new one, with exactly the same state.
 ///
-/// Where an opening or a read reports fault 102, the store failed; or, at the opening of a database that holds no state, rowids
-/// aren't the rows' own. The same holds of a request that isn't accepted.
+/// If an opening or a read reports fault 102, the store failed; or, when a database without a state is opened, rowids aren't the rows'
+/// own. The same holds for a request that isn't accepted.
 pub fn perform<S: Alter, F: Folder, O: Sink, E: Sink>(
     alloc: Global,
     task: &Task<'_>,

@@ -1,4 +1,4 @@
-//! The texts of a ward that people hold in their hands, and the page of all wards, printed.
+//! The texts of a ward for people to read, and the page of all wards, printed.
 
 ghost use Rattle.sqlite.specs.Held.{state};
 ghost use Rattle.office.specs.Index.{index_told};
@@ -12,14 +12,14 @@ use crate::lines::LineOutcome;
 use office::{Office, Stop, Text};
 use sqlite::Alter;
 
-/// A text of a ward, or why it can't be had.
+/// Returns a text of a ward, or why it isn't available.
 pub(crate) fn text_of<S: Alter>(office: &mut Office<S>, ward: u32, text: Text) -> LineOutcome
     ensures found { WhenOpenAt (state S.Store) office.old office.new
         (λ s. IsFound s printed (text_told text.entry s ward) (page_of result) office.new.closed (state S.Store office.old.held) (state S.Store office.new.held)) }
     ensures same { OnlyReads (state S.Store office.old.held) (state S.Store office.new.held) }
 {
     let told = match text {
-        // it needs less than the others of what is kept
+        // it needs less of the office's data than the others
         Text::Declaration => office.result(ward),
         _ => office.text(ward, text),
     };
@@ -30,7 +30,7 @@ pub(crate) fn text_of<S: Alter>(office: &mut Office<S>, ward: u32, text: Text) -
     }
 }
 
-/// The page of all wards, or why it can't be had.
+/// Returns the page of all wards, or why it isn't available.
 pub(crate) fn index_of<S: Alter>(office: &mut Office<S>, title: &str) -> LineOutcome
     ensures found { WhenOpenAt (state S.Store) office.old office.new
         (λ s. IsFound s printed (index_told title.now s) (page_of result) office.new.closed (state S.Store office.old.held) (state S.Store office.new.held)) }

@@ -1,14 +1,14 @@
-//! How far a long order has come, for one who doesn't see its replies.
+//! The progress of a long order, for a user who doesn't see its replies.
 
 ghost use Rattle.std.specs.Prelude.{◌≡◌};
 
 use std::io::Write;
 use streams::{Broken, Sink};
 
-/// The count is printed after so many lines, and after so many more.
+/// The count is printed each time after this many lines.
 const STEP: u64 = 100;
 
-/// Counts lines, and says to a writer from time to time how many there were.
+/// Counts lines, and reports the count to a writer from time to time.
 #[derive(Drop)]
 struct Meter<W> {
     told: W,
@@ -19,7 +19,7 @@ impl<W: Write> Meter<W> {
     fn count_line(&mut self) {
         self.lines = self.lines.saturating_add(1);
         if self.lines % STEP == 0 {
-            // Where nobody can read it, the order goes on all the same.
+            // A report that can't be written doesn't stop the order.
             let _ = writeln!(self.told, "{} records done", self.lines);
         }
     }
@@ -33,9 +33,9 @@ impl<W: Write> Meter<W> {
     }
 }
 
-/// An output of which a writer gets word: after every hundredth line how many there were.
+/// An output that reports to a writer after every hundredth line how many lines there were.
 ///
-/// It takes what the output takes, and fails where that fails, never for the writer's sake.
+/// It accepts what the output accepts, and fails if that fails, never because of the writer.
 #[derive(Drop)]
 pub struct ProgressSink<'a, O, W> {
     out: &'a mut O,
@@ -43,7 +43,7 @@ pub struct ProgressSink<'a, O, W> {
 }
 
 impl<'a, O: Sink, W: Write> ProgressSink<'a, O, W> {
-    /// The output, of which no line is counted yet.
+    /// Wraps an output of which no line is counted yet.
     pub fn new(out: &'a mut O, told: W) -> ProgressSink<'a, O, W>
         ensures { result.out.now ≡ out.old }
     {

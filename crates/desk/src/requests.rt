@@ -11,10 +11,10 @@ use register::ranges::LAST_LOT_STAGE;
 use register::{CandidateCommand, Command, CountCommand, KeyingCommand, Request};
 use std::alloc::{AllocError, Global};
 
-/// Who sends these requests: the office itself.
+/// The actor of these requests: the office itself.
 const OFFICE: u32 = 0;
 
-/// A request of the office itself.
+/// Returns a request of the office itself.
 pub(crate) fn by_office(id: String, command: Command) -> Request
     ensures { sent_as result ≡ by_office (string_bytes id) (asked_by command) }
 {
@@ -25,7 +25,7 @@ pub(crate) fn by_office(id: String, command: Command) -> Request
     }
 }
 
-/// A request of a clerk himself.
+/// Returns a request of a clerk.
 pub(crate) fn by_clerk(clerk: u32, id: String, command: Command) -> Request
     ensures { sent_as result ≡ by_clerk clerk (string_bytes id) (asked_by command) }
 {
@@ -36,7 +36,7 @@ pub(crate) fn by_clerk(clerk: u32, id: String, command: Command) -> Request
     }
 }
 
-/// The request that keeps a clerk's keying of these papers, sent by the clerk.
+/// Returns the request that stores a clerk's keying of these papers, sent by the clerk.
 pub(crate) fn keying_request(
     alloc: Global,
     keying: KeyingFile<'_>,
@@ -54,14 +54,14 @@ pub(crate) fn keying_request(
 }
 
 #[tactic(auto, unfolding(crate::specs::Requests::id_at))]
-/// The id of the request for the record of some number: the order's, a hyphen, and that number.
+/// Returns the id of the request for the record of some number: the order's, a hyphen, and that number.
 fn id_at(alloc: Global, id: &str, number: usize) -> Result<String, AllocError>
     ensures { IfOk result (λ text. string_bytes text ≡ id_at id.now number) }
 {
     format!(in alloc; "{id}-{number}")
 }
 
-/// The request that adds the candidate of the record of some number.
+/// Returns the request that adds the candidate of the record of some number.
 fn request_at(
     alloc: Global,
     id: &str,
@@ -79,7 +79,7 @@ fn request_at(
     Ok(by_office(id, Command::Candidate(command)))
 }
 
-/// The requests that add the candidates of a file, one a record.
+/// Returns the requests that add the candidates of a file, one per record.
 pub(crate) fn requests_for(
     alloc: Global,
     id: &str,
@@ -94,7 +94,7 @@ pub(crate) fn requests_for(
     Ok(requests)
 }
 
-/// The request that counts a stage of a ward, the one of some number in its order.
+/// Returns the request that counts a stage of a ward, with this number in its order.
 fn advance_at(alloc: Global, ward: u32, id: &str, number: usize) -> Result<Request, AllocError>
     ensures { IfOk result (λ request. sent_as request ≡ advance_at ward id.now number) }
 {
@@ -102,14 +102,14 @@ fn advance_at(alloc: Global, ward: u32, id: &str, number: usize) -> Result<Reque
     Ok(by_office(id, Command::Count(CountCommand::Advance { ward })))
 }
 
-/// The highest stage that a count can have. At most 30 candidates stand, and each stage behind the first one transfers
-/// the papers of one of them, who is done with then. So that is the last stage for which a lot may be drawn.
+/// The highest stage that a count can have. There are at most 30 candidates, and each stage after the first transfers the papers of
+/// one of them, who then needs no further stage. So this is the last stage for which a lot may be drawn.
 const LAST_STAGE: u32 = LAST_LOT_STAGE;
 
-/// The most requests of an order that counts: one more than that, which is refused.
+/// The maximum number of requests of an order that counts: one more than the stages, which is refused.
 const MOST_ADVANCES: usize = LAST_STAGE as usize + 1;
 
-/// The requests that count the stages of a ward, from the first on, as many as an order may send.
+/// Returns the requests that count the stages of a ward, from the first on, as many as an order may send.
 pub(crate) fn advances(alloc: Global, ward: u32, id: &str) -> Result<Vec<Request>, AllocError>
     ensures { IfOk result (λ requests. map sent_as requests.items ≡ advances ward id.now most_advances) }
 {

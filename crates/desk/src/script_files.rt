@@ -1,4 +1,4 @@
-//! The files that a script names, for who hands it over: they go with it.
+//! The files that a script names, for a client that sends them along with it.
 
 ghost use Rattle.std.specs.Prelude.{◌≡◌, IfOk, map, string_bytes};
 ghost use Rattle.desk.specs.ScriptFiles.{AreNamedIn, files_of};
@@ -6,7 +6,7 @@ ghost use Rattle.desk.specs.ScriptFiles.{AreNamedIn, files_of};
 use crate::scripts::{ScriptFault, ScriptStep, all_said, lines_in, turns_in};
 use std::alloc::{AllocError, Global};
 
-/// The paths of the files that turns read, in turn; a path that several turns read comes as often.
+/// Returns the paths of the files that steps read, in order and with repetitions.
 fn files_of(alloc: Global, turns: &[ScriptStep<'_>]) -> Result<Vec<String>, AllocError>
     ensures { IfOk result (λ paths. map string_bytes paths.items ≡ files_of turns.now) }
 {
@@ -19,8 +19,8 @@ fn files_of(alloc: Global, turns: &[ScriptStep<'_>]) -> Result<Vec<String>, Allo
     Ok(paths)
 }
 
-/// The paths of the files that the lines of a script name, in turn. A text of which a
-/// line isn't understood names none: the order reports that line, and opens no file.
+/// Returns the paths of the files that the lines of a script name, in order. If a line isn't understood, there are none: the order
+/// reports that line, and opens no file.
 pub fn files_named_in(alloc: Global, script: &[u8]) -> Result<Vec<String>, AllocError>
     ensures { IfOk result (λ paths. AreNamedIn script.now (map string_bytes paths.items)) }
 {

@@ -1,4 +1,4 @@
-//! A script: orders in a text, a line each, read to errands.
+//! A script: orders in a text, one per line, parsed to errands.
 
 ghost use Rattle.std.specs.Prelude.{◌≡◌, false, map, IfErr, IfNone, IfOk, IfSome, Some};
 ghost use Rattle.desk.specs.Lexing.{IsFaultOfLine, IsFaultOfLines, line_entry, typed_line_entry, said_words};
@@ -24,20 +24,20 @@ pub(crate) enum Garbled {
 pub(crate) enum LineFlaw {
     /// It has no words.
     NoWords(Garbled),
-    /// The word of a verdict says none.
+    /// The word of a verdict is invalid.
     Verdict,
-    /// The word behind `--origin` is none.
+    /// The word after `--origin` is invalid.
     Origin,
-    /// The word behind `--sha256` is none.
+    /// The word after `--sha256` is invalid.
     Digest,
-    /// The words are no order; this is printed of them.
+    /// The words aren't an order; this is printed for them.
     Words(String),
-    /// The order stands in no script.
+    /// The order isn't allowed in a script.
     Elsewhere,
 }
 
 impl LineFlaw {
-    /// What is printed of it, its lines ended.
+    /// Returns what is printed for it; its lines are terminated.
     pub(crate) fn text(&self) -> &str
         ensures { result.now ≡ line_flaw_text self.now }
     {
@@ -53,37 +53,37 @@ impl LineFlaw {
     }
 }
 
-/// Why a text is no script.
+/// Why a text isn't a script.
 #[derive(Drop)]
 pub(crate) enum ScriptFault {
-    /// Memory was wanting.
+    /// An allocation failed.
     Memory,
-    /// This is wrong with the line of this number.
+    /// The line of this number has this flaw.
     ScriptLine(usize, LineFlaw),
 }
 
-/// A line that isn't passed over: its number, from 1 on, and its words, None where a quote isn't closed.
+/// A line that isn't skipped: its number, from 1 on, and its words; None if a quote isn't closed.
 #[derive(Drop)]
 pub(crate) struct ScriptLine {
     number: usize,
     words: Option<Vec<Vec<u8>>>,
 }
 
-/// A line as it would be typed behind the program's name.
+/// A line as it would be typed after the program's name.
 #[derive(Drop)]
 pub(crate) struct TypedLine<'a> {
     number: usize,
     words: Result<Vec<&'a str>, Garbled>,
 }
 
-/// An errand whose turn comes, and the number of its line, where it is one of a script.
+/// An errand to run, and the number of its line if it is one of a script.
 #[derive(Drop)]
 pub(crate) struct ScriptStep<'a> {
     pub(crate) line: Option<usize>,
     pub(crate) errand: Errand<'a>,
 }
 
-/// The lines of a text that aren't passed over, of all its lines.
+/// Returns those of the lines of a text that aren't skipped, with their numbers.
 fn numbered(alloc: Global, all: &[Vec<u8>]) -> Result<Vec<ScriptLine>, AllocError>
     ensures { IfOk result (λ lines. map line_entry lines.items ≡ numbered_from 1 (map (λ line. line.items) all.now)) }
 {
@@ -99,14 +99,14 @@ fn numbered(alloc: Global, all: &[Vec<u8>]) -> Result<Vec<ScriptLine>, AllocErro
     Ok(lines)
 }
 
-/// The lines of a text that aren't passed over.
+/// Returns the lines of a text that aren't skipped.
 pub(crate) fn lines_in(alloc: Global, text: &[u8]) -> Result<Vec<ScriptLine>, AllocError>
     ensures { IfOk result (λ lines. map line_entry lines.items ≡ numbered_from 1 (lines_of text.now)) }
 {
     numbered(alloc, &lexer::lines_of(alloc, text)?)
 }
 
-/// Words as they would be typed, or that one isn't UTF-8.
+/// Returns words as they would be typed, or that one isn't UTF-8.
 fn texts_of<'a>(
     alloc: Global,
     words: &'a [Vec<u8>],
@@ -123,7 +123,7 @@ fn texts_of<'a>(
     Ok(Ok(texts))
 }
 
-/// A line as it would be typed.
+/// Returns a line as it would be typed.
 fn as_typed<'a>(alloc: Global, line: &'a ScriptLine) -> Result<TypedLine<'a>, AllocError>
     ensures { IfOk result (λ said. typed_line_entry said ≡ typed_line (line_entry line.now)) }
 {
@@ -137,7 +137,7 @@ fn as_typed<'a>(alloc: Global, line: &'a ScriptLine) -> Result<TypedLine<'a>, Al
     })
 }
 
-/// Lines as they would be typed.
+/// Returns lines as they would be typed.
 pub(crate) fn all_said<'a>(
     alloc: Global,
     lines: &'a [ScriptLine],
@@ -151,7 +151,7 @@ pub(crate) fn all_said<'a>(
     Ok(all)
 }
 
-/// The errand that an order is, if it is one.
+/// Returns the errand of an order, if it has one.
 fn errand_of(order: Order<'_>) -> Option<Errand<'_>>
     ensures some { IfSome result (λ errand. order.entry ≡ Order.Perform (Task.InOffice (Job.Run errand))) }
     ensures none { IfNone result (stands_in_script order.entry ≡ false) }
@@ -164,7 +164,7 @@ fn errand_of(order: Order<'_>) -> Option<Errand<'_>>
     }
 }
 
-/// The errand that words mean, or what is wrong with them; None where memory was wanting.
+/// Returns the errand that words mean, or what is wrong with them; None if an allocation failed.
 fn errand_in<'a>(alloc: Global, words: &'a [&'a str]) -> Result<Errand<'a>, Option<LineFlaw>>
     ensures ok { IfOk result (λ errand. Means (map (λ s. s.now) words.entry.now) errand) }
     ensures err { IfErr result (λ why. IfSome why (λ flaw. IsFlawOfWords (map (λ s. s.now) words.entry.now) flaw)) }
@@ -184,7 +184,7 @@ fn errand_in<'a>(alloc: Global, words: &'a [&'a str]) -> Result<Errand<'a>, Opti
     }
 }
 
-/// The turn that a line is, or what is wrong with it.
+/// Returns the step of a line, or what is wrong with it.
 fn turn_in<'a, 'b>(alloc: Global, said: &'a TypedLine<'b>) -> Result<ScriptStep<'a>, ScriptFault>
     ensures ok { IfOk result (λ turn. IsTurn (typed_line_entry said.entry.now) turn) }
     ensures err { IfErr result (λ fault. IsFaultOfLine (typed_line_entry said.entry.now) fault) }
@@ -203,7 +203,7 @@ fn turn_in<'a, 'b>(alloc: Global, said: &'a TypedLine<'b>) -> Result<ScriptStep<
     }
 }
 
-/// The turns of a script, one a line; or what is wrong with the first line that is none.
+/// Returns the steps of a script, one per line; or what is wrong with the first line that isn't one.
 pub(crate) fn turns_in<'a, 'b>(
     alloc: Global,
     lines: &'a [TypedLine<'b>],

@@ -1,11 +1,11 @@
-//! Requests sent to an office, and what came of them.
+//! Sending requests to an office, and their outcomes.
 
 ghost use Rattle.std.specs.Prelude.{◌≡◌, ◌-◌, ◌^◌, ◌<◌, ℕ, Ok, string_bytes};
 ghost use Rattle.sqlite.specs.State.{HasCleanDisk};
 ghost use Rattle.sqlite.specs.Held.{state};
-ghost use Rattle.register.specs.Keepings.{is_kept_otherwise};
+ghost use Rattle.register.specs.Repeats.{is_kept_otherwise};
 ghost use Rattle.tables.specs.Reading.{OnlyReads};
-ghost use Rattle.store.specs.Offices.{Wears};
+ghost use Rattle.store.specs.StateTables.{KeepsConnection};
 ghost use Rattle.office.specs.Answers.{WhenOpenAt};
 ghost use Rattle.desk.specs.Headline.{IsAnswered, IsSent};
 ghost use Rattle.desk.specs.Pages.{Tells, goes_on, outputs_of, page_for, page_kept, page_of, status_behind};
@@ -18,30 +18,29 @@ use sqlite::Alter;
 use store::Fault;
 use streams::Sink;
 
-/// Whether an order goes on after a page of this status: after one of status 0, and after a refusal where it is to keep
-/// going.
+/// Returns whether an order continues after a page of this status: after status 0, and with `keep_going` after a refusal.
 pub(crate) fn goes_on(keep_going: bool, status: u8) -> bool
     ensures { result ≡ goes_on keep_going status }
 {
     status == 0 || (keep_going && status == 1)
 }
 
-/// The status behind another one: that of the last page that has one other than 0.
+/// Returns the status after one more page: the last one other than 0.
 pub(crate) fn status_behind(before: u8, status: u8) -> u8
     ensures { result ≡ status_behind before status }
 {
     if status == 0 { before } else { status }
 }
 
-/// Returns what comes of a request that was kept before: its reply, with a note if what is kept differs from what the request says
-/// now. A fault of that read comes in place of the reply.
+/// Returns the outcome of a request that was accepted before: its reply, with a note if the stored content differs from the request's.
+/// A fault of that read replaces the reply.
 fn kept_before<S: Alter>(office: &mut Office<S>, request: &Request, reply: Reply) -> LineOutcome
     ensures found { WhenOpenAt (state S.Store) office.old office.new
         (λ s. IsFound s (page_kept (string_bytes request.now.id) (string_bytes reply)) (Ok (is_kept_otherwise s request.now)) (page_of result)
         office.new.closed (state S.Store office.old.held) (state S.Store office.new.held)) }
     ensures same { OnlyReads (state S.Store office.old.held) (state S.Store office.new.held) }
 {
-    match office.keeps_other(request) {
+    match office.differs_from_stored(request) {
         Ok(false) => LineOutcome::Replied(reply),
         Ok(true) => match request.id.clone() {
             Ok(id) => LineOutcome::Noted { reply, id },
@@ -52,11 +51,11 @@ fn kept_before<S: Alter>(office: &mut Office<S>, request: &Request, reply: Reply
     }
 }
 
-/// What comes of one request to an office.
+/// Sends one request to an office, and returns its outcome.
 fn outcome_of<S: Alter>(office: &mut Office<S>, request: &Request) -> LineOutcome
     ensures told { WhenOpenAt (state S.Store) office.old office.new
         (λ s. (answered : ℕ) × IsAnswered (state S.Store office.old.held) office.new.closed (state S.Store office.new.held) page_for s request.now answered (page_of result)) }
-    ensures wears { Wears (state S.Store office.old.held) (state S.Store office.new.held) }
+    ensures keeps_connection { KeepsConnection (state S.Store office.old.held) (state S.Store office.new.held) }
     ensures clean { HasCleanDisk (state S.Store office.new.held) → HasCleanDisk (state S.Store office.old.held) }
 {
     match office.handle(request.actor, request.id.as_str(), &request.command) {
@@ -67,10 +66,10 @@ fn outcome_of<S: Alter>(office: &mut Office<S>, request: &Request) -> LineOutcom
     }
 }
 
-/// Sends requests to an office in turn, and prints each reply, with a note if a request was kept before
-/// with other words. The first fault ends it, and is printed too. So does the first
-/// output that fails; and the first refusal, but where the order is to keep going. If the requests are those of a script's line,
-/// a refusal or fault is printed behind the number of that line. The status is the last one other than 0 that came of them.
+/// Sends requests to an office in turn, and prints each reply, with a note if a request was accepted before with other content. The
+/// first fault ends it, and is printed too. So does the first output that fails; and, without `keep_going`, the first refusal. If the
+/// requests are those of a script's line, a refusal or fault is printed after that line's number. The status is the last one other
+/// than 0.
 pub(crate) fn send_all<S: Alter, O: Sink, E: Sink>(
     office: &mut Office<S>,
     keep_going: bool,
@@ -85,7 +84,7 @@ pub(crate) fn send_all<S: Alter, O: Sink, E: Sink>(
         (λ cut page. WhenOpenAt (state S.Store) office.old office.new (λ s. ComesTo cut page (λ course.
         IsSent (state S.Store office.old.held) office.new.closed (state S.Store office.new.held) keep_going line page_for (IsOver office.new.closed
         (state S.Store office.new.held)) s requests.now course))) }
-    ensures wears { Wears (state S.Store office.old.held) (state S.Store office.new.held) }
+    ensures keeps_connection { KeepsConnection (state S.Store office.old.held) (state S.Store office.new.held) }
     ensures clean { HasCleanDisk (state S.Store office.new.held) → HasCleanDisk (state S.Store office.old.held) }
 {
     let mut ends = 0;

@@ -3,8 +3,8 @@
 ghost use Rattle.std.specs.Prelude.{◌≡◌, ◌++◌, IfOk, map, string_bytes};
 ghost use Rattle.sqlite.specs.Held.{state};
 ghost use Rattle.register.specs.Offices.{candidate_entry};
-ghost use Rattle.register.specs.Standings.{status_entry};
-ghost use Rattle.register.specs.Steps.{step_entry};
+ghost use Rattle.register.specs.Status.{status_entry};
+ghost use Rattle.register.specs.NextSteps.{step_entry};
 ghost use Rattle.tables.specs.Reading.{OnlyReads};
 ghost use Rattle.office.specs.Reads.{next_told};
 ghost use Rattle.office.specs.Answers.{WhenOpenAt};
@@ -12,8 +12,8 @@ ghost use Rattle.desk.specs.Parts.{IsFound};
 ghost use Rattle.desk.specs.Pages.{page_of, replied};
 ghost use Rattle.desk.specs.Steps.{action_words, all_named, due_words, lot_words, named, named_behind, nominations_words, papers_words, seal_words, step_text, step_words, taken_words};
 
+use crate::candidate_names::candidate_in;
 use crate::lines::LineOutcome;
-use crate::names::candidate_in;
 use count::{Action, Due, TiedFor};
 use office::{Office, Stop};
 use paper::Columns;
@@ -25,7 +25,7 @@ use store::Fault;
 // ---- candidates
 
 #[tactic(auto, unfolding(crate::specs::Steps::named))]
-/// A number, and the name of the candidate who has it: `3 Cy`.
+/// Returns a number and the name of its candidate: `3 Cy`.
 fn named(alloc: Global, candidates: &[Candidate], number: u8) -> Result<String, AllocError>
     ensures { IfOk result (λ text. string_bytes text ≡ named (map candidate_entry candidates.now) number) }
 {
@@ -38,7 +38,7 @@ fn named(alloc: Global, candidates: &[Candidate], number: u8) -> Result<String, 
     }
 }
 
-/// Puts a candidate behind others: `, 3 Cy`.
+/// Appends a candidate to others: `, 3 Cy`.
 fn put_named(
     alloc: Global,
     text: &mut String,
@@ -53,7 +53,7 @@ fn put_named(
 }
 
 #[tactic(auto, unfolding(crate::specs::Steps::all_named))]
-/// Several candidates: `2 Bob, 3 Cy`.
+/// Returns several candidates: `2 Bob, 3 Cy`.
 fn all_named(
     alloc: Global,
     candidates: &[Candidate],
@@ -74,7 +74,7 @@ fn all_named(
 // ---- what is due in a count
 
 #[tactic(auto, unfolding(crate::specs::Steps::action_words))]
-/// What is done at a stage, and of whom.
+/// Returns what a stage does, and with which candidates.
 fn action_words(
     alloc: Global,
     candidates: &[Candidate],
@@ -99,7 +99,7 @@ fn action_words(
     }
 }
 
-/// What a lot decides.
+/// Returns what a lot decides.
 fn lot_words(kind: TiedFor) -> &'static str
     ensures { result.now ≡ lot_words kind }
 {
@@ -110,7 +110,7 @@ fn lot_words(kind: TiedFor) -> &'static str
 }
 
 #[tactic(auto, unfolding(crate::specs::Steps::due_words))]
-/// The stage that is due, or the lot that it waits for, or that nothing is.
+/// Returns the stage that is due, the lot that it waits for, or that there is none.
 fn due_words(
     alloc: Global,
     stage: u32,
@@ -137,7 +137,7 @@ fn due_words(
 // ---- what comes next
 
 #[tactic(auto, unfolding(crate::specs::Steps::nominations_words))]
-/// How many candidates there are for how many seats, before the nominations are closed.
+/// Returns how many candidates there are for how many seats, before the nominations are closed.
 fn nominations_words(alloc: Global, candidates: usize, seats: u32) -> Result<String, AllocError>
     ensures { IfOk result (λ text. string_bytes text ≡ nominations_words candidates seats) }
 {
@@ -147,7 +147,7 @@ fn nominations_words(alloc: Global, candidates: usize, seats: u32) -> Result<Str
 }
 
 #[tactic(auto, unfolding(crate::specs::Steps::seal_words))]
-/// What the seal of a ward waits for: it is due once all batches are taken, and all their doubtful papers are judged.
+/// Returns what the seal of a ward waits for: it is due once all batches are taken, and all their doubtful papers have a verdict.
 fn seal_words(status: &Status) -> &'static str
     ensures { result.now ≡ seal_words (status_entry status.now) }
 {
@@ -161,7 +161,7 @@ fn seal_words(status: &Status) -> &'static str
 }
 
 #[tactic(auto, unfolding(crate::specs::Steps::taken_words))]
-/// How many batches of a ward are taken, and how many differ.
+/// Returns how many batches of a ward are taken, and how many differ.
 fn taken_words(alloc: Global, status: &Status) -> Result<String, AllocError>
     ensures { IfOk result (λ text. string_bytes text ≡ taken_words (status_entry status.now)) }
 {
@@ -170,7 +170,7 @@ fn taken_words(alloc: Global, status: &Status) -> Result<String, AllocError>
 }
 
 #[tactic(auto, unfolding(crate::specs::Steps::papers_words))]
-/// How the papers of a ward stand, before its seal.
+/// Returns the state of the papers of a ward, before its seal.
 fn papers_words(alloc: Global, status: &Status) -> Result<String, AllocError>
     ensures { IfOk result (λ text. string_bytes text ≡ papers_words (status_entry status.now)) }
 {
@@ -180,7 +180,7 @@ fn papers_words(alloc: Global, status: &Status) -> Result<String, AllocError>
 }
 
 #[tactic(auto, unfolding(crate::specs::Steps::step_words))]
-/// What comes next, by how far the ward has come.
+/// Returns what comes next, in words.
 fn step_words(alloc: Global, step: &NextStep) -> Result<String, AllocError>
     ensures { IfOk result (λ text. string_bytes text ≡ step_words (step_entry step.now)) }
 {
@@ -199,7 +199,7 @@ fn step_words(alloc: Global, step: &NextStep) -> Result<String, AllocError>
 }
 
 #[tactic(auto, unfolding(crate::specs::Steps::step_text))]
-/// The line on what comes next in a ward, without its end.
+/// Returns the line on what comes next in a ward, without its end.
 fn step_text(alloc: Global, ward: u32, step: &NextStep) -> Result<String, AllocError>
     ensures { IfOk result (λ text. string_bytes text ≡ step_text ward (step_entry step.now)) }
 {
@@ -207,7 +207,7 @@ fn step_text(alloc: Global, ward: u32, step: &NextStep) -> Result<String, AllocE
     format!(in alloc; "ward {ward}: {words}")
 }
 
-/// What comes next in a ward, in words; or why that can't be had.
+/// Returns what comes next in a ward, in words; or why it isn't available.
 pub(crate) fn next_of<S: Alter>(alloc: Global, office: &mut Office<S>, ward: u32) -> LineOutcome
     ensures found { WhenOpenAt (state S.Store) office.old office.new
         (λ s. IsFound s (λ step. replied (step_text ward step)) (next_told s ward) (page_of result) office.new.closed (state S.Store office.old.held) (state S.Store office.new.held)) }

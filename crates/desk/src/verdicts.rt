@@ -6,14 +6,14 @@ ghost use Rattle.desk.specs.Verdicts.{behind, judgement_given, judgement_in, rej
 use register::Verdict;
 use std::alloc::{AllocError, Global};
 
-/// What stands behind a front in a text, None where the text doesn't begin with it.
+/// Returns the text after a prefix; None if the text doesn't begin with it.
 fn behind<'a>(front: &str, text: &'a str) -> Option<&'a str>
     ensures { option_map (λ t. t.now) result ≡ behind front.now text.now }
 {
     text.strip_prefix(front)
 }
 
-/// A rejection for the reason of a code.
+/// Returns a rejection for the reason with a code.
 fn rejection_in(code: &str) -> Option<Verdict>
     ensures { option_map judgement_given result ≡ rejection_in (Some code.now) }
 {
@@ -23,7 +23,7 @@ fn rejection_in(code: &str) -> Option<Verdict>
     }
 }
 
-/// The verdict that a word says, if it says one, its marks copied.
+/// Parses the verdict in a word, if there is one, and copies its marks.
 pub(crate) fn verdict_in(alloc: Global, text: &str) -> Result<Option<Verdict>, AllocError>
     ensures { IfOk result (λ verdict. option_map judgement_given verdict ≡ judgement_in text.now) }
 {

@@ -1,8 +1,8 @@
-//! How the election of a ward stands, in a line.
+//! The status of the election of a ward, in a line.
 
 ghost use Rattle.std.specs.Prelude.{◌≡◌, IfOk, string_bytes};
 ghost use Rattle.sqlite.specs.Held.{state};
-ghost use Rattle.register.specs.Standings.{status_entry};
+ghost use Rattle.register.specs.Status.{status_entry};
 ghost use Rattle.tables.specs.Reading.{OnlyReads};
 ghost use Rattle.office.specs.Reads.{status_told};
 ghost use Rattle.office.specs.Answers.{WhenOpenAt};
@@ -29,7 +29,7 @@ pub(crate) fn phase_word(phase: Phase) -> &'static str
 }
 
 #[tactic(auto, unfolding(crate::specs::WardStatus::ward_words))]
-/// The ward, its phase and its candidates.
+/// Returns the ward, its phase and its candidates in words.
 fn ward_words(alloc: Global, status: &Status) -> Result<String, AllocError>
     ensures { IfOk result (λ text. string_bytes text ≡ ward_words (status_entry status.now)) }
 {
@@ -39,7 +39,7 @@ fn ward_words(alloc: Global, status: &Status) -> Result<String, AllocError>
 }
 
 #[tactic(auto, unfolding(crate::specs::WardStatus::batch_words))]
-/// Its batches.
+/// Returns its batches in words.
 fn batch_words(alloc: Global, status: &Status) -> Result<String, AllocError>
     ensures { IfOk result (λ text. string_bytes text ≡ batch_words (status_entry status.now)) }
 {
@@ -48,7 +48,7 @@ fn batch_words(alloc: Global, status: &Status) -> Result<String, AllocError>
 }
 
 #[tactic(auto, unfolding(crate::specs::WardStatus::count_words))]
-/// What is open, and how far its count is.
+/// Returns what is open, and how far its count is.
 fn count_words(alloc: Global, status: &Status) -> Result<String, AllocError>
     ensures { IfOk result (λ text. string_bytes text ≡ count_words (status_entry status.now)) }
 {
@@ -57,7 +57,7 @@ fn count_words(alloc: Global, status: &Status) -> Result<String, AllocError>
 }
 
 #[tactic(auto, unfolding(crate::specs::WardStatus::status_text))]
-/// The line on how a ward stands, without its end.
+/// Returns the status line of a ward, without its end.
 pub(crate) fn status_text(alloc: Global, status: &Status) -> Result<String, AllocError>
     ensures { IfOk result (λ text. string_bytes text ≡ status_text (status_entry status.now)) }
 {
@@ -67,7 +67,7 @@ pub(crate) fn status_text(alloc: Global, status: &Status) -> Result<String, Allo
     format!(in alloc; "{ward}, {batches}, {count}")
 }
 
-/// How a ward stands, in words; or why that can't be had.
+/// Returns the status of a ward in words, or why it isn't available.
 pub(crate) fn standing_of<S: Alter>(alloc: Global, office: &mut Office<S>, ward: u32) -> LineOutcome
     ensures found { WhenOpenAt (state S.Store) office.old office.new
         (λ s. IsFound s (λ status. replied (status_text status)) (status_told s ward) (page_of result) office.new.closed (state S.Store office.old.held) (state S.Store office.new.held)) }

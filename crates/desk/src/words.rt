@@ -1,4 +1,4 @@
-//! The words of the command line, read to one order.
+//! The words of the command line, parsed to an order.
 
 ghost use Rattle.std.specs.Prelude.{◌≡◌, ◌≢◌, ◌⊎◌, ◌∷◌, true, false, [], Some, map, string_bytes, IfOk, IfErr};
 ghost use Rattle.clap.specs.Words.{app_of, rule_of, subcommand_of, takes, with_rule, with_subcommand};
@@ -26,7 +26,7 @@ candidates, their batches of papers as the clerks keyed them, and a receipt of e
 that it accepted: the same request, sent again under the same id, prints the same reply and
 changes nothing.";
 
-/// The end of the help: the orders of [`Heading::Office`] and of [`Heading::Everyone`], and what comes of orders.
+/// The end of the help: the orders of [`Heading::Office`] and of [`Heading::Everyone`], and the outcomes of orders.
 const END_OF_HELP: &str =
     "For the office alone. The first seven change nothing, and no clerk is to see what they print:
   wards              How each ward stands, and what is left to do
@@ -57,34 +57,33 @@ error, with status 1; words that are not understood with 2, and faults with 3.
 docs/ELECTION.md leads through an election, order by order. docs/REFUSALS.md says what each
 refusal and each fault means, and what to do about it.";
 
-/// What is printed of words that aren't understood, where nothing else is.
+/// What is printed for words that aren't understood, if nothing else is.
 const NOT_UNDERSTOOD: &str = "error: the words are not understood\n";
 
-/// What is printed of a word behind `--origin` that is none.
+/// What is printed if the word after `--origin` is invalid.
 pub(crate) const BAD_ORIGIN: &str =
     "error: an origin is http:// or https://, a host in small letters, and its port where it isn't the usual one, as https://count.example.org\n";
 
-/// What is printed of a word behind `--sha256` that is none.
+/// What is printed if the word after `--sha256` is invalid.
 pub(crate) const BAD_DIGEST: &str =
     "error: a digest is 64 hexadecimal digits, as sha256sum prints them\n";
 
-/// Why the words are no order.
+/// Why the words aren't an order.
 #[derive(Drop)]
 pub enum WordsFault {
-    /// Memory was wanting.
+    /// An allocation failed.
     Memory,
-    /// The word of a verdict says none.
+    /// The word of a verdict is invalid.
     Verdict,
-    /// The word behind `--origin` is none.
+    /// The word after `--origin` is invalid.
     Origin,
-    /// The word behind `--sha256` is none.
+    /// The word after `--sha256` is invalid.
     Digest,
-    /// The text to print, and the status to end with: 0 where help was asked for, and 2 where the
-    /// words are not understood.
+    /// The text to print, and the exit status: 0 if help was asked for, and 2 if the words aren't understood.
     Words { text: String, status: u8 },
 }
 
-/// The rule that `clap` gets for a word.
+/// Returns the `clap` rule for a word.
 fn arg_of<'a>(alloc: Global, word: Word) -> Arg<'a>
     ensures rule { rule_of result ≡ rule_of_kind word.kind word.name.now }
     ensures local { result.global ≡ false }
@@ -120,7 +119,7 @@ fn with_word<'a>(alloc: Global, command: Command<'a>, word: Word) -> Result<Comm
     command.arg(arg_of(alloc, word))
 }
 
-/// The command that reads the words of one order.
+/// Returns the command that parses the words of one order.
 fn order_command<'a>(alloc: Global, entry: Entry) -> Result<Command<'a>, AllocError>
     ensures app { IfOk result (λ c. app_of c ≡ order_words (words_of entry)) }
     ensures local { IfOk result (λ c. (fields_of c).has_globals ≡ false) }
@@ -147,7 +146,7 @@ fn start_command<'a>(alloc: Global) -> Command<'a>
         .disable_help_subcommand(true)
 }
 
-/// Shows the program by its name, where usage would show DB.
+/// Makes usage show the program's name in place of DB.
 fn named<'a>(command: Command<'a>) -> Result<Command<'a>, AllocError>
     ensures app { IfOk result (λ c. app_of c ≡ app_of command.entry) }
     ensures local { (fields_of command.entry).has_globals ≡ false → IfOk result (λ c. (fields_of c).has_globals ≡ false) }
@@ -182,7 +181,7 @@ fn with_orders<'a>(
 }
 
 #[tactic(auto, unfolding(crate::specs::Words::office_words))]
-/// The command that reads the words.
+/// Returns the command that parses the words.
 fn office_command<'a>(alloc: Global) -> Result<Command<'a>, AllocError>
     ensures app { IfOk result (λ c. app_of c ≡ office_words) }
     ensures local { IfOk result (λ c. (fields_of c).has_globals ≡ false) }
@@ -191,7 +190,7 @@ fn office_command<'a>(alloc: Global) -> Result<Command<'a>, AllocError>
     with_orders(alloc, command, entries_from_seal())
 }
 
-/// The status that the program ends with where words ask for help or the version, or are not understood.
+/// Returns the exit status if words ask for help or the version, or aren't understood.
 fn status_of(kind: ErrorKind) -> u8
     ensures { result ≡ status_of_kind kind }
 {
@@ -201,7 +200,7 @@ fn status_of(kind: ErrorKind) -> u8
     }
 }
 
-/// What something displays; where that is nothing, that the words aren't understood.
+/// Returns what a value displays; if that is empty, that the words aren't understood.
 fn text_of<D: Display>(alloc: Global, shown: &D) -> Result<String, AllocError>
     ensures some { IfOk result (λ text. string_bytes text ≢ []) }
     ensures own { IfOk result (λ text. IsOwnText (D.output shown.now) (string_bytes text)) }
@@ -214,9 +213,9 @@ fn text_of<D: Display>(alloc: Global, shown: &D) -> Result<String, AllocError>
     }
 }
 
-/// What is printed of words that `clap` doesn't take: the text that its error displays, by the kind of the error.
+/// Returns what is printed for words that `clap` rejects: the text that its error displays, by the kind of the error.
 ///
-/// `clap` states nothing of that text. So the error is any value that displays itself, of which nothing else can be known than that.
+/// `clap` guarantees nothing about that text. So the error is any value that displays itself, of which nothing else is known.
 fn refused<D: Display>(alloc: Global, kind: ErrorKind, shown: &D) -> WordsFault
     ensures memory { kind ≡ ErrorKind.OutOfMemory → result ≡ WordsFault.Memory }
     ensures told { TellsRefusal kind result }
@@ -234,7 +233,7 @@ fn refused<D: Display>(alloc: Global, kind: ErrorKind, shown: &D) -> WordsFault
     }
 }
 
-/// What is printed of the version.
+/// Returns what is printed for the version.
 fn version_told(alloc: Global) -> WordsFault
     ensures told { TellsRefusal ErrorKind.DisplayVersion result }
     ensures text { TellsOwnText (Some version_text) result }
@@ -245,7 +244,7 @@ fn version_told(alloc: Global) -> WordsFault
     }
 }
 
-/// What is printed of words that `clap` doesn't take: the version, where they ask for it, and else what its error displays.
+/// Returns what is printed for words that `clap` rejects: the version if they ask for it, and else what its error displays.
 fn denied(alloc: Global, kind: ErrorKind, error: &Error) -> WordsFault
     ensures memory { kind ≡ ErrorKind.OutOfMemory → result ≡ WordsFault.Memory }
     ensures told { TellsRefusal kind result }
@@ -257,12 +256,12 @@ fn denied(alloc: Global, kind: ErrorKind, error: &Error) -> WordsFault
     refused(alloc, kind, error)
 }
 
-/// Reads the words, of which the first is DB, to one order.
+/// Parses the words, the first of which is DB, to an order.
 ///
-/// The order and its values are those that `clap` matches in the words, read by the table of orders. Words that `clap` takes are
-/// refused for want of memory; where the word of a verdict says none; where the word of an origin or of a digest is none; and for
-/// nothing else. Words that it doesn't take are no order. A text that isn't empty is printed of them. Its status is 0 where what
-/// is first wrong with them is that they ask for help or the version, and else 2. Or want of memory is reported.
+/// The order and its values are those that `clap` matches in the words, according to the table of orders. Words that `clap` accepts
+/// are refused only if an allocation fails, or if the word of a verdict, an origin or a digest is invalid. Words that it rejects
+/// aren't an order. A text that isn't empty is printed for them. Its status is 0 if the first thing wrong with them is that they ask
+/// for help or the version, and else 2. Or an allocation failure is reported.
 pub fn order<'a>(alloc: Global, words: &'a [&'a str]) -> Result<Order<'a>, WordsFault>
     ensures accepts { IfOk result (λ _. wrong_with (map (λ s. s.now) words.entry.now) ≡ []) }
     ensures denies { IfErr result (IsToldOf (wrong_with (map (λ s. s.now) words.entry.now))) }

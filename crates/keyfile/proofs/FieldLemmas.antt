@@ -10,7 +10,7 @@ use Rattle.csv.specs.Records.{field_at}
 use Rattle.csv.proofs.RecordFacts.{field-get, field-there}
 use Rattle.keyfile.specs.Records.{Record}
 
--- the field of a place that there is
+-- the field at an existing index
 pub field_got : (fields : Record) (i : ℕ) (found : Option (Bor (List ℕ))) (other field : Bor (List ℕ)) → option_map (λ s. s.now) found ≡ field_at fields i → i < length fields
     → field ≡ unwrap_or found other → field.now ≡ get_or fields i []
 field_got fields i None other field is there e = absurd (field-there fields i there (sym is))
@@ -23,7 +23,7 @@ no_text field not_text = by_test (is_utf8 field) refl
     by_test true is = absurd (not_text (IsUtf8-from_is_utf8 field is))
     by_test false is = refl
 
--- a field that isn't text
+-- a field that isn't UTF-8
 pub not_all_text : (fields : Record) (i : ℕ) (field : List ℕ) → i < length fields → field ≡ get_or fields i [] → ¬ (IsUtf8 field) → list_all is_utf8 fields ≡ false
 not_all_text fields i field there is not_text = list_all_at is_utf8 fields i [] there (ap is_utf8 (sym is) ∙ no_text field not_text)
 

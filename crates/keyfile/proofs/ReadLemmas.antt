@@ -1,4 +1,4 @@
--- What one read does to where a reader stands.
+-- The effect of one read on the position of a reader.
 use Rattle.std.proofs.Common.{◌≡◌, ◌≢◌, ◌∙◌, ◌∷◌, ◌++◌, ℕ, List, Option, Some, None, [], true, false, length, refl, sym, ap}
 use Rattle.std.specs.Prelude.{IfSome, option_map, unwrap_or}
 use Rattle.csv.specs.Machine.{next_record, Read}
@@ -15,7 +15,7 @@ use Rattle.keyfile.specs.Reading.{Known}
 use Rattle.keyfile.specs.Records.{Record, file_records}
 use Rattle.keyfile.proofs.RecordLemmas.{file-begins, file-whole}
 
--- no record was read of a file that was just opened
+-- no record was read of a newly opened file
 pub opened : (bytes : Option (List ℕ)) (s : State) → s ≡ st.StartRecord → Follows bytes [] s (option_map strip_bom bytes)
 unfolding Reached
 opened None s e = tt
@@ -52,7 +52,7 @@ module _ {R : Type 0} (rem : R → Option (List ℕ)) where
       let (z, at_z, reached) = rows-more rem a b fields default_config st.StartRecord (strip_bom xs) ys records after.config is h read in
       rw at_z reached
 
-  -- a read that gave a record
+  -- a read that returned a record
   pub read-more : (a b : Reader R) (bytes : Option (List ℕ)) (records : List Record) (fields : Record) → IsAfter rem bytes records a → ReadRecord rem a b true fields
       → ReadsOn a b → has_failed b ≡ has_failed a → IsNext rem bytes records fields b
   read-more a b bytes records fields after read on failed =
@@ -71,7 +71,7 @@ module _ {R : Type 0} (rem : R → Option (List ℕ)) where
         even = next.1;
       }
 
-  -- a read that gave none
+  -- a read that returned none
   pub read-end : (a b : Reader R) (bytes : Option (List ℕ)) (records : List Record) (fields : Record) → IsAfter rem bytes records a → ReadRecord rem a b false fields
       → Known bytes (λ xs. file_records xs ≡ records)
   read-end a b bytes records fields after read = by_bytes bytes (source_of rem a) (pending_of (rem b.rdr) b) (rw after.config at read.0) after.follows

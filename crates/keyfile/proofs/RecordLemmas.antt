@@ -1,4 +1,4 @@
--- The records that a reader gave one by one are the first of its file's records.
+-- The records that a reader returned one by one are the first of its file's records.
 use Rattle.std.proofs.Common.{◌≡◌, ◌∙◌, ◌<◌, ◌≤◌, ◌+◌, ◌++◌, ◌∷◌, ℕ, zero, suc, Bool, true, false, List, [], length, Some, None, refl, sym, ap, arith, inl, inr, cond}
 use Rattle.std.specs.Prelude.{◌⊎◌}
 use Rattle.std.proofs.lemmas.List.{append-nil}
@@ -10,7 +10,7 @@ use Rattle.csv.specs.declared.parser.State.TheVariants as st
 use Rattle.keyfile.specs.Records.{Record, file_records}
 use Rattle.keyfile.specs.Inside.{Begins}
 
--- a record takes a byte, where there is one
+-- a record consumes a byte, if there is one
 takes : (cfg : Config) (s : State) (fields : Record) (field : List ℕ) (b : ℕ) (xs : List ℕ) (p : Read) → next_record cfg s fields field (b ∷ xs) ≡ Some p
     → length p.2 ≤ length xs
 unfolding next_record
@@ -38,7 +38,7 @@ takes cfg s fields field b (c ∷ rest) p is =
     by_end true is ih = let same : c ∷ rest ≡ p.2 = cc in rw (← same) (omega arith)
     by_end false is ih = let shorter = ih is in omega (arith, shorter)
 
--- enough turns for the records of these bytes: one more than there are bytes; none where there is no record
+-- enough steps for the records of these bytes: one more than there are bytes; none if there is no record
 abbrev Suffices : ℕ → State → List ℕ → Type 0
 Suffices n s xs = (length xs < n) ⊎ ((xs ≡ []) × (ends_at_end s ≡ false))
 
@@ -88,7 +88,7 @@ unfolding records_from
 no_more records s ys zero end = append-nil records
 no_more records s ys (suc m) end = rw end (append-nil records)
 
--- and all of them, where no other follows
+-- and all of them, if no other follows
 pub file-whole : (bytes : List ℕ) (records : List Record) (s : State) (ys : List ℕ) → Reached default_config st.StartRecord (strip_bom bytes) records s ys
     → next_record default_config s [] [] ys ≡ None → file_records bytes ≡ records
 file-whole bytes records s ys h end = let (m, is) = reached-begins bytes records s ys h in is ∙ no_more records s ys m end

@@ -1,4 +1,4 @@
--- Import files, computed: their rows, and their faults.
+-- Import files in computed examples: their rows, and their faults.
 use Rattle.std.proofs.Common.{◌≡◌, ℕ, List, [], ◌∷◌, ◌++◌, codes, Result, Ok, Err, refl}
 use Rattle.std.specs.Str.{chars, is_utf8}
 use lib.Utf8.{encode}
@@ -15,7 +15,7 @@ use Rattle.keyfile.specs.declared.fault.Flaw.TheVariants.{Header, RecordLength, 
 abbrev keying_of : List ℕ → Result (List (List ℕ)) FileFault
 keying_of bytes = file_rows (keying (1 ∷ 2 ∷ 3 ∷ []) 12 4) (file_records bytes)
 
--- the same of the records behind its header
+-- that keying, by the records after its header
 abbrev papers_of : List ℕ → Result (List (List ℕ)) FileFault
 papers_of bytes = keying_of (codes "paper,1,2,3" ++ 10 ∷ bytes)
 
@@ -58,7 +58,7 @@ another_clerk : keying_of (codes "paper 12/9,1,2,3") ≡ Err (fault_at 0 (OtherK
 unfolding chars encode is_utf8 next_record records_from strip_bom
 another_clerk = refl
 
--- the file of a batch of another ward, which has other columns, names its batch all the same
+-- the file of a batch of another ward, which has other columns, is reported by the batch that it names
 another_ward : keying_of (codes "paper 13/9,1,2") ≡ Err (fault_at 0 (OtherKeying 13 9))
 unfolding chars encode is_utf8 next_record records_from strip_bom
 another_ward = refl
@@ -71,7 +71,7 @@ no_columns : keying_of (codes "paper 12/9") ≡ Err (fault_at 0 (OtherKeying 12 
 unfolding chars encode is_utf8 next_record records_from strip_bom
 no_columns = refl
 
--- where it names nobody, or this batch and this clerk, the columns decide
+-- if it names neither batch nor clerk, or this batch and this clerk, the columns decide
 own_with_other_columns : keying_of (codes "paper 12/4,1,2") ≡ Err (fault_at 0 Header)
 unfolding chars encode is_utf8 next_record records_from strip_bom
 own_with_other_columns = refl
@@ -88,7 +88,7 @@ nobody_without_papers : keying_of (codes "paper,1,2,3") ≡ Ok []
 unfolding chars encode is_utf8 next_record records_from strip_bom
 nobody_without_papers = refl
 
--- a first field that names none in its one spelling is no header
+-- a first field that names batch and clerk in any other spelling is no header
 mistyped_with_other_columns : keying_of (codes "paper 13/09,1,2") ≡ Err (fault_at 0 Header)
 unfolding chars encode is_utf8 next_record records_from strip_bom
 mistyped_with_other_columns = refl

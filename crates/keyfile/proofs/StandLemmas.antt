@@ -1,4 +1,4 @@
--- What is told of a file where its reader stands behind some of its records.
+-- What is reported for a file if its reader is after some of its records.
 use Rattle.std.proofs.Common.{◌≡◌, ◌∙◌, ◌≤◌, ◌+◌, ◌∷◌, ◌++◌, ℕ, true, false, List, [], length, Option, Some, None, Result, Ok, Err, refl, sym, ap, subst, arith, length-append, append_assoc}
 use Rattle.std.specs.Prelude.{IfErr}
 use Rattle.std.specs.Result.{IsErrAnd}
@@ -18,7 +18,7 @@ use Rattle.keyfile.proofs.ReadLemmas.{after-begins}
 at_header : (fault : FileFault) → fault.record_number ≡ 0 → fault ≡ fault_at 0 fault.flaw
 at_header fault at = rw (← at) refl
 
--- what is told of a file whose bytes are known
+-- what is reported for a file whose bytes are known
 abbrev pub Told : {Row : Type 0} → Format Row → Option (List ℕ) → FileFault → Type 0
 Told format bytes fault = Known bytes (λ xs. IsFaultOf format (file_records xs) fault)
 
@@ -27,7 +27,7 @@ known-map None f h = tt
 known-map (Some xs) f h = f xs h
 
 module _ {Row : Type 0} (format : Format Row) where
-  -- the own fault of a file, at a record that it has
+  -- the file's own fault, at a record that it has
   own_fault : (records : List Record) (fault : FileFault) → file_rows format records ≡ Err fault → fault.record_number ≤ length records → IsFaultOf format records fault
   own_fault records fault is within = record {
     own = λ _. is;
@@ -81,7 +81,7 @@ module _ {Row : Type 0} (format : Format Row) where
         by_flaw OtherFile is ends = absurd ends
 
     module _ (b : Reader R) (fields : Record) (next : IsNext rem bytes st.records fields b) where
-      -- a record more that is read as a row
+      -- one more record that is read as a row
       pub stands-more : (row : Row) → number ≤ format.most → read_as_text format number fields ≡ Ok row → StandsAt rem bytes format (number + 1) (rows ++ row ∷ []) b
       stands-more row few read =
           let some = some_record format st.records rows st.read in
@@ -113,7 +113,7 @@ module _ {Row : Type 0} (format : Format Row) where
   -- ---- the header
 
   module _ {R : Type 0} (rem : R → Option (List ℕ)) (bytes : Option (List ℕ)) where
-    -- the reading was stopped at the header: no fault stands before that
+    -- the reading was stopped at the header: no record before it has a fault
     pub header-stopped : (fault : FileFault) → fault.record_number ≡ 0 → is_stop fault.flaw ≡ true → Told format bytes fault
     header-stopped fault at stop = by_bytes bytes
       where

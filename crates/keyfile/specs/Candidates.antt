@@ -7,38 +7,38 @@ use Rattle.keyfile.specs.declared.candidates.CandidateRow.{CandidateRow}
 use Rattle.keyfile.specs.declared.fault.Flaw.{Flaw}
 use Rattle.keyfile.specs.declared.fault.Flaw.TheVariants.{Header, RecordLength, Number}
 
--- a candidate to be added: the ward's number, his number, his name
+-- a candidate to be added: the number of the ward, the number and the name of the candidate
 abbrev pub CandidateEntry : Type 0
 CandidateEntry = ℕ × ℕ × List ℕ
 
--- what a row stands for
+-- the entry of a row
 abbrev pub candidate_entry : CandidateRow → CandidateEntry
 candidate_entry row = (row.ward, row.candidate, string_bytes row.name)
 
--- `ward,candidate,name`
+-- the header is `ward,candidate,name`
 abbrev pub is_candidate_header : Record → Bool
 is_candidate_header (ward ∷ candidate ∷ name ∷ []) = bytes_eq ward (codes "ward") && (bytes_eq candidate (codes "candidate") && bytes_eq name (codes "name"))
 is_candidate_header other = false
 
--- what is wrong with a first record that is another
+-- a first record that isn't the header is refused as such
 abbrev pub candidate_header_flaw : Record → Option Flaw
 candidate_header_flaw fields = if is_candidate_header fields then None else Some Header
 
--- a candidate of a name, where both numbers were read
+-- the candidate with this name, if both numbers can be read
 abbrev pub numbered : Option ℕ → Option ℕ → List ℕ → Result CandidateEntry Flaw
 numbered (Some ward) (Some candidate) name = Ok (ward, candidate, name)
 numbered (Some ward) None name = Err Number
 numbered None candidate name = Err Number
 
--- a record is a candidate where ward and candidate are numbers
+-- a record is a candidate if its first two fields, ward and candidate, are numbers
 abbrev pub candidate_in : Record → Result CandidateEntry Flaw
 candidate_in (ward ∷ candidate ∷ name ∷ []) = numbered (plain_number_in ward) (plain_number_in candidate) name
 candidate_in other = Err RecordLength
 
--- so many candidates stand at most: 30 in each of 99 wards
+-- the maximum number of candidates in a file: 30 in each of 99 wards
 abbrev pub most_candidates : ℕ
 most_candidates = 2970
 
--- the file of candidates, which has all of them at most
+-- the format of the file of candidates, which has at most all of them
 abbrev pub candidates : Format CandidateEntry
 candidates = record { header_flaw = candidate_header_flaw; most = most_candidates; read = λ k fields. candidate_in fields }

@@ -1,5 +1,4 @@
--- Where the reader of an import file stands, record by record: what private functions promise one another. No public promise
--- rests on these words.
+-- The position of the reader of an import file, record by record: contracts between private functions. No public contract depends on these definitions.
 use Rattle.std.specs.Prelude.{◌≡◌, ◌≢◌, ◌∷◌, ◌++◌, ℕ, false, List, [], Option, Some, None, length, IfSome, Ok, ⊤}
 use Rattle.csv.specs.Reading.{Reached, Ready, default_config, expected_len, has_failed, is_flexible, reader_config, reader_state, reader_trim, source_of, strip_bom}
 use Rattle.csv.specs.declared.reader.Reader.{Reader}
@@ -17,14 +16,14 @@ abbrev pub wanted : List Record → Option ℕ
 wanted [] = None
 wanted (first ∷ others) = Some (length first)
 
--- the bytes that are left follow these records, where they are known
+-- the bytes left to read follow these records, if the bytes are known
 abbrev pub Follows : Option (List ℕ) → List Record → State → Option (List ℕ) → Type 0
 Follows None records s left = ⊤
 Follows (Some bytes) records s None = ⊥
 Follows (Some bytes) records s (Some rest) = Reached default_config st.StartRecord (strip_bom bytes) records s rest
 
 module _ {R : Type 0} (rem : R → Option (List ℕ)) where
-  -- a reader gave these records of a file, and goes on after them
+  -- the reader has returned these records of a file, and continues after them
   pub record IsAfter (bytes : Option (List ℕ)) (records : List Record) (file : Reader R) : Type 0 where
     pub config : reader_config file ≡ default_config
     pub trim : reader_trim file ≡ trim.None
@@ -34,12 +33,12 @@ module _ {R : Type 0} (rem : R → Option (List ℕ)) where
     pub length : expected_len file ≡ wanted records
     pub follows : Follows bytes records (reader_state file) (source_of rem file)
 
-  -- it gave one record more, as long as the first
+  -- it has returned one more record, as long as the first
   pub record IsNext (bytes : Option (List ℕ)) (records : List Record) (fields : Record) (file : Reader R) : Type 0 where
     pub after : IsAfter bytes (records ++ fields ∷ []) file
     pub even : IfSome (wanted records) (λ n. length fields ≡ n)
 
-  -- so many records were read, the header among them, and those behind it are read as these rows
+  -- this many records were read, including the header, and those after it are read as these rows
   pub record StandsAt {Row : Type 0} (bytes : Option (List ℕ)) (format : Format Row) (number : ℕ) (rows : List Row) (file : Reader R) : Type 0 where
     pub records : List Record
     pub count : length records ≡ number
@@ -50,7 +49,7 @@ module _ {R : Type 0} (rem : R → Option (List ℕ)) where
 abbrev pub Begins : List ℕ → List Record → Type 0
 Begins bytes records = (others : List Record) × (file_records bytes ≡ records ++ others)
 
--- the next record of a file has another length than the first
+-- the next record of a file isn't as long as the first
 abbrev pub IsUneven : List ℕ → List Record → Type 0
 IsUneven bytes records = (fields : Record) × (n : ℕ) × Begins bytes (records ++ fields ∷ []) × (wanted records ≡ Some n) × (n ≢ length fields)
 

@@ -15,13 +15,13 @@ abbrev pub is_told : Option ℕ → ℕ → Bool
 is_told (Some n) k = n == k
 is_told None k = false
 
--- fields that write some numbers, one each
+-- these fields write these numbers, one each
 abbrev pub are_columns : Record → List ℕ → Bool
 are_columns [] [] = true
 are_columns (field ∷ fields) (column ∷ columns) = is_told (plain_number_in field) column && are_columns fields columns
 are_columns fields columns = false
 
--- what is wrong with the columns of a header: the candidates' numbers in ascending order are asked for
+-- what is wrong with the columns of a header: they must be the candidates' numbers in ascending order
 abbrev pub columns_flaw : List ℕ → Record → Option Flaw
 columns_flaw columns fields = if are_columns fields columns then None else Some Header
 
@@ -30,8 +30,7 @@ abbrev pub first_flaw : Option Flaw → Option Flaw → Option Flaw
 first_flaw (Some flaw) later = Some flaw
 first_flaw None later = later
 
--- what is wrong with the header of a keying of a batch by a clerk. Whose keying it is, by its
--- first field, comes before its columns, since a batch of another ward has other columns.
+-- what is wrong with the header of a keying of a batch by a clerk. Its first field is checked before its columns, since a batch of another ward has other columns.
 abbrev pub keying_header_flaw : List ℕ → ℕ → ℕ → Record → Option Flaw
 keying_header_flaw columns batch clerk [] = Some Header
 keying_header_flaw columns batch clerk (first ∷ fields) = first_flaw (first_field_flaw batch clerk first) (columns_flaw columns fields)
@@ -40,7 +39,7 @@ keying_header_flaw columns batch clerk (first ∷ fields) = first_flaw (first_fi
 abbrev pub is_break : ℕ → Bool
 is_break b = (b == 44) || ((b == 34) || ((b == 10) || (b == 13)))
 
--- a mark field that holds one of them
+-- a mark field contains one of them
 abbrev pub breaks_marks : List ℕ → Bool
 breaks_marks mark = list_any is_break mark
 
@@ -49,44 +48,43 @@ abbrev pub is_doubtful : List (List ℕ) → Bool
 is_doubtful [] = false
 is_doubtful (first ∷ others) = bytes_eq first (codes "D") && list_all (λ mark. length mark == 0) others
 
--- a field of a marks text, with a comma in front of every one but the first
+-- a field of a marks text, preceded by a comma unless it is the first
 abbrev pub field_text : ℕ → List ℕ → List ℕ
 field_text i mark = if i == 0 then mark else 44 ∷ mark
 
--- the marks text of a paper's mark fields: the letter D of a doubtful paper, else the fields parted by commas
+-- the marks text of a paper's mark fields: the letter D for a doubtful paper, else the fields separated by commas
 abbrev pub marks_text : List (List ℕ) → List ℕ
 marks_text marks = if is_doubtful marks then codes "D" else join_with_byte 44 marks
 
--- what the paper of some number is read as, by the number that stands in its record and by its mark fields
+-- what the paper of some number is read as, given the number in its record and its mark fields
 abbrev pub of_number : ℕ → Option ℕ → List (List ℕ) → Result (List ℕ) Flaw
 of_number k None marks = Err Number
 of_number k (Some told) marks =
     if told == k then (if list_any breaks_marks marks then Err Marks else Ok (marks_text marks)) else Err PaperOrder
 
--- a record is the paper of its own number
+-- what a record is read as: the paper of this number
 abbrev pub paper_in : ℕ → Record → Result (List ℕ) Flaw
 paper_in k [] = Err RecordLength
 paper_in k (paper ∷ marks) = of_number k (plain_number_in paper) marks
 
--- a batch has so many papers at most
+-- the maximum number of papers in a batch
 abbrev pub most_papers : ℕ
 most_papers = 500
 
--- the file of a clerk's keying of a batch, whose papers have some columns: the papers of one batch at most
+-- the format of the file of a clerk's keying of a batch whose papers have these columns: at most the papers of one batch
 abbrev pub keying : List ℕ → ℕ → ℕ → Format (List ℕ)
 keying columns batch clerk = record { header_flaw = keying_header_flaw columns batch clerk; most = most_papers; read = paper_in }
 
--- what is wrong with a header that names neither batch nor clerk: `paper` and the columns are asked for, and nothing else is one
+-- what is wrong with a header that names neither batch nor clerk: it must be `paper` and the columns
 abbrev pub plain_header_flaw : List ℕ → Record → Option Flaw
 plain_header_flaw columns [] = Some Header
 plain_header_flaw columns (first ∷ fields) = if bytes_eq first (codes "paper") && are_columns fields columns then None else Some Header
 
--- the file of a keying whose header names neither
+-- the format of the file of a keying whose header names neither
 abbrev pub plain_keying : List ℕ → Format (List ℕ)
 plain_keying columns = record { header_flaw = plain_header_flaw columns; most = most_papers; read = paper_in }
 
--- the marks text of a paper with some columns is read as its mark fields say: as doubtful, or as the mark of each field
--- beside its column
+-- the marks text of a paper is read as its mark fields say: as doubtful, or as the mark of each field in its column
 abbrev pub AreReadAsKeyed : List ℕ → Type 0
 AreReadAsKeyed columns =
     (marks : List (List ℕ)) → 1 ≤ length columns → length marks ≡ length columns → list_any breaks_marks marks ≡ false →

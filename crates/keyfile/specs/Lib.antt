@@ -1,4 +1,4 @@
--- What import files hold, and how they are read.
+-- What import files contain, and how they are read.
 pub mod Faults
 pub mod Records
 pub mod Files

@@ -6,6 +6,6 @@ use Rattle.csv.specs.Reading.{default_config, records, strip_bom}
 abbrev pub Record : Type 0
 Record = List (List ℕ)
 
--- the records of a file's bytes, as `csv` has them by default, behind a byte order mark if there is one
+-- the records of a file's bytes, as `csv` parses them by default, after a byte order mark if there is one
 abbrev pub file_records : List ℕ → List Record
 file_records bytes = records default_config (strip_bom bytes)

@@ -19,8 +19,8 @@ use std::io::Read;
 /// The most candidates of a file: 30 in each of 99 wards.
 const MOST_CANDIDATE_ROWS: u32 = 2970;
 
-/// A candidate of an import file. The numbers have 1 to 5 digits and the name is any text: whether
-/// they are in range is decided when the candidate is added.
+/// A candidate in an import file. The numbers have 1 to 5 digits and the name is any text: whether they are in range is checked when
+/// the candidate is added.
 #[derive(Drop)]
 pub struct CandidateRow {
     pub ward: u32,
@@ -28,13 +28,14 @@ pub struct CandidateRow {
     pub name: String,
 }
 
-/// The candidates of a file, in its order.
+/// Returns the candidates of a file, in file order.
 ///
-/// The header is `ward,candidate,name`; at most 2970 records follow it. The rows are those of the
-/// file's records as `csv` has them, or the fault is that of the first faulty record, and of that
-/// its first flaw. `ReadFailed` and `Memory` may come at any record that no fault stands before.
+/// The header is `ward,candidate,name`; at most 2970 records follow it. The rows are those of the file's records as `csv` parses them,
+/// or the fault is the first flaw of the first faulty record. `ReadFailed` and `Memory` may be reported at any record up to the first
+/// faulty one.
 ///
-/// Where a digest is asked for, the rows are those of bytes that have it. A file of other bytes is `OtherFile`, whatever else is wrong with it.
+/// If a digest is asked for, the rows are those of bytes that have it. A file of other bytes is `OtherFile`, whatever else is wrong
+/// with it.
 pub fn read_candidates<R: Read + Drop>(
     alloc: Global,
     r: R,
@@ -79,7 +80,7 @@ impl FileFormat for CandidateFormat {
     }
 }
 
-/// Whether fields are the header.
+/// Returns whether the fields are the header.
 fn is_candidate_header(fields: &[&str]) -> bool
     ensures { result ≡ is_candidate_header (map (λ f. f.now) fields.now) }
 {
@@ -89,7 +90,7 @@ fn is_candidate_header(fields: &[&str]) -> bool
     }
 }
 
-/// A candidate of a name, whose ward and number two texts write.
+/// Parses the ward's and the candidate's number, and returns the candidate with this name.
 fn candidate_row(
     alloc: Global,
     ward: &str,

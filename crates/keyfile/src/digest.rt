@@ -1,4 +1,4 @@
-//! The digest that a file may be asked to have: by it one knows the file from any other.
+//! The digest that a file can be required to have: it identifies the file.
 
 ghost use Rattle.std.specs.Prelude.{◌≡◌, ◌≢◌, ◌↔◌, ◌⊎◌, IsTrue, IfErr, IfOk, option_map, true};
 ghost use Rattle.sha2.specs.Sha256.{sha256};
@@ -13,14 +13,14 @@ use sha2::{Digest, Sha256};
 use std::alloc::Global;
 use std::io::Read;
 
-/// A digest by SHA-256.
+/// A SHA-256 digest.
 #[derive(Clone, Copy, Debug)]
 pub struct FileDigest {
     bytes: [u8; 32],
 }
 
 impl FileDigest {
-    /// The digest that a text writes in 64 hexadecimal digits, their letters small or capital; None where it is another text.
+    /// Parses a digest of 64 hexadecimal digits, upper or lower case. Returns None for any other text.
     pub fn parse(text: &str) -> Option<FileDigest>
         ensures { option_map digest_bytes result ≡ digest_in text.now }
     {
@@ -30,7 +30,7 @@ impl FileDigest {
         }
     }
 
-    /// Whether bytes have this digest.
+    /// Returns whether the bytes have this digest.
     fn is_of(self, bytes: &[u8]) -> bool
         ensures { IsTrue result ↔ (sha256 bytes.now ≡ digest_bytes self) }
     {
@@ -39,8 +39,8 @@ impl FileDigest {
     }
 }
 
-/// Returns all bytes of a file, which have a digest; or why there are none: it is another file (`OtherFile`), its last read
-/// failed (`ReadFailed`), or memory ran out (`Memory`). The file is read to its end, however long it is, and all of it is kept.
+/// Returns all bytes of a file, which have the digest; or why there are none: it is another file (`OtherFile`), its last read failed
+/// (`ReadFailed`), or an allocation failed (`Memory`). The file is read to its end, however long it is, and kept in memory whole.
 pub(crate) fn read_whole<R: Read + LastRead>(
     alloc: Global,
     file: &mut R,

@@ -8,31 +8,31 @@ use std::alloc::AllocError;
 use std::error::Error;
 use std::fmt;
 
-/// Why a record of an import file can't be taken. Of several the first in this order is reported: other file, other keying,
+/// Why a record of an import file is refused. If it has several flaws, the first in this order is reported: other file, other keying,
 /// header, record length, too many records, not UTF-8, number, paper order, marks.
 #[derive(Clone, Copy, Debug, PartialEq, Eq)]
 pub enum Flaw {
-    /// There is no record, or the first isn't the header. One that isn't UTF-8 is none, and names no keying.
+    /// There is no record, or the first isn't the header. A first record that isn't UTF-8 is no header, and names no keying.
     Header,
-    /// It isn't as long as the header.
+    /// The record isn't as long as the header.
     RecordLength,
-    /// A number field isn't 1 to 5 digits, the first not 0.
+    /// A number field isn't 1 to 5 digits without a leading 0.
     Number,
     /// The paper's number isn't the record's.
     PaperOrder,
-    /// A mark field holds a comma, a double quote or a line end.
+    /// A mark field contains a comma, a double quote or a line end.
     Marks,
     /// A field isn't UTF-8.
     NotUtf8,
-    /// It stands past the limit.
+    /// The record is past the limit.
     TooManyRecords,
     /// The file can't be opened, or a read failed.
     ReadFailed,
-    /// Memory was wanting.
+    /// An allocation failed.
     Memory,
-    /// The header names this batch and this clerk, and the keying is to be of another batch or by another clerk.
+    /// The header names this batch and this clerk, but a keying of another batch or by another clerk is expected.
     OtherKeying { batch: u32, clerk: u32 },
-    /// The file's bytes have another digest than the one that was asked for.
+    /// The file's digest isn't the one that was asked for.
     OtherFile,
 }
 
@@ -40,12 +40,12 @@ pub enum Flaw {
 #[derive(Clone, Copy, Debug, PartialEq, Eq)]
 pub struct FileFault {
     pub flaw: Flaw,
-    /// The record's number: 0 is the header. Of `ReadFailed` and `Memory` it is the record under way.
+    /// The record's number; the header is 0. For `ReadFailed` and `Memory` it is the record being read.
     pub record_number: u32,
 }
 
 impl Flaw {
-    /// The number of a flaw, 1 to 11.
+    /// Returns the number of the flaw, 1 to 11.
     pub fn number(&self) -> u32
         ensures { result ≡ flaw_number self.now }
     {
@@ -64,7 +64,7 @@ impl Flaw {
         }
     }
 
-    /// The flaw in words, before the batch and the clerk that it names, if it names any.
+    /// Returns the flaw in words, up to the batch and the clerk if it names them.
     pub fn words(&self) -> &'static str
         ensures { result.now ≡ flaw_words self.now }
     {
@@ -85,7 +85,7 @@ impl Flaw {
 }
 
 impl FileFault {
-    /// The number of the fault, 1 to 11.
+    /// Returns the number of the fault, 1 to 11.
     pub fn number(&self) -> u32
         ensures { result ≡ flaw_number self.now.flaw }
     {
@@ -140,7 +140,7 @@ impl From<AllocError> for Flaw {
     }
 }
 
-/// An outcome at a record of a file.
+/// Returns the value, or the flaw as a fault at the record of this number.
 pub(crate) fn at_record<T>(number: u32, outcome: Result<T, Flaw>) -> Result<T, FileFault>
     ensures ok { IfOk result (λ value. outcome ≡ Ok value) }
     ensures err { IfErr result (λ fault. (outcome ≡ Err fault.flaw) × (fault.record_number ≡ number)) }

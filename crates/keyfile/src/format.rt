@@ -1,4 +1,4 @@
-//! What an import file holds, and how it is read whole.
+//! What an import file contains, and how all of it is read.
 
 ghost use Rattle.std.specs.Prelude.{◌≡◌, false, ◌∷◌, ◌++◌, ◌+◌, ◌-◌, ◌^◌, ◌<◌, ◌≤◌, ◌⊎◌, [], List, Option, Some, None, ℕ, map, IfOk, IfErr, IfSome, IfNone, Ok, Err, OnOk};
 ghost use Rattle.csv.specs.Reading.{reader_source};
@@ -19,35 +19,35 @@ use csv::{ByteRecord, Reader};
 use std::alloc::Global;
 use std::io::Read;
 
-/// What an import file holds: its header, and the rows that its records are read as.
+/// The format of an import file: its header, and the rows that its records are read as.
 pub(crate) trait FileFormat {
     type Row: Drop;
 
-    /// What a row stands for.
+    /// The entry that a row represents.
     ghost Entry: { Type 0 };
 
     ghost format: { Self → Format Entry };
 
     ghost entry: { Self.Row → Entry };
 
-    /// The most records behind the header.
+    /// Returns the maximum number of records after the header.
     fn most(&self) -> u32
         ensures is { result ≡ (format self.now).most }
         ensures few { result < 2 ^ 32 - 1 };
 
-    /// What is wrong with the fields of the first record as a header, if anything is.
+    /// Returns the flaw of the first record if it isn't a header of this format.
     fn header_flaw(&self, fields: &[&str]) -> Option<Flaw>
         ensures is { result ≡ (format self.now).header_flaw (map (λ f. f.now) fields.now) }
         ensures file { IfSome result (λ flaw. is_failed_read flaw ≡ false) };
 
-    /// The row of a record of some number, or the first of its flaws; `Memory` where it is wanting.
+    /// Returns the row of the record of this number, or its first flaw; `Memory` if an allocation fails.
     fn read(&self, alloc: Global, number: u32, fields: &[&str]) -> Result<Self::Row, Flaw>
         ensures ok { IfOk result (λ row. (format self.now).read number (map (λ f. f.now) fields.now) ≡ Ok (entry row)) }
         ensures err { IfErr result (λ flaw. (flaw ≡ Flaw.Memory) ⊎ ((format self.now).read number (map (λ f. f.now) fields.now) ≡ Err flaw)) }
         ensures file { IfErr result (λ flaw. is_failed_read flaw ≡ false) };
 }
 
-/// The rows of a file, or its fault. Where a digest is asked for, its bytes are read first, and have it.
+/// Returns the rows of a file, or its fault. If a digest is asked for, all bytes are first read and checked against it.
 pub(crate) fn read_file<R: Read + Drop, F: FileFormat>(
     alloc: Global,
     r: R,
@@ -71,7 +71,7 @@ pub(crate) fn read_file<R: Read + Drop, F: FileFormat>(
     }
 }
 
-/// Returns the rows of a file that was just opened, or its fault. It is `ReadFailed` exactly if the file's last read failed.
+/// Returns the rows of a newly opened file, or its fault. The fault is `ReadFailed` exactly if the file's last read failed.
 fn read_rows<R: Read + LastRead + Drop, F: FileFormat>(
     alloc: Global,
     file: &mut Reader<R>,
@@ -121,7 +121,7 @@ fn read_header<R: Read + LastRead + Drop, F: FileFormat>(
     }
 }
 
-/// Makes sure that a record is the header.
+/// Checks that a record is the header.
 fn check_header<F: FileFormat>(alloc: Global, raw: &ByteRecord, format: &F) -> Result<(), Flaw>
     ensures ok { OnOk result (text_header_flaw (F.format format.now) (fields_of raw.now) ≡ None) }
     ensures err { IfErr result (λ flaw. (flaw ≡ Flaw.Memory) ⊎ (text_header_flaw (F.format format.now) (fields_of raw.now) ≡ Some flaw)) }
@@ -138,7 +138,7 @@ fn check_header<F: FileFormat>(alloc: Global, raw: &ByteRecord, format: &F) -> R
     }
 }
 
-/// The row of the record of some number, or none at the end of the file.
+/// Returns the row of the record of this number, or None at the end of the file.
 fn next_row<R: Read + LastRead + Drop, F: FileFormat>(
     alloc: Global,
     file: &mut Reader<R>,
@@ -160,7 +160,7 @@ fn next_row<R: Read + LastRead + Drop, F: FileFormat>(
     }
 }
 
-/// The row of a record of some number, or the first of its flaws behind its length and its place.
+/// Returns the row of the record of this number, or its first flaw other than a wrong length or too many records.
 fn row_of<F: FileFormat>(
     alloc: Global,
     format: &F,
@@ -175,7 +175,7 @@ fn row_of<F: FileFormat>(
     format.read(alloc, number, &fields)
 }
 
-/// Makes sure that the file has ended before the record of some number, the first past the limit.
+/// Checks that the file ends before the record of this number, the first past the limit.
 fn check_end<R: Read + LastRead + Drop, F: FileFormat>(
     alloc: Global,
     file: &mut Reader<R>,

@@ -1,4 +1,4 @@
-//! The first field of a keying's header: `paper`, or `paper 12/4`, of batch 12 by clerk 4.
+//! The first field of a keying's header: `paper`, or `paper 12/4` for batch 12 by clerk 4.
 
 ghost use Rattle.std.specs.Prelude.{◌≡◌, false, IfSome, ◌==◌, ◌<◌};
 ghost use Rattle.std.specs.List.{after_first, before_first};
@@ -8,14 +8,14 @@ ghost use Rattle.keyfile.specs.Headers.{first_field_flaw, in_range, named_in};
 use crate::fault::Flaw;
 use paper::plain_number_in;
 
-/// The highest number of a batch, as the office gives them out.
+/// The highest batch number that the office assigns.
 const HIGHEST_BATCH: u32 = 9999;
 
-/// The highest number of a clerk, as the office knows them.
+/// The highest clerk number that the office knows.
 const HIGHEST_CLERK: u32 = 999;
 
-/// A text up to the first place where this character stands in it, and what stands behind that; of a text without it all of
-/// it, and nothing.
+/// Splits a text at the first occurrence of this character into what precedes and what follows it. A text without the character is
+/// returned whole, followed by the empty text.
 fn parted(text: &str, mark: char) -> (&str, &str)
     requires { mark < 128 }
     ensures before { result.0.now ≡ before_first (λ b. b == mark) text.now }
@@ -27,7 +27,7 @@ fn parted(text: &str, mark: char) -> (&str, &str)
     }
 }
 
-/// A batch and a clerk, where both numbers are such as these have.
+/// Returns a batch and a clerk if both numbers are in range.
 fn in_range(batch: Option<u32>, clerk: Option<u32>) -> Option<(u32, u32)>
     ensures { result ≡ in_range batch clerk }
 {
@@ -41,7 +41,7 @@ fn in_range(batch: Option<u32>, clerk: Option<u32>) -> Option<(u32, u32)>
     }
 }
 
-/// The batch and the clerk that a first field names, if it names any.
+/// Returns the batch and the clerk that a first field names, if it names them.
 fn named_in(field: &str) -> Option<(u32, u32)>
     ensures { result ≡ named_in field.now }
 {
@@ -53,8 +53,8 @@ fn named_in(field: &str) -> Option<(u32, u32)>
     in_range(plain_number_in(batch), plain_number_in(clerk))
 }
 
-/// What is wrong with the first field of a keying of a batch by a clerk, if anything is. It is `Header` where the field is
-/// neither `paper` nor names a batch and a clerk in their ranges. It is `OtherKeying` where the field names others than these.
+/// Returns what is wrong with the first field of a keying of a batch by a clerk, if anything is. It is `Header` if the field is
+/// neither `paper` nor names a batch and a clerk in range, and `OtherKeying` if it names another batch or clerk.
 pub(crate) fn first_field_flaw(field: &str, batch: u32, clerk: u32) -> Option<Flaw>
     ensures is { result ≡ first_field_flaw batch clerk field.now }
     ensures file { IfSome result (λ flaw. is_failed_read flaw ≡ false) }

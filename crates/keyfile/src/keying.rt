@@ -1,4 +1,4 @@
-//! The file of a clerk's keying of a batch: `paper` and the candidates' numbers, then the papers.
+//! The file of a clerk's keying of a batch: a header of `paper` and the candidates' numbers, then the papers.
 
 ghost use Rattle.std.specs.Prelude.{◌≡◌, false, ◌++◌, ◌==◌, List, ℕ, length, map, IfOk, IfErr, OnOk, Ok, Err, string_bytes};
 ghost use Rattle.std.specs.List.{join_with_byte, list_all, list_any};
@@ -18,20 +18,20 @@ use paper::{Columns, plain_number_in};
 use std::alloc::{AllocError, Global};
 use std::io::Read;
 
-/// The most papers of a file, those of one batch.
+/// The maximum number of papers in a file: those of one batch.
 pub(crate) const MOST_PAPERS: u32 = 500;
 
-/// The marks texts of a clerk's keying of a batch, whose papers have some columns, in the order of the papers.
+/// Returns the marks texts of a clerk's keying of a batch whose papers have these columns, in the order of the papers.
 ///
-/// The header is `paper` and the columns in ascending order; at most 500 records follow it, each a
-/// paper's number, which runs 1, 2, 3, .., and one field for each column. A marks text is `D` where
-/// the first field is `D` and the others are empty, else the fields parted by commas; whether it is
-/// right isn't judged here. The fault is that of the first faulty record, and of that its first flaw.
-/// `ReadFailed` and `Memory` may come at any record that no fault stands before.
+/// The header is `paper` and the columns in ascending order; at most 500 records follow it, each the number of a paper (1, 2, 3, ..)
+/// and one field per column. A marks text is `D` if the first field is `D` and the others are empty, else the fields separated by
+/// commas. Whether it is valid isn't checked here. The fault is the first flaw of the first faulty record. `ReadFailed` and `Memory`
+/// may be reported at any record up to the first faulty one.
 ///
-/// In place of `paper` the header may have `paper 12/4`: the file is then of batch 12 by clerk 4. A file of another batch or by another
-/// clerk is `OtherKeying`, whatever its columns are; any other file of other columns is `Header`. A header that isn't UTF-8 is `Header` too,
-/// and names nothing. Where a digest is asked for, the papers are those of bytes that have it, and a file of other bytes is `OtherFile`.
+/// Instead of `paper` the header may have `paper 12/4`: the file is then of batch 12 by clerk 4. A file of another batch or by another
+/// clerk is `OtherKeying`, whatever its columns are; any other file with other columns is `Header`. A header that isn't UTF-8 is
+/// `Header` too, and names nothing. If a digest is asked for, the papers are those of bytes that have it, and a file of other bytes is
+/// `OtherFile`.
 pub fn read_keying<R: Read + Drop>(
     alloc: Global,
     r: R,
@@ -42,7 +42,7 @@ pub fn read_keying<R: Read + Drop>(
 ) -> Result<Vec<String>, FileFault>
     ensures rows { IfOk result (λ papers. IsReadAs (asked_digest digest) (R.remaining r) (λ bytes. file_rows (keying columns batch clerk) (file_records bytes) ≡ Ok (map string_bytes papers.items))) }
     ensures fault { IfErr result (λ fault. Known (R.remaining r) (λ bytes. IsFaultBy (asked_digest digest) (keying columns batch clerk) bytes fault)) }
-    // a marks text says what the fields say
+    // a marks text means what the fields say
     ensures spelled { AreReadAsKeyed columns }
 {
     let format = KeyingFormat {
@@ -96,7 +96,7 @@ impl FileFormat for KeyingFormat {
     }
 }
 
-/// Whether texts write some numbers, one each.
+/// Returns whether the texts write these numbers, one each.
 pub(crate) fn are_columns(texts: &[&str], columns: &[u8]) -> bool
     ensures { result ≡ are_columns (map (λ t. t.now) texts.now) columns.now }
 {
@@ -113,7 +113,7 @@ pub(crate) fn are_columns(texts: &[&str], columns: &[u8]) -> bool
     rest.is_empty()
 }
 
-/// Makes sure that a paper's number is the record's and that its mark fields can be joined.
+/// Checks that a paper's number is the record's and that its mark fields can be joined.
 #[tactic(auto, using(crate::proofs::MapLemmas::list_any_map))]
 fn check_paper(number: u32, paper: &str, marks: &[&str]) -> Result<(), Flaw>
     ensures ok { OnOk result (of_number number (plain_number_in paper.now) (map (λ t. t.now) marks.now) ≡ Ok (marks_text (map (λ t. t.now) marks.now))) }
@@ -128,14 +128,14 @@ fn check_paper(number: u32, paper: &str, marks: &[&str]) -> Result<(), Flaw>
     }
 }
 
-/// Whether some mark field breaks a marks text.
+/// Returns whether some mark field contains a character that a marks text can't.
 fn any_breaks(marks: &[&str]) -> bool
     ensures { result ≡ list_any (λ t. breaks_marks t.now) marks.now }
 {
     marks.iter().any(|mark| breaks_marks(mark))
 }
 
-/// Whether a mark field holds a comma, a double quote or a line end.
+/// Returns whether a mark field contains a comma, a double quote or a line end.
 fn breaks_marks(mark: &str) -> bool
     ensures { result ≡ breaks_marks mark.now }
 {
@@ -144,7 +144,7 @@ fn breaks_marks(mark: &str) -> bool
         .any(|b| *b == b',' || *b == b'"' || *b == b'\n' || *b == b'\r')
 }
 
-/// The letter D where the first field is D and the others are empty, else the fields parted by commas.
+/// Returns the letter D if the first field is D and the others are empty, else the fields separated by commas.
 fn marks_text(alloc: Global, marks: &[&str]) -> Result<String, AllocError>
     ensures { IfOk result (λ text. string_bytes text ≡ marks_text (map (λ t. t.now) marks.now)) }
 {
@@ -154,7 +154,7 @@ fn marks_text(alloc: Global, marks: &[&str]) -> Result<String, AllocError>
     joined(alloc, marks)
 }
 
-/// The fields parted by commas.
+/// Returns the fields separated by commas.
 fn joined(alloc: Global, marks: &[&str]) -> Result<String, AllocError>
     ensures { IfOk result (λ text. string_bytes text ≡ join_with_byte 44 (map (λ t. t.now) marks.now)) }
 {
@@ -165,7 +165,7 @@ fn joined(alloc: Global, marks: &[&str]) -> Result<String, AllocError>
     Ok(text)
 }
 
-/// Whether the first field is D and the others are empty.
+/// Returns whether the first field is D and the others are empty.
 #[tactic(auto, using(crate::proofs::MapLemmas::list_all_map))]
 fn is_doubtful(marks: &[&str]) -> bool
     ensures { result ≡ is_doubtful (map (λ t. t.now) marks.now) }
@@ -176,14 +176,14 @@ fn is_doubtful(marks: &[&str]) -> bool
     }
 }
 
-/// Whether mark fields are all empty.
+/// Returns whether all mark fields are empty.
 fn are_empty(marks: &[&str]) -> bool
     ensures { result ≡ list_all (λ t. length t.now == 0) marks.now }
 {
     marks.iter().all(|mark| mark.is_empty())
 }
 
-/// Puts a field to the end of a text, with a comma in front of every field but the first.
+/// Appends a field to a text, preceded by a comma unless it is the first.
 fn push_field(text: &mut String, i: usize, mark: &str) -> Result<(), AllocError>
     ensures { OnOk result (string_bytes text.new ≡ string_bytes text.old ++ field_text i mark.now) }
 {

@@ -1,10 +1,9 @@
-//! Import files: candidates and keyings, read whole or refused.
+//! Import files of candidates and keyings, each read whole or refused.
 //!
-//! [`read_candidates`] gives the [`CandidateRow`]s of a file, [`read_keying`] the marks text of each
-//! paper, as `paper` reads it. A [`FileFault`] names the first faulty record, counted from the header,
-//! which is record 0, and its first [`Flaw`]. No row is given before the whole file was read. Either
-//! may be asked for the file of a [`FileDigest`], and gives no row of any other. [`plain`] has both without these
-//! options.
+//! [`read_candidates`] returns the [`CandidateRow`]s of a file, [`read_keying`] the marks text of each paper, as `paper` reads it. A
+//! [`FileFault`] names the first faulty record and its first [`Flaw`]; the header is record 0. No row is returned before the whole
+//! file has been read. Either can be asked for the file with a certain [`FileDigest`], and returns no row of any other. [`plain`] has
+//! both without these options.
 //!
 //! ```text
 //! match read_keying(alloc, file, columns, 12, 4, None) {

@@ -15,7 +15,7 @@ use paper::Columns;
 use std::alloc::Global;
 use std::io::Read;
 
-/// Returns the candidates of a file, in its order. It is [`read_candidates`](crate::read_candidates) without a digest.
+/// Returns the candidates of a file, in file order. It is [`read_candidates`](crate::read_candidates) without a digest.
 pub fn read_candidates<R: Read + Drop>(alloc: Global, r: R) -> Result<Vec<CandidateRow>, FileFault>
     ensures rows { IfOk result (λ rows. Known (R.remaining r) (λ bytes. file_rows candidates (file_records bytes) ≡ Ok (map candidate_entry rows.items))) }
     ensures fault { IfErr result (λ fault. Known (R.remaining r) (λ bytes. IsFaultOf candidates (file_records bytes) fault)) }
@@ -23,10 +23,10 @@ pub fn read_candidates<R: Read + Drop>(alloc: Global, r: R) -> Result<Vec<Candid
     crate::candidates::read_candidates(alloc, r, None)
 }
 
-/// Returns the marks texts of a keying of papers with some columns, in the order of the papers.
+/// Returns the marks texts of a keying of papers with these columns, in the order of the papers.
 ///
-/// The header is `paper` and the columns in ascending order. One that names its batch and its clerk, such as `paper 12/4`, isn't the
-/// header here, because neither is known. All else is as in [`read_keying`](crate::read_keying).
+/// The header is `paper` and the columns in ascending order. A first field that names batch and clerk, such as `paper 12/4`, isn't
+/// accepted here, because neither is known. Everything else is as in [`read_keying`](crate::read_keying).
 pub fn read_keying<R: Read + Drop>(
     alloc: Global,
     r: R,
@@ -34,7 +34,7 @@ pub fn read_keying<R: Read + Drop>(
 ) -> Result<Vec<String>, FileFault>
     ensures rows { IfOk result (λ papers. Known (R.remaining r) (λ bytes. file_rows (plain_keying columns) (file_records bytes) ≡ Ok (map string_bytes papers.items))) }
     ensures fault { IfErr result (λ fault. Known (R.remaining r) (λ bytes. IsFaultOf (plain_keying columns) (file_records bytes) fault)) }
-    // a marks text says what the fields say
+    // a marks text means what the fields say
     ensures spelled { AreReadAsKeyed columns }
 {
     read_file(alloc, r, None, &PlainFormat { columns })
@@ -69,7 +69,7 @@ impl FileFormat for PlainFormat {
         Some(Flaw::Header)
     }
 
-    // A record is read whatever the header names.
+    // How a record is read doesn't depend on what the header names.
     fn read(&self, alloc: Global, number: u32, fields: &[&str]) -> Result<String, Flaw> {
         let keying = KeyingFormat {
             columns: self.columns,

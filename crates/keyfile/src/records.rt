@@ -14,8 +14,7 @@ use csv::{ByteRecord, Error, ErrorKind, Reader, ReaderBuilder};
 use std::alloc::Global;
 use std::io::Read;
 
-/// A file at its beginning. Its first record is one like the others; `csv` holds each record to its
-/// length.
+/// Returns a reader at the beginning of a file. Its first record is treated like the others; `csv` checks the length of each.
 pub(crate) fn open<R: Read + Drop>(alloc: Global, r: R) -> Reader<R>
     ensures opened { IsAfter R.remaining (R.remaining (reader_source result)) [] result }
     ensures reader { reader_source result ≡ r }
@@ -25,7 +24,7 @@ pub(crate) fn open<R: Read + Drop>(alloc: Global, r: R) -> Reader<R>
         .from_reader(alloc, r)
 }
 
-/// Returns the flaw for an error of `csv` when no read failed.
+/// Returns the flaw for an error of `csv` if no read failed.
 fn flaw_of(error: &Error) -> Flaw
     ensures flaw { result ≡ flaw_of (error_kind error.now) }
     ensures file { is_failed_read result ≡ false }
@@ -36,7 +35,8 @@ fn flaw_of(error: &Error) -> Flaw
     }
 }
 
-/// Returns the next record, of that number, or none at the end of the file. It is `ReadFailed` exactly if the file's last read failed.
+/// Returns the next record, of this number, or None at the end of the file. It fails with `ReadFailed` exactly if the file's last read
+/// failed.
 pub(crate) fn next_record<R: Read + LastRead + Drop>(
     alloc: Global,
     file: &mut Reader<R>,

@@ -7,9 +7,9 @@ ghost use Rattle.keyfile.specs.Reading.{last_failed, reader_of};
 
 use std::io::{self, Read};
 
-/// Whether the last read of a reader failed.
+/// Readers that know whether their last read failed.
 pub(crate) trait LastRead {
-    /// Whether it failed.
+    /// Whether the last read failed.
     ghost failed: { Self → Bool };
 
     /// Returns whether the last read failed.
@@ -25,7 +25,7 @@ pub(crate) struct Watched<R> {
 }
 
 impl<R> Watched<R> {
-    /// Wraps a reader, none of whose reads has failed yet.
+    /// Wraps a reader none of whose reads has failed yet.
     pub(crate) fn new(reader: R) -> Watched<R>
         ensures reader { reader_of result ≡ reader }
         ensures failed { last_failed result ≡ false }

@@ -15,7 +15,7 @@ const HEAD: &str = r#"<!DOCTYPE html>
 <link rel="icon" href="data:,">
 "#;
 
-/// What stands between the style and the script.
+/// The markup between the style and the script.
 const BODY: &str = r#"
 </head>
 <body>

@@ -1,7 +1,7 @@
 //! The script of the page, as one text.
 //!
 //! A browser runs it as a classic script: all parts share their names. Each part but the last only declares, and each may use
-//! what any other declares. [`events`] comes last, and starts the page.
+//! what any other declares. [`events`] is last, and starts the page.
 
 ghost use Rattle.std.specs.Prelude.{◌≡◌, IfOk, string_bytes};
 ghost use Rattle.keying_page.specs.Page.{script};

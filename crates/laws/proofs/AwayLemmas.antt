@@ -1,4 +1,4 @@
--- What is done in other wards and other batches leaves the papers of a ward.
+-- Changes in other wards and other batches leave the papers of a ward as they are.
 use Rattle.std.proofs.Common.{◌≡◌, ℕ, ◌+◌, Bool, true, false, cond, not, ◌&&◌, ◌||◌, ◌==◌, List, [], ◌∷◌, map, filter, Option, Some, refl, sym, ap, ◌∙◌}
 use Rattle.std.specs.List.{list_all}
 use Rattle.std.specs.Ordering.{nat_cmp, is_eq}
@@ -7,25 +7,25 @@ use Rattle.std.proofs.lemmas.Bool.{and_parts, and_from, or_right, not-true, both
 use Rattle.register.specs.Offices.{BatchEntry, CandidateEntry, JudgedEntry, KeyedEntry, OfficeState, ThirdEntry, batch_at}
 use Rattle.register.specs.Offices.{batch_cmp, batch_compared, candidate_cmp, candidate_compared, candidates_of, changed}
 use Rattle.register.specs.Offices.{judged_cmp, keyed_cmp, keying_of, third_at, third_cmp, third_compared}
-use Rattle.register.specs.Keyed.{is_given_out}
+use Rattle.register.specs.BatchConditions.{is_given_out}
 use Rattle.register.specs.Keyings.{papers_from}
-use Rattle.register.specs.Papers.{clerks, clerks_of, is_keyed}
+use Rattle.register.specs.Agreement.{clerks, clerks_of, is_keyed}
 use Rattle.register.specs.Polls.{Pile, pile_of, piles_of}
-use Rattle.register.specs.Items.{IsState}
+use Rattle.register.specs.StateConditions.{IsState}
 use Rattle.register.specs.Effects.{EffectEntry, batch_added, batch_reopened, candidate_added, candidate_withdrawn, in_round, paper_judged, papers_keyed, third_set, with_effect}
 use Rattle.register.proofs.KeyedLemmas.{HasSameFile, pile_kept}
 use Rattle.register.proofs.MapLemmas.{all_but_number, both_equal, filter_put, filter_put_each, filter_without, found_put_other, list_all_weaker, same_number}
 
 -- ---- the keyings of a batch
 
--- the keyings of some clerks are the same where each keyed the same
+-- the keyings of some clerks are the same if each keyed the same
 keyed_alike : (f g : ℕ → List KeyedEntry) (cs : List ℕ) → ((c : ℕ) → f c ≡ g c) → filter is_keyed (map f cs) ≡ filter is_keyed (map g cs)
 keyed_alike f g [] same = refl
 keyed_alike f g (c ∷ cs) same =
     ap (λ (ks : List KeyedEntry). cond (is_keyed ks) (ks ∷ filter is_keyed (map f cs)) (filter is_keyed (map f cs))) (same c)
     ∙ ap (λ (others : List (List KeyedEntry)). cond (is_keyed (g c)) (g c ∷ others) others) (keyed_alike f g cs same)
 
--- papers are of the batch of which they are keyed
+-- papers belong to the batch that they are keyed of
 pub papers_of_batch : (batch round clerk paper : ℕ) (texts : List (List ℕ)) → list_all (λ (k : KeyedEntry). k.batch == batch) (papers_from batch round clerk paper texts) ≡ true
 unfolding papers_from
 papers_of_batch batch round clerk paper [] = refl
@@ -38,7 +38,7 @@ IsOfBatch n (papers_keyed papers) = list_all (λ (k : KeyedEntry). k.batch == n)
 IsOfBatch n (paper_judged v) = v.batch ≡ n
 IsOfBatch n effect = ⊥
 
--- they leave the file of another batch
+-- they leave the file of another batch as it is
 file_elsewhere : (s : OfficeState) (effect : EffectEntry) (n : ℕ) → IsOfBatch n effect → (b : BatchEntry) → (n == b.number) ≡ false → HasSameFile s (with_effect effect s) b
 file_elsewhere s (third_set t) n of b other = record {
   candidates = refl;
@@ -68,11 +68,11 @@ file_elsewhere s effect n of b other = absurd of
 
 -- ---- the batches of a ward
 
--- a batch is another one, or of another ward
+-- a batch is a different one, or belongs to another ward
 abbrev is_elsewhere : ℕ → ℕ → BatchEntry → Bool
 is_elsewhere n m x = not (n == x.number) || not (x.ward == m)
 
--- the piles of a ward's batches are as they were, where those of each batch but one of another ward are
+-- the piles of a ward's batches are unchanged if those of each batch but one of another ward are
 piles_elsewhere : (s t : OfficeState) (n m : ℕ) (bs : List BatchEntry) → ((x : BatchEntry) → (n == x.number) ≡ false → pile_of t x ≡ pile_of s x) → list_all (is_elsewhere n m) bs ≡ true
     → map (pile_of t) (filter (λ (x : BatchEntry). x.ward == m) bs) ≡ map (pile_of s) (filter (λ (x : BatchEntry). x.ward == m) bs)
 piles_elsewhere s t n m [] same all = refl
@@ -90,7 +90,7 @@ piles_elsewhere s t n m (x ∷ bs) same all =
     go false away later = later
     go true away later = ap (λ (p : Pile). p ∷ map (pile_of t) (filter (λ (y : BatchEntry). y.ward == m) bs)) (same x (other (n == x.number) away)) ∙ ap (λ (ps : List Pile). pile_of s x ∷ ps) later
 
--- a change of a batch of another ward leaves those of a ward
+-- changing a batch of another ward leaves those of a ward as they are
 changed_elsewhere : (n m : ℕ) (change : BatchEntry → BatchEntry) → ((x : BatchEntry) → (change x).ward ≡ x.ward) → (bs : List BatchEntry) → list_all (is_elsewhere n m) bs ≡ true
     → filter (λ (x : BatchEntry). x.ward == m) (changed (batch_compared n) change bs) ≡ filter (λ (x : BatchEntry). x.ward == m) bs
 changed_elsewhere n m change ward [] all = refl
@@ -107,7 +107,7 @@ changed_elsewhere n m change ward (x ∷ bs) all =
         let moved : ((change x).ward == m) ≡ false = ap (λ (k : ℕ). k == m) (ward x) ∙ apart in
         rw (unsigned_tied n x.number ∙ same) (rw (moved, apart) later)
 
--- a batch more of another ward leaves the piles of a ward
+-- adding a batch of another ward leaves the piles of a ward as they are
 pub piles_added : (s : OfficeState) (b : BatchEntry) (m : ℕ) → (b.ward == m) ≡ false → piles_of (with_effect (batch_added b) s) m ≡ piles_of s m
 piles_added s b m apart = ap (map (pile_of s)) (filter_put batch_cmp (λ (y : BatchEntry). y.ward == m) b s.batches apart)
 
@@ -121,7 +121,7 @@ module _ (s : OfficeState) (n : ℕ) (b : BatchEntry) (m : ℕ) (is : IsState s)
   pub piles_reopened : (round : ℕ) → piles_of (with_effect (batch_reopened n round) s) m ≡ piles_of s m
   piles_reopened round = ap (map (pile_of s)) (changed_elsewhere n m (in_round round) (λ y. refl) s.batches batches_elsewhere)
 
-  -- and a third clerk, papers or a verdict of it
+  -- and so do a third clerk, papers or a verdict of it
   pub piles_kept : (effect : EffectEntry) → IsOfBatch n effect → piles_of (with_effect effect s) m ≡ piles_of s m
   piles_kept (third_set t) of =
       piles_elsewhere s (with_effect (third_set t) s) n m s.batches (λ x away. pile_kept s (with_effect (third_set t) s) x (file_elsewhere s (third_set t) n of x away)) batches_elsewhere

@@ -1,4 +1,4 @@
--- What a clerk sees, and what is decided on their requests, follows from what they observed.
+-- What a clerk sees, and the decisions on their requests, follow from what they observed.
 use Rattle.std.proofs.Common.{◌≡◌, ℕ, Bool, true, false, cond, not, ◌&&◌, ◌==◌, List, [], ◌∷◌, ◌++◌, map, filter, Option, Some, None, string_bytes, refl, sym, ap, subst, ◌∙◌}
 use Rattle.std.specs.Prelude.{⊤}
 use Rattle.std.specs.Ordering.{is_eq, is_lt}
@@ -17,22 +17,22 @@ use Rattle.register.specs.declared.counts.CountCommand.TheVariants as count_comm
 use Rattle.register.specs.Reasons.{first_reason}
 use Rattle.register.specs.Ranges.{is_clerk, is_id, is_office}
 use Rattle.register.specs.Offices.{KeyedEntry, OfficeState, ReceiptEntry, WardEntry, changed, put, receipt_at, receipt_cmp, ward_cmp, ward_compared}
-use Rattle.register.specs.Items.{IsState}
+use Rattle.register.specs.StateConditions.{IsState}
 use Rattle.register.specs.Effects.{ChangeEntry, EffectEntry, at_stage, batch_added, batch_reopened, candidate_added, candidate_withdrawn, in_phase, lot_drawn, paper_judged, papers_keyed}
 use Rattle.register.specs.Effects.{stage_counted, third_set, ward_added, ward_moved, with_change, with_effect}
 use Rattle.register.specs.Machine.{Ruling, accepts, keeps, refuses, after_one, answered, decided, effect_of, judged, objections, outcome_at, part_of, ruling_at, state_after, step, subject_of}
-use Rattle.register.specs.Parts.{PartEntries}
+use Rattle.register.specs.CommandInputs.{CommandInputEntries}
 use Rattle.register.specs.Seen.{seen_by}
 use Rattle.register.proofs.MachineLemmas.{step_stays}
 use Rattle.register.proofs.MapLemmas.{filter_put}
-use Rattle.register.specs.Standings.{paper_at, work_of}
+use Rattle.register.specs.Status.{paper_at, work_of}
 use Rattle.register.proofs.SeenLemmas.{paper_seen, ruling_on_seen, stands_alone, unseen_by, work_seen}
 use Rattle.laws.specs.Blindness.{AlikeOfficesAnswerAlike, ClerksAreBlind, DecidedByObserved, Observation, IsUnobserved, OwnAreObserved, SeenIsAlike, SeenIsObserved, asked, decided_alone}
 use Rattle.laws.specs.Blindness.{observed_at, observed_by, observed_of, is_shown, is_shown_command, made, own_rulings, ruling_on, seen_after}
 
--- ---- what of a change is seen
+-- ---- what is seen of a change
 
--- what passes a test twice passes it once
+-- filtering twice is filtering once
 filter_again : {X : Type 0} (p : X → Bool) (xs : List X) → filter p (filter p xs) ≡ filter p xs
 filter_again p [] = refl
 filter_again {X} p (x ∷ xs) = go (p x) refl (filter_again p xs)
@@ -41,12 +41,12 @@ filter_again {X} p (x ∷ xs) = go (p x) refl (filter_again p xs)
     go true passes later = rw passes (ap (λ (ys : List X). x ∷ ys) later)
     go false passes later = later
 
--- wards as they are seen are seen so,
+-- what is seen of wards is seen the same again,
 seen_wards : (ws : List WardEntry) → map (at_stage 0) (map (at_stage 0) ws) ≡ map (at_stage 0) ws
 seen_wards [] = refl
 seen_wards (w ∷ ws) = ap (λ (xs : List WardEntry). at_stage 0 w ∷ xs) (seen_wards ws)
 
--- also with one more,
+-- also with one more ward,
 seen_put : (w : WardEntry) (ws : List WardEntry) → map (at_stage 0) (put ward_cmp w (map (at_stage 0) ws)) ≡ map (at_stage 0) (put ward_cmp w ws)
 seen_put w [] = refl
 seen_put w (x ∷ ws) = go (is_lt (ward_cmp w x)) (seen_put w ws)
@@ -57,7 +57,7 @@ seen_put w (x ∷ ws) = go (is_lt (ward_cmp w x)) (seen_put w ws)
     go true later = ap (λ (xs : List WardEntry). at_stage 0 w ∷ at_stage 0 x ∷ xs) (seen_wards ws)
     go false later = ap (λ (xs : List WardEntry). at_stage 0 x ∷ xs) later
 
--- with one in another phase,
+-- with a ward in another phase,
 seen_moved : (n : ℕ) (phase : Phase) (ws : List WardEntry)
     → map (at_stage 0) (changed (ward_compared n) (in_phase phase) (map (at_stage 0) ws)) ≡ map (at_stage 0) (changed (ward_compared n) (in_phase phase) ws)
 seen_moved n phase [] = refl
@@ -79,13 +79,13 @@ seen_staged n done (w ∷ ws) = go (is_eq (ward_compared n w)) (seen_staged n do
     go true later = ap (λ (xs : List WardEntry). at_stage 0 w ∷ xs) later
     go false later = ap (λ (xs : List WardEntry). at_stage 0 w ∷ xs) later
 
--- an effect of the office: whatever it is, no papers are keyed by it
+-- an effect of the office, which never keys papers
 abbrev IsNoKeying : EffectEntry → Type 0
 IsNoKeying (papers_keyed papers) = ⊥
 IsNoKeying effect = ⊤
 
 module _ (clerk : ℕ) (s : OfficeState) where
-  -- own keyings and receipts are seen again as they are
+  -- the clerk's own keyings and receipts are seen unchanged
   own_again : (wards : List WardEntry) (t : OfficeState) → t.keyings ≡ s.keyings → t.receipts ≡ s.receipts → wards ≡ map (at_stage 0) t.wards
       → record (seen_by clerk t) {
         wards = wards;
@@ -105,7 +105,7 @@ module _ (clerk : ℕ) (s : OfficeState) where
       (filter_again (λ (r : ReceiptEntry). r.actor == clerk) s.receipts ∙ ap (filter (λ (r : ReceiptEntry). r.actor == clerk)) (sym receipts))
       ∙ ap (λ (ws : List WardEntry). record (seen_by clerk t) { wards = ws }) same
 
-  -- of an effect of the office a clerk sees what it makes of what he saw, where it is shown; else all is as he saw it
+  -- after an effect of the office that is shown, a clerk sees what it makes of what they saw; after any other, they see the same as before
   shown : (effect : EffectEntry) → is_shown effect ≡ true → seen_by clerk (with_effect effect (seen_by clerk s)) ≡ seen_by clerk (with_effect effect s)
   shown (ward_added w) is = own_again _ (with_effect (ward_added w) s) refl refl (seen_put w s.wards)
   shown (ward_moved ward phase) is = own_again _ (with_effect (ward_moved ward phase) s) refl refl (seen_moved ward phase s.wards)
@@ -123,7 +123,7 @@ module _ (clerk : ℕ) (s : OfficeState) where
   unshown (lot_drawn l) is none = refl
   unshown effect is none = absurd (cc)
 
-  -- a receipt of another isn't seen
+  -- another actor's receipt isn't seen
   receipt_unseen : (change : ChangeEntry) → (change.receipt.actor == clerk) ≡ false → seen_by clerk (with_change change s) ≡ seen_by clerk (with_effect change.effect s)
   receipt_unseen change other =
       ap (λ (rs : List ReceiptEntry). record (seen_by clerk (with_effect change.effect s)) { receipts = rs })
@@ -131,25 +131,25 @@ module _ (clerk : ℕ) (s : OfficeState) where
 
 -- ---- a request of the office
 
--- what is decided on it: a change, if there is one, has another's receipt than the clerk's, and keys no papers
+-- the ruling on it: a change, if any, has a receipt of another actor than the clerk, and keys no papers
 abbrev IsByOffice : ℕ → Ruling → Type 0
 IsByOffice clerk (accepts change reply) = ((change.receipt.actor == clerk) ≡ false) × IsNoKeying change.effect
 IsByOffice clerk (keeps reply) = ⊤
 IsByOffice clerk (refuses why) = ⊤
 
--- the office is no clerk, who alone may key
+-- the office isn't a clerk, and only clerks may key
 no_clerk : (actor : ℕ) → is_office actor ≡ true → is_clerk actor ≡ false
 no_clerk actor office = ap is_clerk (eqb-true actor 0 office)
 
 module _ (clerk actor : ℕ) (id : List ℕ) (other : (actor == clerk) ≡ false) (office : is_office actor ≡ true) where
-  by_office : (c : Command) (part : PartEntries) → IsNoKeying (effect_of actor c part) → IsByOffice clerk (judged actor id c part (first_reason (objections actor c part)))
+  by_office : (c : Command) (part : CommandInputEntries) → IsNoKeying (effect_of actor c part) → IsByOffice clerk (judged actor id c part (first_reason (objections actor c part)))
   by_office c part none = go (first_reason (objections actor c part))
     where
       go : (o : Option Reason) → IsByOffice clerk (judged actor id c part o)
       go (Some why) = tt
       go None = (other, none)
 
-  judged_so : (c : Command) (part : PartEntries) → IsByOffice clerk (judged actor id c part (first_reason (objections actor c part)))
+  judged_so : (c : Command) (part : CommandInputEntries) → IsByOffice clerk (judged actor id c part (first_reason (objections actor c part)))
   judged_so (Ward (ward_command.Add ward seats name)) part = by_office (Ward (ward_command.Add ward seats name)) part tt
   judged_so (Ward (ward_command.Close ward)) part = by_office (Ward (ward_command.Close ward)) part tt
   judged_so (Candidate (candidate_command.Add ward candidate name)) part = by_office (Candidate (candidate_command.Add ward candidate name)) part tt
@@ -173,9 +173,9 @@ module _ (clerk actor : ℕ) (id : List ℕ) (other : (actor == clerk) ≡ false
       go true (Some r) = elim (bytes_eq r.subject (subject_of command)) as (λ b. IsByOffice clerk (cond b (keeps r.reply) (refuses IdUsed))) [ true ↦ tt | false ↦ tt ]
       go true None = judged_so command (part_of s actor command)
 
--- of a command whose change clerks don't see, nothing is observed
+-- nothing is observed of a command whose change clerks don't see
 module _ (actor : ℕ) (id : List ℕ) (office : is_office actor ≡ true) where
-  judged_unobserved : (s : OfficeState) (c : Command) (part : PartEntries) → is_shown_command c ≡ false → observed_of (judged actor id c part (first_reason (objections actor c part))) ≡ []
+  judged_unobserved : (s : OfficeState) (c : Command) (part : CommandInputEntries) → is_shown_command c ≡ false → observed_of (judged actor id c part (first_reason (objections actor c part))) ≡ []
   judged_unobserved s (Keying c) part unshown = rw (no_clerk actor office) refl
   judged_unobserved s (Verdict c) part unshown = nothing (first_reason (objections actor (Verdict c) part))
     where
@@ -203,7 +203,7 @@ module _ (actor : ℕ) (id : List ℕ) (office : is_office actor ≡ true) where
       go true (Some r) = elim (bytes_eq r.subject (subject_of c)) as (λ b. observed_of (cond b (keeps r.reply) (refuses IdUsed)) ≡ []) [ true ↦ refl | false ↦ refl ]
       go true None = judged_unobserved s c (part_of s actor c) unshown
 
--- so where a request isn't a clerk's own, nor the office's with another command, it is unobserved
+-- so a request is unobserved if it is neither the clerk's own nor the office's with another command
 pub unobserved : (clerk : ℕ) (r : Request) → (r.actor ≡ clerk → ⊥) → (is_office r.actor && is_shown_command r.command) ≡ false → IsUnobserved clerk r
 unobserved clerk r other none s = rw (ne_eqb r.actor clerk other) (go (is_office r.actor) refl (is_shown_command r.command) refl none)
   where
@@ -213,7 +213,7 @@ unobserved clerk r other none s = rw (ne_eqb r.actor clerk other) (go (is_office
     go true office false shown none = ruling_unobserved r.actor (string_bytes r.id) office s r.command shown
 
 module _ (clerk : ℕ) where
-  -- a clerk sees what is made of what he saw
+  -- a clerk sees what becomes of what they saw
   made_seen : (s : OfficeState) (ruling : Ruling) → IsByOffice clerk ruling → seen_by clerk (state_after s (outcome_at s ruling)) ≡ seen_after clerk (seen_by clerk s) (observed_of ruling)
   made_seen s (accepts change reply) by = receipt_unseen clerk s change by.0 ∙ go (is_shown change.effect) refl
     where
@@ -223,7 +223,7 @@ module _ (clerk : ℕ) where
   made_seen s (keeps reply) by = refl
   made_seen s (refuses why) by = refl
 
-  -- none of his own requests is decided by it
+  -- it decides none of the clerk's own requests
   none_decided : (seen : OfficeState) (ruling : Ruling) (observed : List Observation)
       → decided_alone clerk seen (observed_of ruling ++ observed) ≡ decided_alone clerk (seen_after clerk seen (observed_of ruling)) observed
   none_decided seen (accepts change reply) observed =
@@ -232,7 +232,7 @@ module _ (clerk : ℕ) where
   none_decided seen (keeps reply) observed = refl
   none_decided seen (refuses why) observed = refl
 
-  -- more is observed
+  -- observing more
   seen_more : (seen : OfficeState) (before observed : List Observation) → seen_after clerk seen (before ++ observed) ≡ seen_after clerk (seen_after clerk seen before) observed
   seen_more seen [] observed = refl
   seen_more seen (asked r ∷ before) observed = seen_more (after_one seen r) before observed
@@ -259,7 +259,7 @@ module _ (clerk : ℕ) where
     other_seen : (r.actor == clerk) ≡ false → is_office r.actor ≡ false → seen_by clerk (after_one s r) ≡ seen_by clerk s
     other_seen other clerks = unseen_by s r.actor (string_bytes r.id) clerks r.command clerk other
 
-    -- he sees after it what he observed of it
+    -- after it the clerk sees what follows from what they observed of it
     one_seen : seen_by clerk (after_one s r) ≡ seen_after clerk (seen_by clerk s) (observed_at clerk s r)
     one_seen = go (r.actor == clerk) refl (is_office r.actor) refl
       where
@@ -269,7 +269,7 @@ module _ (clerk : ℕ) where
         go false other true office = office_seen other office
         go false other false clerks = other_seen other clerks
 
-    -- and what was decided on his own request, and is on those behind it, he could tell from that
+    -- and the rulings on their own request, and on those after it, follow from that
     one_decided : (observed : List Observation) (later : List Ruling) → later ≡ decided_alone clerk (seen_by clerk (after_one s r)) observed
         → cond (r.actor == clerk) (ruling_on s r ∷ later) later ≡ decided_alone clerk (seen_by clerk s) (observed_at clerk s r ++ observed)
     one_decided observed later same = go (r.actor == clerk) refl (is_office r.actor) refl

@@ -1,4 +1,4 @@
--- A sealed ward stays sealed, with its papers, whatever request comes.
+-- A sealed ward stays sealed, with its papers, whatever requests follow.
 use Rattle.std.proofs.Common.{◌≡◌, ℕ, Bool, true, false, cond, ◌==◌, List, [], ◌∷◌, ◌++◌, map, Option, Some, None, string_bytes, refl, sym, ap, subst, ◌∙◌, append_assoc}
 use Rattle.std.specs.List.Sorted.{IsPermutation}
 use Rattle.std.specs.Cmp.{IsTotalOrder, unsigned_tied}
@@ -31,7 +31,7 @@ use Rattle.register.specs.Offices.{receipt_at, ward_at, ward_compared}
 use Rattle.register.specs.Marks.{columns_of}
 use Rattle.register.specs.Polls.{Pile, ballots_in, piles_of}
 use Rattle.register.specs.Elections.{ElectionEntry, contest_of, election_of, is_counted, is_declared, lot_pair, stages_of}
-use Rattle.register.specs.Items.{IsState}
+use Rattle.register.specs.StateConditions.{IsState}
 use Rattle.register.specs.Effects.{EffectEntry, at_stage, in_phase, lot_drawn, paper_judged, papers_keyed, stage_counted, third_set, ward_moved, with_effect, with_receipt}
 use Rattle.register.specs.Batches.{next_round, ward_for}
 use Rattle.register.specs.Keyings.{papers_from, texts_of}
@@ -53,9 +53,9 @@ judged_batch : (batch paper : ℕ) (verdict : Verdict) → (judged_as batch pape
 judged_batch batch paper (Accept marks) = refl
 judged_batch batch paper (Reject code) = refl
 
--- ---- one ward at two states
+-- ---- one ward in two states
 
--- what some papers come to follows from a ward's candidates and the piles of its batches
+-- the ballots of a ward are determined by its candidates and the piles of its batches
 ballots_same : (s t : OfficeState) (w v : WardEntry) → v.number ≡ w.number → candidates_of t w.number ≡ candidates_of s w.number → piles_of t w.number ≡ piles_of s w.number
     → (election_of t v).ballots ≡ (election_of s w).ballots
 ballots_same s t w v number candidates piles =
@@ -74,7 +74,7 @@ election_same s t w candidates piles lots =
     ∙ ap (λ (ps : List Pile). election_with w (candidates_of s w.number) ps (lots_of t w.number)) piles
     ∙ ap (election_with w (candidates_of s w.number) (piles_of s w.number)) lots
 
--- a ward stays sealed where nothing of its election changes,
+-- a ward stays sealed if nothing of its election changes,
 same_stays : (s t : OfficeState) (w : WardEntry) → is_counted w.phase ≡ true → ward_at t w.number ≡ Some w → candidates_of t w.number ≡ candidates_of s w.number
     → piles_of t w.number ≡ piles_of s w.number → lots_of t w.number ≡ lots_of s w.number → StaysSealed s t w
 same_stays s t w sealed found candidates piles lots =
@@ -94,7 +94,7 @@ same_stays s t w sealed found candidates piles lots =
       declared = λ was. same;
     }
 
--- and from one state to another and on to a third
+-- and from one state to a second and from that to a third
 then_stays : (s t u : OfficeState) (w : WardEntry) (first : StaysSealed s t w) → StaysSealed t u first.ward → StaysSealed s u w
 then_stays s t u w first next = record {
   ward = next.ward;
@@ -118,20 +118,20 @@ then_stays s t u w first next = record {
   declared = λ was. next.declared (ap (λ (e : ElectionEntry). is_declared e.ward.phase) (first.declared was) ∙ was) ∙ first.declared was;
 }
 
--- ---- one command that nothing stands against
+-- ---- one command without objections
 
 module _ (s : OfficeState) (w : WardEntry) (is : IsState s) (found : ward_at s w.number ≡ Some w) (sealed : is_counted w.phase ≡ true) where
   itself : StaysSealed s s w
   itself = same_stays s s w sealed found refl refl refl
 
-  -- a ward in an earlier phase is another one
+  -- a ward in an earlier phase is a different one
   another : (phase : Phase) (k : ℕ) → is_counted phase ≡ false → IsThere phase (ward_at s k) → (k == w.number) ≡ false
   another phase k before its = ne_eqb k w.number (λ same.
       let one : Some its.ward ≡ Some w = sym its.is ∙ ap (ward_at s) same ∙ found in
       let v : its.ward ≡ w = cc in
       both_ways (is_counted w.phase) (ap (λ (x : WardEntry). is_counted x.phase) (sym v) ∙ ap is_counted its.phased ∙ before) sealed)
 
-  -- the ward where one is changed
+  -- the ward after one is changed
   changed_there : (k : ℕ) (change : WardEntry → WardEntry) → ((x : WardEntry) → (change x).number ≡ x.number)
       → entry_at (ward_compared w.number) (changed (ward_compared k) change s.wards) ≡ Some (cond (k == w.number) (change w) w)
   changed_there k change kept =
@@ -143,7 +143,7 @@ module _ (s : OfficeState) (w : WardEntry) (is : IsState s) (found : ward_at s w
       → entry_at (ward_compared w.number) (changed (ward_compared k) change s.wards) ≡ Some w
   changed_away k change kept other = changed_there k change kept ∙ ap (λ (b : Bool). Some (cond b (change w) w)) other
 
-  -- a batch in keying is of another ward
+  -- a batch in keying belongs to another ward
   batch_away : (n : ℕ) (in_keying : IsBatchIn s Keying n) → (in_keying.batch.ward == w.number) ≡ false
   batch_away n in_keying = another Keying in_keying.batch.ward refl in_keying.its
 
@@ -161,7 +161,7 @@ module _ (s : OfficeState) (w : WardEntry) (is : IsState s) (found : ward_at s w
 
   -- ---- in its count
 
-  -- the ward that is there in a phase is this one
+  -- the ward found in a phase is this one
   own_phase : (phase : Phase) (k : ℕ) → k ≡ w.number → IsThere phase (ward_at s k) → w.phase ≡ phase
   own_phase phase k same its =
       let one : Some its.ward ≡ Some w = sym its.is ∙ ap (ward_at s) same ∙ found in
@@ -171,7 +171,7 @@ module _ (s : OfficeState) (w : WardEntry) (is : IsState s) (found : ward_at s w
   not_declared : w.phase ≡ Sealed → {X : Type 0} → is_declared w.phase ≡ true → X
   not_declared phased was = absurd (both_ways (is_declared w.phase) (ap is_declared phased) was)
 
-  -- a stage more, behind those that were done
+  -- one more stage, following those that were done
   stage_more : (next : OfficeState) (v : WardEntry) (k : ℕ) → k ≡ w.number → ward_at next w.number ≡ Some v → HasStageMore s next k
       → (more : History) × (stages_of (election_of next v) ≡ more ++ stages_of (election_of s w))
   stage_more next v k same now more =

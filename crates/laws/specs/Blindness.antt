@@ -1,4 +1,4 @@
--- What a clerk observes of the requests that come to an office, what they see by it, and what is decided on their own requests.
+-- What a clerk observes of the requests to an office, what they see as a result, and the decisions on their own requests.
 use Rattle.std.specs.Prelude.{◌≡◌, ℕ, ◌==◌, ◌&&◌, ◌||◌, not, Bool, true, false, if◌then◌else◌, List, [], ◌∷◌, ◌++◌, map, string_bytes}
 use Rattle.std.specs.List.{filter, list_all}
 use Rattle.register.specs.declared.command.Command.{Command}
@@ -7,25 +7,25 @@ use Rattle.register.specs.declared.counts.CountCommand.TheVariants as count
 use Rattle.register.specs.declared.command.Request.{Request}
 use Rattle.register.specs.Ranges.{is_office}
 use Rattle.register.specs.Offices.{OfficeState}
-use Rattle.register.specs.Items.{IsState}
+use Rattle.register.specs.StateConditions.{IsState}
 use Rattle.register.specs.Effects.{EffectEntry, papers_keyed, paper_judged, stage_counted, lot_drawn, with_effect}
 use Rattle.register.specs.Machine.{Ruling, accepts, keeps, refuses, ruling_at, after_one, after}
 use Rattle.register.specs.Seen.{seen_by}
-use Rattle.register.specs.Standings.{paper_at, work_of}
+use Rattle.register.specs.Status.{paper_at, work_of}
 
--- what is decided on a request at a state: its change and reply, the reply of its receipt, or the reason of its refusal
+-- the ruling on a request in a state: its change and reply, the reply of its receipt, or the reason for refusing it
 abbrev pub ruling_on : OfficeState → Request → Ruling
 ruling_on s r = ruling_at s r.actor (string_bytes r.id) r.command
 
 -- ---- what a clerk observes
 
--- an observation: the clerk asked something, or the office made a change that clerks see
+-- an observation: a request of the clerk, or a change by the office that clerks see
 pub data Observation : Type 0 where
   asked : Request → Observation
   made : EffectEntry → Observation
 
--- Clerks see that a ward is new or in another phase, that a candidate stands or withdrew, and that a batch is new, in another round or with a third clerk.
--- They don't see that papers are keyed, that one is judged, that a stage is counted, or that a lot is drawn.
+-- Clerks see that a ward is new or in another phase, that a candidate was added or withdrawn, and that a batch is new, in another round or with a third
+-- clerk. They don't see that papers are keyed, that one is judged, that a stage is counted, or that a lot is drawn.
 abbrev pub is_shown : EffectEntry → Bool
 is_shown (papers_keyed papers) = false
 is_shown (paper_judged verdict) = false
@@ -33,17 +33,17 @@ is_shown (stage_counted ward done) = false
 is_shown (lot_drawn lot) = false
 is_shown effect = true
 
--- what each clerk observes of a request of the office, by what is decided on it: the change that it makes, if clerks see it
+-- what each clerk observes of a request of the office, given its ruling: the change that it makes, if clerks see it
 abbrev pub observed_of : Ruling → List Observation
 observed_of (accepts change reply) = if is_shown change.effect then made change.effect ∷ [] else []
 observed_of (keeps reply) = []
 observed_of (refuses why) = []
 
--- what a clerk observes of a request that comes at a state: their own request itself, of one of the office the change, and nothing of another clerk's
+-- what a clerk observes of a request in a state: their own request itself, the change of the office's request, and nothing of another clerk's
 abbrev pub observed_at : ℕ → OfficeState → Request → List Observation
 observed_at clerk s r = if r.actor == clerk then asked r ∷ [] else (if is_office r.actor then observed_of (ruling_on s r) else [])
 
--- what a clerk observes of requests that come one after the other
+-- what a clerk observes of a list of requests
 abbrev pub observed_by : ℕ → OfficeState → List Request → List Observation
 observed_by clerk s [] = []
 observed_by clerk s (r ∷ rs) = observed_at clerk s r ++ observed_by clerk (after_one s r) rs
@@ -60,24 +60,24 @@ is_shown_command other = true
 abbrev pub may_observe : ℕ → Request → Bool
 may_observe clerk r = (r.actor == clerk) || (is_office r.actor && is_shown_command r.command)
 
--- at whatever state the request comes, the clerk observes nothing of it
+-- the clerk observes nothing of the request, in any state
 abbrev pub IsUnobserved : ℕ → Request → Type 0
 IsUnobserved clerk r = (s : OfficeState) → observed_at clerk s r ≡ []
 
--- ---- what follows from it
+-- ---- consequences
 
--- what is decided on a clerk's own requests among some, each at the state at which it comes
+-- the rulings on a clerk's own requests in a list, each in the state at that point
 abbrev pub own_rulings : ℕ → OfficeState → List Request → List Ruling
 own_rulings clerk s [] = []
 own_rulings clerk s (r ∷ rs) = if r.actor == clerk then ruling_on s r ∷ own_rulings clerk (after_one s r) rs else own_rulings clerk (after_one s r) rs
 
--- what a clerk sees after some observations, from what they saw at first: their requests change that as they change a state, and so do the office's changes
+-- what a clerk sees after some observations, given what they saw at first: their requests and the office's changes change it as they change a state
 abbrev pub seen_after : ℕ → OfficeState → List Observation → OfficeState
 seen_after clerk seen [] = seen
 seen_after clerk seen (asked r ∷ observed) = seen_after clerk (after_one seen r) observed
 seen_after clerk seen (made effect ∷ observed) = seen_after clerk (seen_by clerk (with_effect effect seen)) observed
 
--- what is decided on a clerk's requests by what they see alone, from one observation to the next
+-- the rulings on a clerk's requests, made from what they see alone, observation by observation
 abbrev pub decided_alone : ℕ → OfficeState → List Observation → List Ruling
 decided_alone clerk seen [] = []
 decided_alone clerk seen (asked r ∷ observed) = ruling_on seen r ∷ decided_alone clerk (after_one seen r) observed
@@ -85,47 +85,46 @@ decided_alone clerk seen (made effect ∷ observed) = decided_alone clerk (seen_
 
 -- ---- the laws
 
--- two offices are alike to a clerk: the clerk sees the same of both
+-- two offices look the same to a clerk
 abbrev pub AreAlikeTo : ℕ → OfficeState → OfficeState → Type 0
 AreAlikeTo clerk s t = seen_by clerk s ≡ seen_by clerk t
 
--- two offices answer a clerk alike: what is decided on anything that the clerk asks, their work, and what stands on the papers of a batch
+-- two offices answer a clerk alike: the rulings on anything that the clerk requests, their work, and the text of a batch's papers are the same
 pub record AnswerAlike (clerk : ℕ) (s t : OfficeState) : Type 0 where
   pub decided : (id : List ℕ) (command : Command) → ruling_at s clerk id command ≡ ruling_at t clerk id command
   pub work : work_of s clerk ≡ work_of t clerk
   pub paper : (batch : ℕ) → paper_at s clerk batch ≡ paper_at t clerk batch
 
--- An office is alike to a clerk with what they see of it.
+-- An office and what a clerk sees of it look the same to the clerk.
 abbrev pub SeenIsAlike : Type 0
 SeenIsAlike = (clerk : ℕ) (s : OfficeState) → AreAlikeTo clerk s (seen_by clerk s)
 
--- Offices that are alike to a clerk answer the clerk alike.
+-- Offices that look the same to a clerk answer the clerk alike.
 abbrev pub AlikeOfficesAnswerAlike : Type 0
 AlikeOfficesAnswerAlike = (clerk : ℕ) (s t : OfficeState) → is_office clerk ≡ false → AreAlikeTo clerk s t → AnswerAlike clerk s t
 
--- What a clerk sees after any requests follows from what they saw before and what they observed.
+-- What a clerk sees after any requests is determined by what they saw before and what they observed.
 abbrev pub SeenIsObserved : Type 0
 SeenIsObserved =
     (clerk : ℕ) (s : OfficeState) (rs : List Request) → is_office clerk ≡ false → IsState s → seen_by clerk (after s rs) ≡ seen_after clerk (seen_by clerk s) (observed_by clerk s rs)
 
--- So does what is decided on those of the requests that are the clerk's own.
+-- So are the rulings on those of the requests that are the clerk's own.
 abbrev pub DecidedByObserved : Type 0
 DecidedByObserved =
     (clerk : ℕ) (s : OfficeState) (rs : List Request) → is_office clerk ≡ false → IsState s → own_rulings clerk s rs ≡ decided_alone clerk (seen_by clerk s) (observed_by clerk s rs)
 
--- Of requests of which none is the office's, a clerk observes their own, and nothing else.
+-- If none of the requests is the office's, a clerk observes their own, and nothing else.
 abbrev pub OwnAreObserved : Type 0
 OwnAreObserved =
     (clerk : ℕ) (s : OfficeState) (rs : List Request) → list_all (λ (r : Request). not (is_office r.actor)) rs ≡ true
     → observed_by clerk s rs ≡ map asked (filter (λ (r : Request). r.actor == clerk) rs)
 
--- A clerk can't tell two courses of an evening apart: the same was decided on their own requests in both, and the two offices are alike to them.
+-- A clerk can't tell two courses of an evening apart: the rulings on their own requests are the same in both, and the two offices look the same to them.
 pub record CannotTell (clerk : ℕ) (s t : OfficeState) (rs qs : List Request) : Type 0 where
   pub decided : own_rulings clerk s rs ≡ own_rulings clerk t qs
   pub alike : AreAlikeTo clerk (after s rs) (after t qs)
 
--- Two offices were alike to a clerk, and the clerk observed the same of the requests that came to each. Then they can't tell the two apart, whatever other
--- clerks keyed in one and in the other.
+-- If two offices look the same to a clerk, and the clerk observes the same of the requests to each, they can't tell the two apart, whatever other clerks keyed in either.
 abbrev pub ClerksAreBlind : Type 0
 ClerksAreBlind =
     (clerk : ℕ) (s t : OfficeState) (rs qs : List Request) → is_office clerk ≡ false → IsState s → IsState t → AreAlikeTo clerk s t → observed_by clerk s rs ≡ observed_by clerk t qs

@@ -1,3 +1,3 @@
--- What clerks observe of requests, and what stays of a sealed ward.
+-- What clerks observe of requests, and what doesn't change once a ward is sealed.
 pub mod Blindness
 pub mod Sealed

@@ -1,4 +1,4 @@
--- What stays of a ward that is sealed, and what may still come to its election.
+-- What doesn't change once a ward is sealed, and what may be added to its election.
 use Rattle.std.specs.Prelude.{◌≡◌, ℕ, true, List, ◌++◌, Some}
 use Rattle.std.specs.List.Sorted.{IsPermutation}
 use Rattle.count.specs.Law.Contest.{History}
@@ -7,19 +7,19 @@ use Rattle.register.specs.declared.command.Request.{Request}
 use Rattle.register.specs.Offices.{OfficeState, WardEntry, candidates_of, empty_office, ward_at}
 use Rattle.register.specs.Polls.{piles_of}
 use Rattle.register.specs.Elections.{election_of, is_counted, is_declared, stages_of}
-use Rattle.register.specs.Items.{IsState}
+use Rattle.register.specs.StateConditions.{IsState}
 use Rattle.register.specs.Machine.{after}
 
--- a ward of a state that is past its keying
+-- a ward of a state, past its keying
 pub record IsSealedIn (s : OfficeState) (w : WardEntry) : Type 0 where
   pub state : IsState s
   pub there : ward_at s w.number ≡ Some w
   pub sealed : is_counted w.phase ≡ true
 
--- A sealed ward at a later state. It is there, with its number, seats and name, and sealed still. Its candidates are the same. So are the keyings of each
--- of its batches in the current round, and the verdicts on their papers. So is what these come to: the preferences of each valid paper, and the numbers of
--- rejected ones. The stages that were done are the first ones of those that are done. The lots that were drawn are among those that are drawn. If the ward
--- was declared, its election is the very same, with its result.
+-- A sealed ward in a later state. It still exists, with its number, seats and name, and is still sealed. Its candidates are the same. So are the keyings
+-- of each of its batches in the current round, and the verdicts on their papers; and so are the preferences of each valid paper, and the numbers of
+-- rejected ones. The stages that were done are the first of those now done. The lots that were drawn are among those now drawn. If the ward was declared,
+-- its election is identical, including its result.
 pub record StaysSealed (s later : OfficeState) (w : WardEntry) : Type 0 where
   pub ward : WardEntry
   pub there : ward_at later w.number ≡ Some ward
@@ -34,18 +34,18 @@ pub record StaysSealed (s later : OfficeState) (w : WardEntry) : Type 0 where
   pub lots : (more : List (ℕ × ℕ)) × IsPermutation (more ++ (election_of s w).lots) (election_of later ward).lots
   pub declared : is_declared w.phase ≡ true → election_of later ward ≡ election_of s w
 
--- Whatever requests come, a sealed ward stays so.
+-- A sealed ward stays sealed, whatever requests follow.
 abbrev pub SealedWardsStay : Type 0
 SealedWardsStay = (s : OfficeState) (w : WardEntry) (requests : List Request) → IsSealedIn s w → StaysSealed s (after s requests) w
 
--- Where a ward is sealed after some requests, its papers come to the same after any further ones.
+-- If a ward is sealed after some requests, its papers result in the same ballots after any further ones.
 abbrev pub SealedPapersStay : Type 0
 SealedPapersStay =
     (earlier further : List Request) (w : WardEntry) → ward_at (after empty_office earlier) w.number ≡ Some w → is_counted w.phase ≡ true
     → (ward : WardEntry) × (ward_at (after empty_office (earlier ++ further)) w.number ≡ Some ward)
     × ((election_of (after empty_office (earlier ++ further)) ward).ballots ≡ (election_of (after empty_office earlier) w).ballots)
 
--- Whatever requests come, each ward that is in this phase stays sealed.
+-- Every ward in this phase stays sealed, whatever requests follow.
 abbrev pub PhaseStays : Phase → Type 0
 PhaseStays phase =
     (s : OfficeState) (w : WardEntry) (requests : List Request) → IsState s → ward_at s w.number ≡ Some w → w.phase ≡ phase → StaysSealed s (after s requests) w

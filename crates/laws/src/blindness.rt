@@ -1,4 +1,4 @@
-//! What a clerk may learn of what the others do.
+//! What a clerk may learn about other clerks' work.
 
 ghost use Rattle.std.specs.Prelude.{◌≡◌, false};
 ghost use Rattle.laws.specs.Blindness.{AlikeOfficesAnswerAlike, ClerksAreBlind, DecidedByObserved, IsUnobserved, OwnAreObserved, SeenIsAlike, SeenIsObserved};
@@ -7,17 +7,19 @@ ghost use Rattle.laws.specs.Blindness.{is_shown_command, may_observe};
 use register::ranges::is_office;
 use register::{Command, CountCommand, Request};
 
-/// The law of blind keying, over lists of requests. A clerk *observes* their own requests, and of the office's the changes that
-/// clerks see: of wards, phases, candidates, batches, rounds and third clerks. They observe nothing of another clerk's request.
+/// The law of blind keying, for lists of requests. A clerk *observes* their own requests, and the changes made by the
+/// office's requests that clerks see: to wards, phases, candidates, batches, rounds and third clerks. They observe nothing
+/// of another clerk's requests.
 ///
-/// What a clerk sees after any requests, and what is decided on their own, follows from what they saw at first and what they
-/// observed. So take two offices that are alike to a clerk, and any requests to each. If the clerk observes the same of both, they
-/// get the same answers in both, and the two are alike to them in the end, whatever other clerks keyed.
+/// What a clerk sees after any requests, and the decisions on their own requests, follow from what they saw at first and
+/// what they observed. So consider two offices that look the same to a clerk, and any requests to each. If the clerk
+/// observes the same of both, their requests get the same replies in both, and the two still look the same in the end,
+/// whatever other clerks keyed.
 ///
-/// To a teller this means: if your colleagues had keyed anything else, and the office had made the same changes all the same, you
-/// would have read the same, to the letter. The law doesn't say that the office's changes tell you nothing: a batch that is open
-/// again tells you that its keyings differed. Nor does it speak of faults, of how long an answer takes, of what is published of a
-/// sealed ward, or of a request that is turned away before it comes to the office.
+/// To a teller this means: if your colleagues had keyed anything else, and the office had still made the same changes, you
+/// would have read the same, to the letter. The law doesn't say that the office's changes tell you nothing: a batch that is
+/// reopened tells you that its keyings differed. Nor does it cover faults, response times, what is published of a sealed
+/// ward, or requests that are rejected before they reach the office.
 pub fn clerks_are_blind()
     ensures itself { SeenIsAlike }
     ensures alike { AlikeOfficesAnswerAlike }
@@ -44,8 +46,8 @@ fn is_shown(command: &Command) -> bool
     }
 }
 
-/// Returns whether a clerk may observe a request: it is their own, or it is the office's, with a command whose change clerks may
-/// see. Of any other request a clerk observes nothing, at whatever state it comes.
+/// Returns whether a clerk may observe a request: it is their own, or it is the office's, with a command whose change clerks
+/// may see. Of any other request a clerk observes nothing, in any state.
 pub fn may_observe(clerk: u32, request: &Request) -> bool
     ensures is { result ≡ may_observe clerk request.now }
     ensures unobserved { result ≡ false → IsUnobserved clerk request.now }

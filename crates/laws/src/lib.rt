@@ -1,8 +1,8 @@
-//! Laws of lists of requests: clerks are blind to one another, and a sealed ward stays.
+//! Laws of lists of requests: clerks are blind to one another, and a sealed ward doesn't change.
 //!
-//! `register` says what one request makes of the state; here stands what follows for whole lists, in the presence of everybody
-//! who asks. `server` cites the first for all that is sent over HTTP. What decides here is `may_observe`, whether a clerk may observe a request, and
-//! `is_past_keying`, whether a ward's papers stay.
+//! `register` defines what one request does to the state; these laws state what follows for whole lists, whoever sends the
+//! requests. `server` cites the first for everything sent over HTTP. Two functions decide: `may_observe`, whether a clerk
+//! may observe a request, and `is_past_keying`, whether a ward's papers are final.
 #![tactic(auto)]
 
 mod blindness;

@@ -1,4 +1,4 @@
-//! What stays of a ward that is sealed.
+//! What doesn't change once a ward is sealed.
 
 ghost use Rattle.std.specs.Prelude.{◌≡◌, true};
 ghost use Rattle.register.specs.Elections.{is_counted};
@@ -6,20 +6,20 @@ ghost use Rattle.laws.specs.Sealed.{PhaseStays, SealedPapersStay, SealedWardsSta
 
 use register::Phase;
 
-/// The law of sealed papers, over lists of requests. Once a ward is sealed, no request changes its seats, its candidates or its
-/// papers: neither the keyings of the current round and the verdicts, nor the preferences of a valid paper, nor how many are
-/// rejected by each code. It is never keyed again. Stages are only added to those counted, and lots to those drawn. Of a declared
-/// ward's election nothing changes.
+/// The law of sealed papers, for lists of requests. Once a ward is sealed, no request changes its seats, its candidates or
+/// its papers: neither the keyings of the current round and the verdicts, nor the preferences of a valid paper, nor how many
+/// are rejected with each code. It is never keyed again. Stages are only added to those counted, and lots to those drawn.
+/// After a ward is declared nothing of its election changes.
 ///
-/// To a candidate this means: the count rests on what the tellers had keyed, and the returning officer had judged, when the ward
-/// was sealed. The result that was declared stays. The law speaks of requests: it says nothing of what is done to the file by
-/// other means, nor of paper.
+/// To a candidate this means: the count depends on what the tellers had keyed, and the returning officer had judged, when
+/// the ward was sealed. A declared result is final. The law covers requests: it says nothing of changes to the file by other
+/// means, nor of paper.
 pub fn sealed_wards_stay()
     ensures wards { SealedWardsStay }
     ensures papers { SealedPapersStay }
 {}
 
-/// Returns whether a ward in this phase is past its keying. The papers of such a ward stay, whatever requests come.
+/// Returns whether a ward in this phase is past its keying. No request changes the papers of such a ward.
 pub fn is_past_keying(phase: Phase) -> bool
     ensures is { result ≡ is_counted phase }
     ensures stay { result ≡ true → PhaseStays phase }

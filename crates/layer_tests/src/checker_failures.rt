@@ -1,9 +1,10 @@
-//! What the checker prints over files that can't be read, memory that is wanting, and outputs that fail. (What else it prints is
+//! What the checker prints if files can't be read, allocations fail, or outputs fail. (What else it prints is
 //! played in examples/checking.sh and examples/transcripts/checks.txt.)
 
 ghost use Rattle.std.specs.Prelude.{◌-◌, ◌^◌, ◌<◌};
 
-use crate::checker_texts::{BALLOTS, SHEET};
+use crate::ballot_counts::{TIED, TIED_LINE, TIED_SHEET};
+use crate::checker_texts::{BALLOTS, DECLARATION, SHEET};
 use crate::sheet_outputs::is_told;
 use checker::{ArgumentsFault, InputFiles, NotRead, run};
 use std::alloc::{AllocError, Global};
@@ -15,7 +16,7 @@ use streams::{Counted, Sink};
 const IS_SHEET: &str =
     "the text is the stage sheet that these ballots, rejected papers and lots give\n";
 
-/// Two files that can be read, and others that can't.
+/// Three files that can be read, and others that can't.
 #[derive(Clone, Copy)]
 struct MemoryFiles<'a> {
     alloc: Global,
@@ -37,6 +38,7 @@ impl InputFiles for MemoryFiles<'_> {
         match path {
             "ballots" => self.file(self.ballots),
             "text" => self.file(self.text),
+            "tied" => self.file(TIED),
             "large" => Err(NotRead::Memory),
             _ => match String::from_str(self.alloc, "there is none") {
                 Ok(why) => Err(NotRead::Because(why)),
@@ -46,7 +48,7 @@ impl InputFiles for MemoryFiles<'_> {
     }
 }
 
-/// Some words, parted by spaces.
+/// Returns words that are separated by spaces.
 fn words_of(alloc: Global, words: &str) -> Result<Vec<String>, AllocError> {
     let mut all = Vec::new(alloc);
     for word in words.split_whitespace() {
@@ -55,7 +57,7 @@ fn words_of(alloc: Global, words: &str) -> Result<Vec<String>, AllocError> {
     Ok(all)
 }
 
-/// Asks the checker, of which a text lies on the shelf beside the ballots, by some words, and gives its status.
+/// Runs the checker with some words, in a folder with a text and the ballots, and returns its status.
 fn asked<O: Sink, E: Sink>(
     alloc: Global,
     words: &Result<Vec<String>, ArgumentsFault>,
@@ -74,7 +76,7 @@ fn asked<O: Sink, E: Sink>(
     run(alloc, words, &folder, out, err)
 }
 
-/// Asks the checker by some words, and compares what it prints on the output and the error output, and its status.
+/// Runs the checker with some words, and compares its output, its error output and its status.
 fn tells(
     rt: &(impl Abort + AllocGlobal),
     words: &Result<Vec<String>, ArgumentsFault>,
@@ -88,54 +90,88 @@ fn tells(
     assert!(rt; status == told.2);
 }
 
-/// The same by words that can be read.
+/// Does the same with words that are UTF-8.
 fn asks(rt: &(impl Abort + AllocGlobal), words: &str, told: &(&str, &str, u8)) -> Result<(), Fail> {
     let words = Ok(words_of(rt.alloc(), words)?);
     tells(rt, &words, told);
     Ok(())
 }
 
-/// What it prints where memory is wanting.
+/// Its output if an allocation fails.
 const MEMORY: (&str, &str, u8) = ("", "error: memory is wanting\n", 3);
 
-/// What it prints of a file that can't be read.
+/// Its output if a file can't be read.
 const UNREAD: (&str, &str, u8) = ("", "error: no?ne can't be read: there is none\n", 3);
 
-/// The words that the checker is asked by, and what it prints.
-const ASKED: [(&str, (&str, &str, u8)); 5] = [
+/// Its output for words that lack the ballots, or a lot.
+const NO_BALLOTS: &str = "error: give the path of the ballots; --help says more\n";
+
+const NO_VALUE: &str = "error: the last option needs a value; --help says more\n";
+
+const NO_LOT: &str =
+    "error: give a lot as its stage and its candidate, such as --lot 3:4; --help says more\n";
+
+const NOT_TIED: &str = "error: the lot for stage 2 names none of the tied
+(correct the lot; without it the tied candidates are printed)
+";
+
+/// The checker's words, and its output.
+const ASKED: [(&str, (&str, &str, u8)); 14] = [
     ("large text", MEMORY),
     ("ballots large", MEMORY),
     ("no\u{1b}ne nothing", UNREAD),
     ("ballots no\u{1b}ne", UNREAD),
     ("ballots text", (IS_SHEET, "", 0)),
+    ("--count ballots", (SHEET, "", 0)),
+    ("--count --declaration ballots", (DECLARATION, "", 0)),
+    ("--count tied", (TIED_SHEET, TIED_LINE, 1)),
+    ("--count no\u{1b}ne", UNREAD),
+    ("--count large", MEMORY),
+    ("--count", ("", NO_BALLOTS, 2)),
+    ("--count tied --lot", ("", NO_VALUE, 2)),
+    ("--count tied --lot 2:", ("", NO_LOT, 2)),
+    ("--count tied --lot 2:1", ("", NOT_TIED, 2)),
 ];
 
-/// Asks the checker over outputs that take no more bytes than they have room for, and gives its status.
-fn asked_over(alloc: Global, text: &str, out: &mut [u8], err: &mut [u8]) -> Result<u8, Fail> {
-    let words = Ok(words_of(alloc, "ballots text")?);
+/// Runs the checker with some words, and with outputs that accept only so many bytes as they have room for, and returns its status.
+fn asked_over(
+    alloc: Global,
+    words: &str,
+    text: &str,
+    out: &mut [u8],
+    err: &mut [u8],
+) -> Result<u8, Fail> {
+    let words = Ok(words_of(alloc, words)?);
     let (mut to_out, mut to_err) = (Counted::new(out), Counted::new(err));
     Ok(asked(alloc, &words, text, &mut to_out, &mut to_err))
 }
 
-/// What it prints of a text over outputs that have room for just this.
+/// Compares its output for a text with outputs that have room for just this.
 fn breaks(
     rt: &(impl Abort + AllocGlobal),
-    (text, out_told, err_told): &(&str, &str, &str),
+    (words, text, out_told, err_told): &(&str, &str, &str, &str),
 ) -> Result<(), Fail> {
     let mut out = vec![in rt.alloc(); 0; out_told.len()]?;
     let mut err = vec![in rt.alloc(); 0; err_told.len()]?;
-    let status = asked_over(rt.alloc(), *text, &mut out, &mut err)?;
+    let status = asked_over(rt.alloc(), *words, *text, &mut out, &mut err)?;
     assert!(rt; status == 3);
     is_told(rt, &out, *out_told);
     is_told(rt, &err, *err_told);
     Ok(())
 }
 
-/// A text, and what an output and an error output take that have no room for more.
-const BROKEN: [(&str, &str, &str); 3] = [
-    (SHEET, "the text", "error: the output failed\n"),
-    (SHEET, "", "error"),
-    ("", "", "line 1"),
+/// Words, a text, and what an output and an error output accept that have no room for more.
+const BROKEN: [(&str, &str, &str, &str); 5] = [
+    (
+        "ballots text",
+        SHEET,
+        "the text",
+        "error: the output failed\n",
+    ),
+    ("ballots text", SHEET, "", "error"),
+    ("ballots text", "", "", "line 1"),
+    ("--count tied", "", "Ward 1", "error: the output failed\n"),
+    ("--count tied", "", TIED_SHEET, "lot needed"),
 ];
 
 /// The checker's words can't be read.

@@ -52,7 +52,7 @@ Elected
  3 Cy
 ";
 
-/// What came of a check, in words.
+/// Returns the result of a check, in words.
 fn words_of(alloc: Global, came: &Result<Checked, Problem>) -> Result<String, AllocError> {
     match came {
         Ok(Checked::Sheet) => String::from_str(alloc, "the sheet"),
@@ -64,12 +64,12 @@ fn words_of(alloc: Global, came: &Result<Checked, Problem>) -> Result<String, Al
     }
 }
 
-/// What is reported of a text beside ballots, in words.
+/// Returns the report on a text and ballots, in words.
 fn told(alloc: Global, ballots: &[u8], text: &[u8]) -> Result<String, AllocError> {
     words_of(alloc, &check(alloc, ballots, text))
 }
 
-/// This is reported of a text beside ballots.
+/// Asserts the report on a text and ballots.
 fn tells(
     rt: &(impl Abort + AllocGlobal),
     ballots: &str,
@@ -81,7 +81,7 @@ fn tells(
     Ok(())
 }
 
-/// What is reported of texts beside the ballots.
+/// The reports on texts and the ballots.
 const CHECKS: [(&str, &str); 4] = [
     (SHEET, "the sheet"),
     (DECLARATION, "the declaration"),

@@ -1,10 +1,15 @@
-//! Clerks' codes: their file, who is let in, how many wrong codes reach the limit, and which codes are made.
+//! Codes of clerks and of the office: their file, which requests are authenticated, how many wrong codes reach the limit, and which
+//! codes are made.
 
 ghost use Rattle.std.specs.Prelude.{Some, take};
 
+use super::console_targets::asks_reads;
 use super::wire_requests::asks_of;
 use crate::sheet_outputs::is_text;
-use codes::{ClerkRange, Codes, CodesError, CodesFault, DrawFailed, Draws, RateLimit, make};
+use codes::{
+    ClerkRange, Codes, CodesError, CodesFault, DrawFailed, RandomSource, RateLimit, make,
+    make_with_office,
+};
 use std::alloc::{AllocError, Global};
 use std::process::Abort;
 use std::test::Fail;
@@ -18,8 +23,29 @@ const FOUR: &str = "Basic NDprZjdtLTJ3eHQ=";
 
 const NINE: &str = "Basic OTp3M2hkLTRwc24=";
 
+/// A file with a code of the office.
+const WITH_OFFICE: &str = "4 kf7m-2wxt\noffice abcd-efgh-jkmn-prst\r\n9 w3hd-4psn\n";
+
+/// What the office sends with that code.
+const OFFICE: &str = "Basic b2ZmaWNlOmFiY2QtZWZnaC1qa21uLXByc3Q=";
+
+/// What may be sent to the office, and whether it is the office's. After its own come two clerks', nothing, the office's code under
+/// clerk 4's name, and clerk 4's code under the office's. Then the office's name has a capital, its code is cut, and another scheme
+/// is named.
+const TO_OFFICE: [(&str, bool); 9] = [
+    (OFFICE, true),
+    (FOUR, false),
+    (NINE, false),
+    ("", false),
+    ("Basic NDphYmNkLWVmZ2gtamttbi1wcnN0", false),
+    ("Basic b2ZmaWNlOmtmN20tMnd4dA==", false),
+    ("Basic T2ZmaWNlOmFiY2QtZWZnaC1qa21uLXByc3Q=", false),
+    ("Basic b2ZmaWNlOmFiY2QtZWZnaC1qa21uLXByc3", false),
+    ("Bearer b2ZmaWNlOmFiY2QtZWZnaC1qa21uLXByc3Q=", false),
+];
+
 /// Texts that are no files of codes, and the fault of each.
-const FAULTS: [(&str, &str); 16] = [
+const FAULTS: [(&str, &str); 24] = [
     ("4", "2 at 1"),
     ("kf7m-2wxt\n", "1 at 1"),
     ("0 kf7m-2wxt\n", "1 at 1"),
@@ -36,9 +62,26 @@ const FAULTS: [(&str, &str); 16] = [
     ("4 kf7m-2wxt\n\n4 w3hd-4psn\n", "3 at 3"),
     ("4 kf7m-2wxt\n9 kf7m-2wxt\n", "4 at 2"),
     ("# codes\n4 kf7m-2wxt\n", "1 at 1"),
+    ("Office abcd-efgh-jkmn-prst\n", "1 at 1"),
+    (" office abcd-efgh-jkmn-prst\n", "1 at 1"),
+    ("office\n", "2 at 1"),
+    ("4 kf7m-2wxt\noffice kf7m-2wxt-h4dn\n", "12 at 2"),
+    ("office abcd-efgh-jkmn-prs\n", "12 at 1"),
+    (
+        "office abcd-efgh-jkmn-prst\n\noffice jkmn-prst-abcd-efgh\n",
+        "11 at 3",
+    ),
+    (
+        "4 abcd-efgh-jkmn-prst\noffice abcd-efgh-jkmn-prst\n",
+        "4 at 2",
+    ),
+    (
+        "office abcd-efgh-jkmn-prst\n4 abcd-efgh-jkmn-prst\n",
+        "4 at 2",
+    ),
 ];
 
-/// What is asked under a clerk's number, by the values of `Authorization`.
+/// Requests under a clerk's number, by the values of `Authorization`.
 const SENT: [(&str, &str, &str); 19] = [
     ("GET /clerks/4/work", FOUR, "Work { clerk: 4 }"),
     ("GET /clerks/9/work", NINE, "Work { clerk: 9 }"),
@@ -55,46 +98,46 @@ const SENT: [(&str, &str, &str); 19] = [
     ("GET /clerks/4/leave", FOUR, "4 leaves"),
     ("POST /clerks/4/", FOUR, "only Get"),
     ("GET /clerks/4/nothing", FOUR, "NotFound"),
-    ("GET /clerks/4/work", "", "Unauthorized { clerk: 4 }"),
-    ("PUT /clerks/4/work", "", "Unauthorized { clerk: 4 }"),
-    ("GET /clerks/4/nothing", "", "Unauthorized { clerk: 4 }"),
-    ("GET /clerks/4/work", NINE, "WrongCode { clerk: 4 }"),
-    ("GET /clerks/9/work", FOUR, "WrongCode { clerk: 9 }"),
-    ("GET /clerks/5/work", FOUR, "WrongCode { clerk: 5 }"),
+    ("GET /clerks/4/work", "", "Unauthorized(Clerk(4))"),
+    ("PUT /clerks/4/work", "", "Unauthorized(Clerk(4))"),
+    ("GET /clerks/4/nothing", "", "Unauthorized(Clerk(4))"),
+    ("GET /clerks/4/work", NINE, "WrongCode(Clerk(4))"),
+    ("GET /clerks/9/work", FOUR, "WrongCode(Clerk(9))"),
+    ("GET /clerks/5/work", FOUR, "WrongCode(Clerk(5))"),
     // in capitals, cut, with clerk 9's name, with clerk 9's code, with another number, under another scheme
     (
         "GET /clerks/4/work",
         "Basic NDpLRjdNLTJXWFQ=",
-        "WrongCode { clerk: 4 }",
+        "WrongCode(Clerk(4))",
     ),
     (
         "GET /clerks/4/work",
         "Basic NDprZjdtLTJ3eA==",
-        "WrongCode { clerk: 4 }",
+        "WrongCode(Clerk(4))",
     ),
     (
         "GET /clerks/4/work",
         "Basic OTprZjdtLTJ3eHQ=",
-        "WrongCode { clerk: 4 }",
+        "WrongCode(Clerk(4))",
     ),
     (
         "GET /clerks/4/work",
         "Basic NDp3M2hkLTRwc24=",
-        "WrongCode { clerk: 4 }",
+        "WrongCode(Clerk(4))",
     ),
     (
         "GET /clerks/4/work",
         "Basic MDQ6a2Y3bS0yd3h0",
-        "WrongCode { clerk: 4 }",
+        "WrongCode(Clerk(4))",
     ),
     (
         "GET /clerks/4/work",
         "Bearer NDprZjdtLTJ3eHQ=",
-        "WrongCode { clerk: 4 }",
+        "WrongCode(Clerk(4))",
     ),
 ];
 
-/// What is asked by whoever isn't a clerk, by a code that comes twice, and by a page from elsewhere.
+/// Requests for no clerk's number, with two codes, and from a page from elsewhere.
 const BESIDE: [(&str, &str, &str); 5] = [
     ("GET /wards/7/sheet", "", "Sheet { ward: 7 }"),
     ("GET /clerks//work", "", "NotFound"),
@@ -102,7 +145,7 @@ const BESIDE: [(&str, &str, &str); 5] = [
     (
         "GET /clerks/4/work",
         "Authorization: Basic NDprZjdtLTJ3eHQ=\r\nAuthorization: Basic NDprZjdtLTJ3eHQ=\r\n",
-        "WrongCode { clerk: 4 }",
+        "WrongCode(Clerk(4))",
     ),
     (
         "GET /clerks/4/work",
@@ -111,7 +154,7 @@ const BESIDE: [(&str, &str, &str); 5] = [
     ),
 ];
 
-/// What is knocked with under clerk 4's number, how often, and when; and whether the limit is reached then.
+/// Codes sent under clerk 4's number, how often, and when; and whether the limit is then reached.
 const KNOCKS: [(&str, u32, u64, bool); 9] = [
     (FOUR, 6_001, 0, false),
     (NINE, 5_999, 100_000, false),
@@ -133,7 +176,13 @@ const DRAWN: [u8; 26] = [
 /// The codes that these bytes draw.
 const MADE: &str = "4 abcd-a7fg-2347\n5 jkmn-prst-uwxy\n";
 
-/// What is reported of a text that is a file of codes, or isn't.
+/// Bytes that draw the office's code, one letter each.
+const DRAWN_FOR_OFFICE: [u8; 16] = [0, 1, 2, 3, 4, 5, 6, 7, 8, 9, 10, 11, 12, 13, 14, 15];
+
+/// The codes that the bytes for the clerks draw, and then these.
+const MADE_WITH_OFFICE: &str = "4 abcd-a7fg-2347\n5 jkmn-prst-uwxy\noffice abcd-efgh-jkmn-prst\n";
+
+/// Returns the report on a text as a file of codes.
 fn fault_in(alloc: Global, text: &str) -> Result<String, AllocError> {
     match Codes::read(alloc, text.as_bytes()) {
         Ok(_) => String::from_str(alloc, "none"),
@@ -157,7 +206,8 @@ fn asks_at(
     asks_of(rt, given, request.as_bytes(), asked)
 }
 
-/// Knocks under clerk 4's number, with this value of `Authorization`, as often, at this time; whether the limit is reached then.
+/// Sends requests under clerk 4's number, with this value of `Authorization`, so often, at this time; returns whether the limit is
+/// then reached.
 fn is_reached_after(
     alloc: Global,
     given: HttpSettings<'_>,
@@ -180,7 +230,7 @@ fn is_reached_after(
     Ok(limit.is_reached(now))
 }
 
-/// Draws these bytes, one after the other. Then it fails.
+/// Returns these bytes, one after the other. Then it fails.
 #[derive(Drop)]
 struct Known<'a> {
     bytes: &'a [u8],
@@ -188,7 +238,7 @@ struct Known<'a> {
     failures: u64,
 }
 
-impl Draws for Known<'_> {
+impl RandomSource for Known<'_> {
     ghost drawn = { λ known. Some (take known.at known.bytes.now) };
 
     ghost failed = { λ known. known.failures };
@@ -213,7 +263,14 @@ fn gate_of(codes: &Codes) -> HttpSettings<'_> {
     };
     HttpSettings {
         origin: None,
-        gate: Some(Gate { codes, page }),
+        gate: Some(Gate {
+            codes,
+            page,
+            console: Page {
+                text: "<p>console</p>",
+                policy: "default-src 'self'",
+            },
+        }),
     }
 }
 
@@ -225,7 +282,7 @@ fn faults_are_told(rt: &(impl Abort + AllocGlobal)) -> Result<(), Fail> {
     Ok(())
 }
 
-/// What is asked with one value of `Authorization`, or with none where it is empty.
+/// Asserts the request with one value of `Authorization`, or with none if it is empty.
 fn asks_sent(
     rt: &(impl Abort + AllocGlobal),
     given: HttpSettings<'_>,
@@ -248,10 +305,68 @@ fn asks_all(rt: &(impl Abort + AllocGlobal), given: HttpSettings<'_>) -> Result<
     Ok(())
 }
 
-/// A code is wanted once, and of nobody but a clerk; and a page from elsewhere is refused first.
+/// Asserts that one code is required, of a clerk only, and that a page from elsewhere is rejected first.
 fn asks_beside(rt: &(impl Abort + AllocGlobal), given: HttpSettings<'_>) -> Result<(), Fail> {
     for (line, headers, asked) in &BESIDE {
         asks_at(rt, given, *line, *headers, *asked)?;
+    }
+    Ok(())
+}
+
+/// Requests for the console with this value of `Authorization`, or with none if it is empty.
+const OF_CONSOLE: [(&str, &str, &str); 13] = [
+    (
+        "GET /office/",
+        OFFICE,
+        "office sees <p>console</p> by default-src 'self'",
+    ),
+    ("GET /office/leave", OFFICE, "office leaves"),
+    ("POST /office/", OFFICE, "only Get"),
+    ("GET /office/orders", OFFICE, "only Post"),
+    ("GET /office/nothing", OFFICE, "NotFound"),
+    ("GET /office", OFFICE, "NotFound"),
+    ("POST /office/wards", OFFICE, "only Get"),
+    ("GET /office/wards", "", "Unauthorized(Office)"),
+    ("GET /office/wards", FOUR, "WrongCode(Office)"),
+    ("GET /office/", "", "Unauthorized(Office)"),
+    ("GET /office/nothing", "", "Unauthorized(Office)"),
+    ("GET /office/", FOUR, "WrongCode(Office)"),
+    ("GET /clerks/4/work", OFFICE, "WrongCode(Clerk(4))"),
+];
+
+/// The bodies of orders, and what they ask.
+const ORDERS: [(&str, &str); 12] = [
+    (r#"{"files":{},"words":["wards"]}"#, "office: wards"),
+    (
+        r#"{"words":["import-candidates","n.csv","--id","c1"],"files":{"n.csv":"a,b\n"}}"#,
+        "office: import-candidates n.csv --id c1 n.csv=a,b\n",
+    ),
+    (r#"{"words":["wards"]}"#, "BadRequest"),
+    (r#"{"files":{},"words":[]}"#, "BadRequest"),
+    (r#"{"files":[],"words":["wards"]}"#, "BadRequest"),
+    (r#"{"files":{},"words":"wards"}"#, "BadRequest"),
+    (r#"{"files":{},"words":["wards",7]}"#, "BadRequest"),
+    (r#"{"files":{"a":1},"words":["wards"]}"#, "BadRequest"),
+    (r#"{"files":{},"id":"x","words":["wards"]}"#, "BadRequest"),
+    (r#"{"files":{},"words":["wards"],"xords":[]}"#, "BadRequest"),
+    (
+        r#"{"files":{"0":"","1":"","2":"","3":"","4":"","5":"","6":"","7":"","8":"","9":"","a":"","b":"","c":"","d":"","e":"","f":"","g":""},"words":["wards"]}"#,
+        "BadRequest",
+    ),
+    ("wards", "BadRequest"),
+];
+
+/// What is asked of the console, if the office has a code.
+fn asks_console(rt: &(impl Abort + AllocGlobal), given: HttpSettings<'_>) -> Result<(), Fail> {
+    for (line, value, asked) in &OF_CONSOLE {
+        asks_sent(rt, given, *line, *value, *asked)?;
+    }
+    for (body, asked) in &ORDERS {
+        let length = body.len();
+        let request = format!(in rt.alloc();
+            "POST /office/orders HTTP/1.1\r\nAuthorization: {OFFICE}\r\nContent-Length: {length}\r\n\r\n{body}"
+        )?;
+        asks_of(rt, given, request.as_bytes(), *asked)?;
     }
     Ok(())
 }
@@ -271,27 +386,61 @@ fn limits_wrong_codes(
     Ok(())
 }
 
+/// Asserts which requests a file with a code of the office authenticates.
+fn office_is_let_in(rt: &(impl Abort + AllocGlobal), held: &Codes) -> Result<(), Fail> {
+    assert!(rt; held.has_office());
+    for (sent, is_its) in &TO_OFFICE {
+        assert!(rt; held.admits_office(sent.as_bytes()) == *is_its);
+    }
+    assert!(rt; held.admits(4, FOUR.as_bytes()));
+    assert!(rt; !held.admits(4, OFFICE.as_bytes()));
+    assert!(rt; !held.admits(9, OFFICE.as_bytes()));
+    assert_eq!(rt; held.weak_clerks(), [4, 9].as_slice());
+    Ok(())
+}
+
+/// The codes of a file's text.
+fn codes_of(alloc: Global, text: &str) -> Result<Codes, Fail> {
+    match Codes::read(alloc, text.as_bytes()) {
+        Ok(held) => Ok(held),
+        Err(_) => Err(Fail::from("no codes are read")),
+    }
+}
+
 #[test]
 fn codes_of_clerks(rt: HostRuntime) -> Result<(), Fail> {
     faults_are_told(&rt)?;
-    let Ok(held) = Codes::read(rt.alloc(), FILE.as_bytes()) else {
-        return Err(Fail::from("no codes are read"));
-    };
+    let held = codes_of(rt.alloc(), FILE)?;
     asks_all(&rt, gate_of(&held))?;
     asks_beside(&rt, gate_of(&held))?;
     assert_eq!(rt; held.weak_clerks(), [4, 9].as_slice());
-    limits_wrong_codes(&rt, gate_of(&held))
+    limits_wrong_codes(&rt, gate_of(&held))?;
+    // without a line of the office nothing is the office's
+    assert!(rt; !held.has_office());
+    assert!(rt; !held.admits_office(OFFICE.as_bytes()));
+    asks_sent(&rt, gate_of(&held), "GET /office/", OFFICE, "NotFound")?;
+    asks_sent(&rt, gate_of(&held), "GET /office/", "", "NotFound")?;
+    asks_sent(&rt, gate_of(&held), "GET /office/wards", OFFICE, "NotFound")?;
+    let with_office = codes_of(rt.alloc(), WITH_OFFICE)?;
+    asks_console(&rt, gate_of(&with_office))?;
+    asks_reads(&rt, gate_of(&with_office), OFFICE)?;
+    office_is_let_in(&rt, &with_office)
 }
 
-/// What is made for clerks 4 and 5 of these bytes: the text, or why there is none.
-fn made_of(alloc: Global, bytes: &[u8]) -> Result<String, AllocError> {
+/// Returns the codes for clerks 4 and 5, and for the office or not, made of these bytes: the text, or the reason why there is none.
+fn made_of(alloc: Global, bytes: &[u8], office: bool) -> Result<String, AllocError> {
     let clerks = ClerkRange { first: 4, last: 5 };
     let mut known = Known {
         bytes,
         at: 0,
         failures: 0,
     };
-    match make(alloc, &mut known, clerks) {
+    let made = if office {
+        make_with_office(alloc, &mut known, clerks)
+    } else {
+        make(alloc, &mut known, clerks)
+    };
+    match made {
         Ok(text) => Ok(text),
         Err(CodesError::Fault(CodesFault::NoRandom)) => format!(in alloc; "fails at {}", known.at),
         Err(CodesError::Fault(fault)) => format!(in alloc; "{} at {}", fault.number(), known.at),
@@ -299,23 +448,61 @@ fn made_of(alloc: Global, bytes: &[u8]) -> Result<String, AllocError> {
     }
 }
 
-/// Codes are made of just the bytes that are drawn; behind such a file there is none with the same code twice.
+/// Asserts that codes are made of just the bytes drawn, and that no file with the same code twice is made.
 fn makes_codes(rt: &(impl Abort + AllocGlobal)) -> Result<(), Fail> {
     let alloc = rt.alloc();
-    is_text(rt, made_of(alloc, &DRAWN)?.as_str(), MADE);
+    is_text(rt, made_of(alloc, &DRAWN, false)?.as_str(), MADE);
     let mut twice = vec![in alloc; 0; 24]?;
     twice.extend_from_slice(&DRAWN)?;
-    is_text(rt, made_of(alloc, twice.as_slice())?.as_str(), MADE);
-    is_text(rt, made_of(alloc, &DRAWN[..25])?.as_str(), "fails at 25");
-    is_text(rt, made_of(alloc, &[])?.as_str(), "fails at 0");
-    let none = vec![in alloc; 255; 2_400]?;
-    is_text(rt, made_of(alloc, none.as_slice())?.as_str(), "10 at 2400");
+    is_text(rt, made_of(alloc, twice.as_slice(), false)?.as_str(), MADE);
+    is_text(
+        rt,
+        made_of(alloc, &DRAWN[..25], false)?.as_str(),
+        "fails at 25",
+    );
+    is_text(rt, made_of(alloc, &[], false)?.as_str(), "fails at 0");
+    let none = vec![in alloc; 255; 4_000]?;
+    is_text(
+        rt,
+        made_of(alloc, none.as_slice(), false)?.as_str(),
+        "10 at 2400",
+    );
+    is_text(
+        rt,
+        made_of(alloc, none.as_slice(), true)?.as_str(),
+        "10 at 4000",
+    );
+    Ok(())
+}
+
+/// Asserts that the office's code is made of the bytes after those of the clerks' codes.
+fn makes_with_office(rt: &(impl Abort + AllocGlobal)) -> Result<(), Fail> {
+    let alloc = rt.alloc();
+    let mut bytes = vec![in alloc; 0; 40]?;
+    bytes.extend_from_slice(&DRAWN)?;
+    is_text(
+        rt,
+        made_of(alloc, &bytes.as_slice()[40..], true)?.as_str(),
+        "fails at 26",
+    );
+    bytes.extend_from_slice(&DRAWN_FOR_OFFICE)?;
+    is_text(
+        rt,
+        made_of(alloc, bytes.as_slice(), true)?.as_str(),
+        MADE_WITH_OFFICE,
+    );
+    is_text(
+        rt,
+        made_of(alloc, &bytes.as_slice()[40..], true)?.as_str(),
+        MADE_WITH_OFFICE,
+    );
     Ok(())
 }
 
 #[test]
 fn codes_are_made(rt: HostRuntime) -> Result<(), Fail> {
     makes_codes(&rt)?;
+    makes_with_office(&rt)?;
     let Some(clerks) = ClerkRange::parse("1-40") else {
         return Err(Fail::from("no clerks"));
     };

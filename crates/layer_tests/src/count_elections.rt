@@ -1,4 +1,4 @@
-//! Worked elections, stage by stage; lots; and growths that are refused.
+//! Worked elections, stage by stage; lots; and allocations that fail.
 
 mod begun;
 mod books;
@@ -6,7 +6,7 @@ mod bundles;
 mod kept;
 mod lots;
 mod refused;
-mod rows;
+mod tabulations;
 mod worked;
 
 use count::{Bundles, Stage};
@@ -17,12 +17,12 @@ use std::test::Fail;
 use votes::{MAX_PAPERS, Votes};
 use worked::{Expected, Worked};
 
-/// This has to be so of a worked election.
+/// Asserts a condition on a worked election.
 fn holds(rt: &impl Abort, worked: &Worked, what: &str, is_so: bool) {
     assert!(rt; is_so, "{}: {what}", worked.name);
 }
 
-/// This has to be so of the bundle of a list and so many papers.
+/// Asserts a condition on the bundle of a list and its number of papers.
 fn holds_of_list(rt: &impl Abort, list: &Prefs, papers: u32, is_so: bool) {
     assert!(rt; is_so, "{list:?}: {papers}");
 }
@@ -38,7 +38,7 @@ fn first_columns(n: u8) -> Columns {
     columns
 }
 
-/// A set with some numbers more.
+/// Returns a set with some more numbers.
 fn with_all(mut columns: Columns, more: &[u8]) -> Columns {
     for c in more {
         if *c >= 1 && *c <= 30 {
@@ -65,7 +65,7 @@ fn papers_of(alloc: Global, groups: &[(u32, &[u8])]) -> Result<Vec<Prefs>, Fail>
     Ok(papers)
 }
 
-/// Adds a paper. An error is want of memory, or of room.
+/// Adds a paper. `AllocError` if an allocation fails, or if there are too many papers.
 fn add(bundles: &mut Bundles, paper: Prefs) -> Result<(), AllocError> {
     if bundles.papers() < MAX_PAPERS {
         return bundles.add(paper);
@@ -88,7 +88,7 @@ pub fn bundles_of(alloc: Global, groups: &[(u32, &[u8])]) -> Result<Bundles, Fai
     Ok(bundled(alloc, &papers)?)
 }
 
-/// Whether the first of some votes are so many units.
+/// Returns whether the first of some votes are these numbers of units.
 fn are_units(votes: &[Votes], units: &[u64]) -> bool {
     for (votes, units) in votes.iter().zip(units) {
         if votes.units() != *units {
@@ -98,24 +98,24 @@ fn are_units(votes: &[Votes], units: &[u64]) -> bool {
     true
 }
 
-/// Whether the figures of a stage are what they have to be.
+/// Returns whether the figures of a stage are the expected ones.
 fn has_figures(stage: &Stage, expected: &Expected) -> bool {
     let sums = (stage.non_transferable.units(), stage.lost.units());
     sums == expected.sums && are_units(&stage.votes, expected.votes)
 }
 
-/// Whether a stage records what it has to.
+/// Returns whether a stage is the expected one.
 fn records(stage: &Stage, expected: &Expected) -> bool {
     let has_figures = has_figures(stage, expected);
     stage.action == expected.action && stage.elected.as_slice() == expected.elected && has_figures
 }
 
-/// A stage of a worked election records what it has to.
+/// Asserts that a stage of a worked election is the expected one.
 fn record_one(rt: &impl Abort, worked: &Worked, stage: &Stage, expected: &Expected) {
     assert!(rt; records(stage, expected), "{}: {stage:?}", worked.name);
 }
 
-/// These are all stages of a worked election, and each records what it has to.
+/// Asserts that these are all stages of a worked election, each as expected.
 fn record_all(rt: &impl Abort, worked: &Worked, stages: &[Stage], expected: &[Expected]) {
     let are_all = stages.len() == expected.len();
     holds(rt, worked, "how many stages are recorded", are_all);

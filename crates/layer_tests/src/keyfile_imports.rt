@@ -10,7 +10,7 @@ use std::io::{ErrorKind, Read};
 use std::process::Abort;
 use std::test::Fail;
 
-/// Gives some bytes, one at a time, and fails at the read behind them.
+/// A reader that returns some bytes, one at a time, and fails at the read after them.
 #[derive(Drop)]
 struct TornFile<'a> {
     left: &'a [u8],
@@ -37,7 +37,7 @@ fn three() -> Columns {
     Columns::empty().with(1).with(2).with(3)
 }
 
-/// Some papers, each behind a bar.
+/// Returns papers, each after a bar.
 fn papers_text(alloc: Global, papers: &[String]) -> Result<String, AllocError> {
     let mut text = String::new(alloc);
     for paper in papers {
@@ -47,7 +47,7 @@ fn papers_text(alloc: Global, papers: &[String]) -> Result<String, AllocError> {
     Ok(text)
 }
 
-/// The papers of clerk 4's keying of batch 12, or the fault. Want of memory is the error.
+/// Returns the papers of clerk 4's keying of batch 12, or the fault, as text. The error is a failed allocation.
 fn keying_text<R: Read + Drop>(
     alloc: Global,
     file: R,
@@ -59,7 +59,7 @@ fn keying_text<R: Read + Drop>(
     }
 }
 
-/// Some candidates, each behind a bar.
+/// Returns candidates, each after a bar.
 fn rows_text(alloc: Global, rows: &[CandidateRow]) -> Result<String, AllocError> {
     let mut text = String::new(alloc);
     for row in rows {
@@ -69,7 +69,7 @@ fn rows_text(alloc: Global, rows: &[CandidateRow]) -> Result<String, AllocError>
     Ok(text)
 }
 
-/// The candidates of a file, or the fault. Want of memory is the error.
+/// Returns the candidates of a file, or the fault, as text. The error is a failed allocation.
 fn candidates_text<R: Read + Drop>(alloc: Global, file: R) -> Result<String, AllocError> {
     match read_candidates(alloc, file, None) {
         Ok(rows) => rows_text(alloc, &rows),
@@ -77,7 +77,7 @@ fn candidates_text<R: Read + Drop>(alloc: Global, file: R) -> Result<String, All
     }
 }
 
-/// The text of a fault. Want of memory is the error.
+/// Returns the text of a fault. The error is a failed allocation.
 fn fault_text(alloc: Global, fault: FileFault) -> Result<String, AllocError> {
     if fault.flaw == Flaw::Memory {
         return Err(AllocError);
@@ -85,8 +85,8 @@ fn fault_text(alloc: Global, fault: FileFault) -> Result<String, AllocError> {
     format!(in alloc; "{fault}")
 }
 
-/// Files of a keying of the candidates 1, 2 and 3, and what each gives: its papers, or its fault. `~` and `^` stand
-/// for the bytes FF and FE, which no UTF-8 has.
+/// Files of a keying of the candidates 1, 2 and 3, and the result of each: its papers, or its fault. `~` and `^` are the bytes FF
+/// and FE, which never occur in UTF-8.
 const KEYINGS: [(&str, &str); 22] = [
     ("paper,1,2,3\n1,1,2,\n2,D,,\n", "|1,2,|D"),
     (
@@ -119,8 +119,8 @@ const KEYINGS: [(&str, &str); 22] = [
         "paper 12/04,1,2,3\n1,1,2,\n",
         "file fault 1 at record 0: header",
     ),
-    // As people's programs save them: a byte order mark, other line ends, quotes, lines at the end that are empty
-    // or blank or of commas alone, other separators, UTF-16.
+    // As other programs save them: a byte order mark, other line ends, quotes, empty or blank lines at the end or lines of commas,
+    // other separators, UTF-16.
     ("\u{feff}paper,1,2,3\n1,1,2,\n", "|1,2,"),
     ("paper,1,2,3\r\n1,1,2,\r\n2,D,,\r\n", "|1,2,|D"),
     ("paper,1,2,3\r1,1,2,\r2,D,,", "|1,2,|D"),
@@ -151,7 +151,7 @@ const KEYINGS: [(&str, &str); 22] = [
 /// A file by its digest: `paper,1,2,3` and `1,1,2,`.
 const DIGEST: &str = "A07A0DF7acf3e17b2096413e8f3ac12de041078e12e444496ea6ad4fca589c35";
 
-/// Files that are to be the one of [`DIGEST`], and what each gives.
+/// Files that must have this [`DIGEST`], and the result of each.
 const DIGESTED: [(&str, &str); 3] = [
     ("paper,1,2,3\n1,1,2,\n", "|1,2,"),
     (
@@ -164,7 +164,7 @@ const DIGESTED: [(&str, &str); 3] = [
     ),
 ];
 
-/// The bytes of a text in which `~` and `^` stand for two that are no UTF-8.
+/// Returns the bytes of a text in which `~` and `^` are two that never occur in UTF-8.
 fn bytes_of(alloc: Global, text: &str) -> Result<Vec<u8>, AllocError> {
     let mut bytes = Vec::new(alloc);
     for byte in text.as_bytes() {
@@ -177,7 +177,7 @@ fn bytes_of(alloc: Global, text: &str) -> Result<Vec<u8>, AllocError> {
     Ok(bytes)
 }
 
-/// A file gives these papers, or this fault.
+/// Asserts that a file has these papers, or this fault.
 fn gives<R: Read + Drop>(
     rt: &(impl Abort + AllocGlobal),
     file: R,
@@ -189,7 +189,7 @@ fn gives<R: Read + Drop>(
     Ok(())
 }
 
-/// Each file gives what stands beside it.
+/// Asserts the result of each file.
 fn all_give(
     rt: &(impl Abort + AllocGlobal),
     files: &[(&str, &str)],
@@ -202,7 +202,7 @@ fn all_give(
     Ok(())
 }
 
-/// A file of candidates gives them.
+/// Asserts the candidates of a file.
 fn gives_candidates(rt: &(impl Abort + AllocGlobal), file: &str, wanted: &str) -> Result<(), Fail> {
     let text = candidates_text(rt.alloc(), file.as_bytes())?;
     is_text(rt, text.as_str(), wanted);
@@ -218,7 +218,7 @@ fn long_file(alloc: Global) -> Result<String, AllocError> {
     Ok(file)
 }
 
-/// What a read that fails gives is reported at its record.
+/// Asserts that a failed read is reported at its record.
 fn break_off(rt: &(impl Abort + AllocGlobal), digest: Option<FileDigest>) -> Result<(), Fail> {
     let left = b"paper,1,2,3\n1,,,\n2,,".as_slice();
     gives(

@@ -1,16 +1,20 @@
-//! Tests of the layers from `votes` to `wire`, each by its public calls. `register` and `rowcheck` are met by the
-//! orders that examples/transcripts.sh plays: each command and each of its refusals.
+//! Tests of the layers from `votes` to `wire`, each by its public calls. `register` and `rowcheck` are tested by the orders that
+//! examples/transcripts.sh plays: each command and each of its refusals.
 //!
-//! A crate's tests are proved together with the whole crate. Here, above them all, they load what the
-//! layers state, and nothing of those is proved a second time.
+//! A crate's tests are proved together with the whole crate. Here, above them all, they load only the statements of the layers,
+//! which aren't proved a second time.
 #![tactic(auto)]
 
+#[cfg(test)]
+mod ballot_counts;
 #[cfg(test)]
 mod checker_failures;
 #[cfg(test)]
 mod checker_texts;
 #[cfg(test)]
 mod codes_and_wire;
+#[cfg(test)]
+mod console_targets;
 #[cfg(test)]
 mod count_elections;
 #[cfg(test)]
@@ -28,7 +32,7 @@ mod sheet_spreadsheets;
 #[cfg(test)]
 mod sheet_texts;
 #[cfg(test)]
-mod votes_values;
+mod streams_and_votes;
 #[cfg(test)]
 mod wire_origins;
 #[cfg(test)]

@@ -12,7 +12,7 @@ fn three() -> Columns {
     Columns::empty().with(3).with(1).with(2).with(1)
 }
 
-/// What is keyed by a text of a paper with columns 1, 2, 3, which is its text again.
+/// Returns the paper with columns 1, 2 and 3 that a text describes, and asserts that it has the same text.
 fn keyed(rt: &(impl Abort + AllocGlobal), text: &str) -> Result<Keyed, Fail> {
     let keyed = Marks::read(text.as_bytes(), three())?;
     let again = keyed.text(rt.alloc())?;
@@ -27,7 +27,7 @@ fn marked(rt: &(impl Abort + AllocGlobal), text: &str) -> Result<Marked, Fail> {
     }
 }
 
-/// What is judged of each text: the preferences, or the code of the rejection.
+/// The judgement on each text: the preferences, or the code of the rejection.
 const JUDGED: [(&str, &[u8], u32); 6] = [
     ("1,3,", &[1], 0),
     ("1,2,2", &[1], 0),
@@ -37,7 +37,7 @@ const JUDGED: [(&str, &[u8], u32); 6] = [
     (",2,", &[], 1),
 ];
 
-/// Judges a paper: the preferences or the code are those that are wanted.
+/// Judges a paper, and asserts the preferences or the code.
 fn is_judged(rt: &impl Abort, paper: &Marked, (text, wanted, code): &(&str, &[u8], u32)) {
     match judge(paper) {
         Ok(prefs) => assert!(rt; prefs.as_slice() == *wanted, "{text}"),
@@ -118,7 +118,7 @@ const PREFS: &[u8] = &[1, 3, 4, 5, 2];
 /// Where the walk over those preferences starts, and the next that is available; 0 for none.
 const NEXT: [(usize, u8); 5] = [(0, 4), (2, 4), (3, 2), (5, 0), (9, 0)];
 
-/// How some candidates stand.
+/// The status of some candidates.
 const STANDING: [(u8, CandidateStatus); 5] = [
     (1, CandidateStatus::Elected),
     (2, CandidateStatus::Continuing),
@@ -127,13 +127,13 @@ const STANDING: [(u8, CandidateStatus); 5] = [
     (200, CandidateStatus::Absent),
 ];
 
-/// This one is the next that is available.
+/// Asserts which preference is the next available one.
 fn is_next(rt: &impl Abort, standing: &Standing, (from, wanted): &(usize, u8)) {
     let next = next_available(PREFS, *from, standing).unwrap_or(0);
     assert!(rt; next == *wanted, "from {from}: {next}");
 }
 
-/// A candidate stands so.
+/// Asserts the status of a candidate.
 fn stands(rt: &impl Abort, standing: &Standing, (c, status): &(u8, CandidateStatus)) {
     assert!(rt; standing.status(*c) == *status, "at {c}");
     let is_continuing = *status == CandidateStatus::Continuing;

@@ -11,7 +11,7 @@ use std::process::Abort;
 use std::test::Fail;
 use streams::{Broken, Sink};
 
-/// Nobody stands at the numbers 2, 4 and 5, and names have what stands in quotation marks with a backslash.
+/// There are no candidates 2, 4 and 5, and names have quotation marks and backslashes, which are escaped.
 const GAPS: &str = r#"6 2
 -2 -4 -5
 2 1 0

@@ -1,6 +1,6 @@
-//! What is printed: as a text, to a sink, and to one that has no room for all of it.
+//! Printing: to a text, to a sink, and to a sink without room for all of it.
 //!
-//! What a test does with it is written over whatever is printed. So a proof of that knows nothing of what that is, and is short.
+//! Tests are generic over what is printed, so their proofs don't depend on it, and are short.
 
 ghost use Rattle.std.specs.Prelude.{◌-◌, ◌^◌, ◌<◌};
 
@@ -22,12 +22,12 @@ pub trait Printed {
         requires { W.failed sink.old < 2 ^ 64 - 1 };
 }
 
-/// A text has to be this.
+/// Asserts that a text is the expected one.
 pub fn is_text(rt: &impl Abort, found: &str, wanted: &str) {
     assert_eq!(rt; found, wanted);
 }
 
-/// Bytes have to be this text.
+/// Asserts that bytes are the expected text.
 pub fn is_told(rt: &impl Abort, found: &[u8], wanted: &str) {
     is_text(
         rt,
@@ -36,14 +36,14 @@ pub fn is_told(rt: &impl Abort, found: &[u8], wanted: &str) {
     );
 }
 
-/// What a sink in memory takes of it.
+/// Returns the bytes of it that a sink in memory accepts.
 fn written<P: Printed>(alloc: Global, printed: &P) -> Result<Vec<u8>, Broken> {
     let mut page = Vec::new(alloc);
     printed.write(&mut Counted::new(&mut page))?;
     Ok(page)
 }
 
-/// A sink of 20 bytes fails once, and has taken the beginning of the text.
+/// Asserts that a sink of 20 bytes fails once, and has accepted a prefix of the text.
 fn breaks<P: Printed>(rt: &impl Abort, printed: &P, text: &str) {
     let mut room = [0; 20];
     let mut sink = Counted::new(room.as_mut_slice());
@@ -51,7 +51,7 @@ fn breaks<P: Printed>(rt: &impl Abort, printed: &P, text: &str) {
     assert!(rt; text.as_bytes().starts_with(&room));
 }
 
-/// Prints it to a sink, and to one of 20 bytes, which take what its text has.
+/// Prints it to a sink, and to one of 20 bytes, and compares them with its text.
 fn reaches_sinks<P: Printed>(
     rt: &(impl Abort + AllocGlobal),
     printed: &P,
@@ -63,14 +63,14 @@ fn reaches_sinks<P: Printed>(
     Ok(())
 }
 
-/// Prints it as a text, which it gives, and to both sinks.
+/// Prints it to a text, which is returned, and to both sinks.
 pub fn print<P: Printed>(rt: &(impl Abort + AllocGlobal), printed: &P) -> Result<String, Fail> {
     let text = printed.text(rt.alloc())?;
     reaches_sinks(rt, printed, text.as_str())?;
     Ok(text)
 }
 
-/// Prints it, which has to be this text.
+/// Prints it, and asserts the text.
 pub fn prints<P: Printed>(
     rt: &(impl Abort + AllocGlobal),
     printed: &P,
@@ -81,7 +81,7 @@ pub fn prints<P: Printed>(
     Ok(())
 }
 
-/// Some candidates, each by his number and name.
+/// Returns candidates by number and name.
 pub fn candidates_of(alloc: Global, named: &[(u8, &str)]) -> Result<Vec<(u8, String)>, AllocError> {
     let mut candidates = Vec::new(alloc);
     for (c, name) in named {

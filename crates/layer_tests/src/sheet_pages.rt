@@ -14,7 +14,7 @@ use std::process::Abort;
 use std::test::Fail;
 use streams::{Broken, Sink};
 
-/// What stands above the style.
+/// The text before the style.
 const HEAD: &str = r##"<!DOCTYPE html>
 <html lang="en">
 <head>
@@ -23,7 +23,7 @@ const HEAD: &str = r##"<!DOCTYPE html>
 <title>Ward 7 &lt;Harbour&gt;</title>
 "##;
 
-/// What stands below it on the page of a declared ward.
+/// The text after it on the page of a declared ward.
 const DECLARED: &str = r##"
 </head>
 <body>
@@ -219,7 +219,7 @@ const NOT_DECLARED: &str = r##"
 </html>
 "##;
 
-/// What stands above the style of the page of all wards.
+/// The text before the style of the page of all wards.
 const INDEX_HEAD: &str = r##"<!DOCTYPE html>
 <html lang="en">
 <head>
@@ -228,7 +228,7 @@ const INDEX_HEAD: &str = r##"<!DOCTYPE html>
 <title>Wards</title>
 "##;
 
-/// What stands below it.
+/// The text after it.
 const INDEX: &str = r##"
 </head>
 <body>
@@ -266,7 +266,7 @@ const INDEX: &str = r##"
 /// A title that looks like markup.
 const TITLE: &str = "Vote & <Council>";
 
-/// What brings something in from elsewhere.
+/// What would load something from elsewhere.
 const FOREIGN: [&str; 5] = ["//", "@import", "<script", "<link", "<img"];
 
 /// The page of a ward.
@@ -314,14 +314,14 @@ impl<'a> Printed for WardsPage<'a> {
     }
 }
 
-/// What stands above the style of a page, and what stands below it.
+/// Returns the text before the style of a page, and the text after it.
 fn around_style(text: &str) -> Option<(&str, &str)> {
     let (above, behind) = text.split_once("<style>")?;
     let (_, below) = behind.split_once("</style>")?;
     Some((above, below))
 }
 
-/// Whether anything is brought in from elsewhere.
+/// Returns whether anything is loaded from elsewhere.
 fn is_foreign(text: &str) -> bool {
     for word in &FOREIGN {
         if text.contains(*word) {
@@ -331,7 +331,7 @@ fn is_foreign(text: &str) -> bool {
     false
 }
 
-/// Compares a page with what stands above and below its style, and sees that nothing comes from elsewhere.
+/// Compares a page with the text before and after its style, and checks that nothing is loaded from elsewhere.
 fn compare(rt: &impl Abort, text: &str, above: &str, body: &str) -> Result<(), Fail> {
     match around_style(text) {
         Some((head, below)) => {
@@ -355,7 +355,7 @@ fn prints_page<P: Printed>(
     compare(rt, text.as_str(), above, body)
 }
 
-/// Sees that words stand on a page.
+/// Checks that a page has these words.
 fn has_words<P: Printed>(
     rt: &(impl Abort + AllocGlobal),
     printed: &P,
@@ -410,7 +410,7 @@ fn listed(
     })
 }
 
-/// A declared ward, with who is elected.
+/// A declared ward, with its elected candidates.
 fn declared(alloc: Global) -> Result<ListedWard, AllocError> {
     let mut ward = listed(alloc, 7, "<Harbour>", 2, WardStanding::Declared)?;
     for (c, name) in &[(1, "Ann <b>"), (3, "רות")] {
@@ -466,7 +466,7 @@ fn with_rejected<'a>(candidates: &'a [(u8, String)]) -> Ward<'a> {
     harbour(candidates, 2, poll_of([1, 20, 300, 4000, 50000]))
 }
 
-/// Nine stages stand in two tables; and lots.
+/// Prints nine stages in two tables, and lots.
 fn prints_tables_and_lots(
     rt: &(impl Abort + AllocGlobal),
     candidates: &[(u8, String)],

@@ -6,7 +6,7 @@ use std::process::Abort;
 use std::test::Fail;
 use wire::{HttpSettings, Origin};
 
-/// Headers that a browser sends for a page from elsewhere, or where the office was found by a foreign name.
+/// Headers that a browser sends for a page from elsewhere, or if the office was reached by a foreign name.
 const FOREIGN: [&str; 35] = [
     "Origin: http://evil.example",
     "ORIGIN: http://evil.example",
@@ -45,7 +45,7 @@ const FOREIGN: [&str; 35] = [
     "Host: 127.0.0.1:8080\r\nOrigin: http://127.0.0.1:8080\r\nSec-Fetch-Site: cross-site",
 ];
 
-/// Headers that none but this machine's own programs and pages send.
+/// Headers that only programs and pages of this machine send.
 const OWN: [&str; 20] = [
     "X: y",
     "Origin: http://127.0.0.1",
@@ -114,8 +114,8 @@ fn asks_both(
     asks_of(rt, given, request.as_bytes(), asked)
 }
 
-/// Reads a request with these headers more: it asks this, or is denied as foreign, a keying and a reading alike, and
-/// whatever else it would be denied for.
+/// Reads a request with these additional headers: it asks this, or is rejected as foreign, a keying as well as a read, before any
+/// other reason.
 fn asks_with(
     rt: &(impl Abort + AllocGlobal),
     given: HttpSettings<'_>,
@@ -129,7 +129,7 @@ fn asks_with(
     Ok(())
 }
 
-/// Which headers an office takes that was given an origin with a port, and which one that was given another without.
+/// Which headers an office accepts whose origin has a port, and which one whose origin has none.
 const PROXIED: [(&str, bool, bool); 17] = [
     ("Origin: https://count.example.org:8443", true, false),
     ("Origin: https://count.example.org", false, false),
@@ -154,12 +154,12 @@ const PROXIED: [(&str, bool, bool); 17] = [
     ("Host: https://count.example.org", false, false),
 ];
 
-/// What an office was given that has a proxy of an origin in front.
+/// Returns the settings of an office with a proxy of this origin.
 fn through(origin: Option<Origin<'_>>) -> HttpSettings<'_> {
     HttpSettings { origin, gate: None }
 }
 
-/// Which of some headers are foreign to an office that was given no origin, and to one that was given this.
+/// Asserts which headers are foreign to an office without an origin, and to one with this origin.
 fn asks_each(
     rt: &(impl Abort + AllocGlobal),
     given: HttpSettings<'_>,
@@ -173,8 +173,7 @@ fn asks_each(
     Ok(())
 }
 
-/// Which of some headers are foreign to an office that was given an origin with a port, and to one that was given
-/// another without.
+/// Asserts which headers are foreign to an office whose origin has a port, and to one whose origin has none.
 fn asks_proxied(
     rt: &(impl Abort + AllocGlobal),
     with_port: HttpSettings<'_>,

@@ -1,4 +1,4 @@
-//! What requests over HTTP ask, of readers that give all at once, one byte at a time, and that fail.
+//! What requests over HTTP ask, from readers that return all at once, or one byte at a time, and that fail.
 
 ghost use Rattle.std.specs.Prelude.{◌-◌, ◌^◌, ◌<◌};
 
@@ -10,16 +10,18 @@ use std::io::{ErrorKind, Read};
 use std::process::Abort;
 use std::test::Fail;
 use streams::{Counted, Source};
-use wire::{HttpRequest, HttpSettings, Keying, ReadFailure, RequestError, Show, read_request};
+use wire::{
+    ConsoleOrder, HttpRequest, HttpSettings, Keying, ReadFailure, RequestError, Show, read_request,
+};
 
-/// How long a head may be, in bytes, how many headers it may have, and how long a body may be.
+/// The longest head, in bytes, the most headers, and the longest body.
 const MAX_HEAD_BYTES: usize = 8192;
 
 const MAX_HEADERS: usize = 32;
 
 const MAX_BODY_BYTES: u32 = 1_048_576;
 
-/// Gives some bytes, one at a time; behind them the end comes, or a failure.
+/// A reader that returns some bytes, one at a time; after them it ends, or fails.
 #[derive(Drop)]
 struct Slow<'a> {
     left: &'a [u8],
@@ -40,7 +42,7 @@ impl<'a> Read for Slow<'a> {
     }
 }
 
-/// A keying that is asked for, in short.
+/// Returns a requested keying, in short.
 fn keying_words(alloc: Global, keying: &Keying) -> Result<String, AllocError> {
     let (clerk, batch, round) = (keying.clerk, keying.batch, keying.round);
     let id = keying.id.as_str();
@@ -59,8 +61,8 @@ fn denial_words(alloc: Global, why: &RequestError) -> Result<String, AllocError>
     }
 }
 
-/// What a clerk is shown, in short.
-fn shown_words(alloc: Global, clerk: u32, what: &Show<'_>) -> Result<String, AllocError> {
+/// What a clerk or the office is shown, in short.
+fn shown_words(alloc: Global, clerk: &str, what: &Show<'_>) -> Result<String, AllocError> {
     match what {
         Show::Page(page) => {
             let (text, policy) = (page.text, page.policy);
@@ -70,11 +72,27 @@ fn shown_words(alloc: Global, clerk: u32, what: &Show<'_>) -> Result<String, All
     }
 }
 
+/// An order, in short: its words, and its files.
+fn order_words(alloc: Global, order: &ConsoleOrder) -> Result<String, AllocError> {
+    let mut text = String::from_str(alloc, "office:")?;
+    for word in &order.words {
+        write!(text, " {}", word.as_str())?;
+    }
+    for file in &order.files {
+        write!(text, " {}={}", file.name.as_str(), file.text.as_str())?;
+    }
+    Ok(text)
+}
+
 /// What a request asks, or why it wasn't read, in short.
 fn words_of(alloc: Global, came: &Result<HttpRequest, ReadFailure>) -> Result<String, AllocError> {
     match came {
         Ok(HttpRequest::Keying(keying)) => keying_words(alloc, keying),
-        Ok(HttpRequest::Shown(clerk, what)) => shown_words(alloc, *clerk, what),
+        Ok(HttpRequest::Shown(clerk, what)) => {
+            shown_words(alloc, format!(in alloc; "{clerk}")?.as_str(), what)
+        }
+        Ok(HttpRequest::ConsolePage(what)) => shown_words(alloc, "office", what),
+        Ok(HttpRequest::Order(order)) => order_words(alloc, order),
         Ok(HttpRequest::Resource(what)) => format!(in alloc; "{what:?}"),
         Ok(HttpRequest::Denied(why)) => denial_words(alloc, why),
         Err(ReadFailure::Broken) => String::from_str(alloc, "broken"),
@@ -82,13 +100,13 @@ fn words_of(alloc: Global, came: &Result<HttpRequest, ReadFailure>) -> Result<St
     }
 }
 
-/// What an office was given that has neither a proxy in front nor codes.
+/// The settings of an office without a proxy and without codes.
 pub const NOTHING: HttpSettings<'static> = HttpSettings {
     origin: None,
     gate: None,
 };
 
-/// What is asked, in short, of an office that was given this.
+/// Returns what is asked, in short, of an office with these settings.
 fn asked_text<R: Source>(
     alloc: Global,
     given: HttpSettings<'_>,
@@ -128,7 +146,7 @@ pub fn asks_of(
     asks_in(rt, given, &mut Counted::new(slow), asked)
 }
 
-/// The same of an office that was given nothing.
+/// Does the same for an office without settings.
 pub fn asks(rt: &(impl Abort + AllocGlobal), request: &[u8], asked: &str) -> Result<(), Fail> {
     asks_of(rt, NOTHING, request, asked)
 }
@@ -144,7 +162,7 @@ pub const BODY: &str = r#"{"id":"h1","round":1,"papers":["1,2,","D"]}"#;
 /// What it asks.
 pub const KEYED: &str = "4 keys 12 round 1 as h1: [1,2,] [D]";
 
-/// First lines, behind each of which no length is one.
+/// First lines, each without a valid length after it.
 const TARGETS: [(&str, &str); 23] = [
     ("GET /clerks/4/work HTTP/1.1", "Work { clerk: 4 }"),
     ("GET /clerks/99999/work HTTP/1.0", "Work { clerk: 99999 }"),
@@ -258,7 +276,7 @@ fn targets_lengths_and_bodies(rt: HostRuntime) -> Result<(), Fail> {
     Ok(())
 }
 
-/// A text with another behind it so many times.
+/// Returns a text followed by another so many times.
 fn repeated(alloc: Global, text: &str, more: &str, times: usize) -> Result<String, AllocError> {
     let mut long = String::from_str(alloc, text)?;
     for _ in 0..times {
@@ -267,7 +285,7 @@ fn repeated(alloc: Global, text: &str, more: &str, times: usize) -> Result<Strin
     Ok(long)
 }
 
-/// A text with another, of which there are so many, and its end behind it.
+/// Reads a text followed by another so many times, and by an end.
 fn asks_long(
     rt: &(impl Abort + AllocGlobal),
     text: &str,
@@ -336,8 +354,8 @@ fn long_heads_and_bodies(rt: HostRuntime) -> Result<(), Fail> {
     asks_spaces(&rt)
 }
 
-/// Reads a request of which no more than this comes before the reader fails: nothing is asked, and one failure is counted,
-/// unless it is whole.
+/// Reads a request of which only this arrives before the reader fails: nothing is asked, and one failure is counted, unless it is
+/// complete.
 fn breaks_off(rt: &(impl Abort + AllocGlobal), left: &[u8], is_whole: bool) -> Result<(), Fail> {
     let mut reader = Counted::new(Slow { left, fails: true });
     let wanted = if is_whole { KEYED } else { "broken" };

@@ -1,4 +1,4 @@
--- A clerk's answers among those of others are the ones that his requests alone get.
+-- Among the answers to many requests, a clerk's are those that the clerk's requests alone would get.
 use Rattle.std.proofs.Common.{◌≡◌, inl, inr, ℕ, zero, suc, Bool, true, false, cond, not, ◌==◌, List, [], ◌∷◌, map, filter, take, Result, Ok, Err, string_bytes, refl, sym, ap, ◌∙◌, subst}
 use Rattle.std.proofs.lemmas.Bool.{and_parts, eqb-true}
 use Rattle.std.specs.List.{zip}
@@ -7,31 +7,31 @@ use Rattle.register.specs.declared.command.Command.{Command}
 use Rattle.register.specs.declared.command.Request.{Request}
 use Rattle.register.specs.Ranges.{is_office}
 use Rattle.register.specs.Offices.{OfficeState}
-use Rattle.register.specs.Items.{IsState}
+use Rattle.register.specs.StateConditions.{IsState}
 use Rattle.register.specs.Seen.{seen_by}
 use Rattle.register.specs.Machine.{Ruling, accepts, keeps, refuses, ruling_at, outcome_at, step, step_of, after_one}
 use Rattle.register.proofs.MachineLemmas.{step_stays}
 use Rattle.register.proofs.SeenLemmas.{ruling_on_seen, unseen_by, stands_alone}
 use Rattle.tables.specs.declared.fault.Fault.{Fault}
-use Rattle.store.specs.Offices.{LeavesState}
+use Rattle.store.specs.StateTables.{LeavesState}
 use Rattle.office.specs.declared.answers.Answer.{Answer}
 use Rattle.office.specs.Answers.{told, told_of, Handled}
 use Rattle.office.specs.Runs.{outcomes}
 use Rattle.office.specs.Clerks.{none_is_the_office, own_requests, own_answers}
 
--- what is told of a ruling doesn't rest on the state
+-- the content of the answer to a ruling doesn't depend on the state
 told_alike : (s t : OfficeState) (r : Ruling) → told_of (outcome_at s r) ≡ told_of (outcome_at t r)
 told_alike s t (accepts change reply) = refl
 told_alike s t (keeps reply) = refl
 told_alike s t (refuses why) = refl
 
--- a clerk is told what he would be told of what he sees alone
+-- a clerk gets the answer that follows from what the clerk sees alone
 pub told_seen : (s : OfficeState) (actor : ℕ) (id : List ℕ) (command : Command) → is_office actor ≡ false → told_of (step s actor id command) ≡ told_of (step (seen_by actor s) actor id command)
 unfolding step
 told_seen s actor id command clerk =
     told_alike s (seen_by actor s) (ruling_at s actor id command) ∙ ap (λ (r : Ruling). told_of (outcome_at (seen_by actor s) r)) (sym (ruling_on_seen s actor id command clerk))
 
--- whatever a stop leaves of a clerk's request, another clerk sees what he saw
+-- in whatever a stop during a clerk's request leaves, another clerk sees the same as before
 pub leaves_unseen : (s : OfficeState) (actor : ℕ) (id : List ℕ) (command : Command) (other : ℕ) → is_office actor ≡ false → (actor == other) ≡ false
     → (r : Result Answer Fault) (closed : Bool) (st : State)
     → Handled s (step s actor id command) r closed st → LeavesState st (λ x. seen_by other x ≡ seen_by other s)
@@ -72,7 +72,7 @@ module _ (clerk : ℕ) where
           ∙ ap (λ ts. told_of (step_of (seen_by clerk s) r) ∷ ts) (later ∙ ap (λ (x : OfficeState). map told_of (outcomes x (own_requests clerk next))) alone)
       go false other = later ∙ ap (λ (x : OfficeState). map told_of (outcomes x (own_requests clerk next))) (unseen_by s r.actor (string_bytes r.id) good r.command clerk other)
 
-  -- a clerk's answers of those to the first requests
+  -- a clerk's answers, among those to the first requests
   pub told_alone : (s : OfficeState) (rs : List Request) (n : ℕ) (given : List Answer) → IsState s → none_is_the_office rs ≡ true → map told given ≡ map told_of (outcomes s (take n rs))
       → map told (own_answers clerk rs given) ≡ map told_of (outcomes (seen_by clerk s) (own_requests clerk (take n rs)))
   told_alone s [] zero given is good same = refl

@@ -1,4 +1,4 @@
--- What is told where the page of all wards is asked for, by how they were found to stand.
+-- The answer to a request for the page of all wards, from the overviews found.
 use Rattle.std.proofs.Common.{◌≡◌, inl, ℕ, Bool, false, List, map, Result, Ok, Err, IfOk, IfErr, OnOk, String, Vec, string_bytes, refl, sym, ap, ◌∙◌}
 use Rattle.std.specs.declared.alloc.Global.{Global}
 use Rattle.sqlite.specs.State.{State}
@@ -6,7 +6,7 @@ use Rattle.register.specs.declared.refusal.Reason.{Reason}
 use Rattle.register.specs.Offices.{OfficeState}
 use Rattle.sheet.specs.Index.{index}
 use Rattle.store.specs.declared.overviews.wards.WardOverview.{WardOverview}
-use Rattle.store.specs.Offices.{IsAt}
+use Rattle.store.specs.StateTables.{IsAt}
 use Rattle.store.specs.Overviews.{WardView, ward_view, ward_views}
 use Rattle.tables.specs.declared.fault.Fault.{Fault}
 use Rattle.tables.specs.declared.fault.Fault.TheVariants.{Memory}
@@ -19,7 +19,7 @@ use Rattle.office.specs.Reads.{Read}
 abbrev views : Vec WardOverview Global → List WardView
 views wards = map ward_view wards.items
 
--- why no ward is told is why the page isn't; a refusal is none, since the wards are never refused
+-- why there are no overviews is why there is no page; it is not a refusal, since overviews of all wards are never refused
 pub index_stopped : (title : List ℕ) (s : OfficeState) (stop : Stop) (closed : Bool) (st : State) → Read views s (wards_told s) (Err stop) closed st
     → Read (string_bytes {Z = Global}) s (index_told title s) (Err stop) closed st
 index_stopped title s (Refused why) closed st read = absurd (never read.0)
@@ -28,7 +28,7 @@ index_stopped title s (Refused why) closed st read = absurd (never read.0)
     never e = cc
 index_stopped title s (Failed f) closed st read = read
 
--- the page over the wards that were found is that of the state
+-- the page from the overviews found is that of the state
 pub index_read : (title : List ℕ) (s : OfficeState) (wards : Vec WardOverview Global) (r : Result (String Global) Stop) (before closed : Bool) (old st : State)
     → Read views s (wards_told s) (Ok wards) before old → (IsAt s old → IsAt s st) → IfOk r (λ text. string_bytes text ≡ index title (map listed_shown (views wards)))
     → IfErr r (λ stop. (stop ≡ Failed Memory) × (closed ≡ false)) → OnOk r (closed ≡ before) → Read string_bytes s (index_told title s) r closed st

@@ -1,10 +1,10 @@
--- Why the texts of a textual election can be printed, and why the election of each ward of a state is textual.
+-- Proof that the texts of a textual election can be printed, and that the election of each ward of a state is textual.
 use Rattle.std.proofs.Common.{◌≡◌, ℕ, ◌≤◌, ◌&&◌, nat_le, ◌==◌, Bool, true, false, List, [], ◌∷◌, length, map, Option, Some, None, if◌then◌else◌, string_bytes, String, refl, sym, subst, ap, ◌∙◌}
 use Rattle.std.specs.List.{list_all}
 use Rattle.std.specs.declared.alloc.Global.{Global}
 use Rattle.std.proofs.lemmas.Bool.{and_parts, leb-true}
 use Rattle.votes.specs.Units.{max_seats, max_papers}
-use Rattle.paper.specs.Columns.{IsColumnSet}
+use Rattle.paper.specs.Columns.{IsCandidateSet}
 use Rattle.sheet.specs.declared.ward.Poll.{Poll}
 use Rattle.sheet.specs.declared.ward.Ward.{Ward}
 use Rattle.sheet.specs.Entries.{SheetEntry, shown}
@@ -13,7 +13,7 @@ use Rattle.register.specs.Ranges.{is_ward_number, is_seat_number, is_candidate_n
 use Rattle.register.specs.Offices.{WardEntry, CandidateEntry, OfficeState, ward_compared, ward_at, candidates_of}
 use Rattle.register.specs.Marks.{columns_of}
 use Rattle.register.specs.Elections.{ElectionEntry, election_of, has_count}
-use Rattle.register.specs.Items.{is_ward, is_candidate, IsState}
+use Rattle.register.specs.StateConditions.{is_ward, is_candidate, IsState}
 use Rattle.register.proofs.MapLemmas.{kept_all, found_passes, list_all_weaker}
 use Rattle.register.proofs.ContestLemmas.{columns_are_set, seats_and_papers_are_few, contest_is_fair}
 use Rattle.office.specs.Sheets.{candidate_shown, poll_shown, shown_with, is_numbered, IsTextual}
@@ -29,7 +29,7 @@ numbers_of_shown : (cs : List CandidateEntry) → map (λ (line : ℕ × List �
 numbers_of_shown [] = refl
 numbers_of_shown (c ∷ cs) = ap (λ (ns : List ℕ). c.number ∷ ns) (numbers_of_shown cs)
 
--- a ward that shows a textual election, with few papers, can be printed
+-- a ward that shows a textual election, with few enough papers, can be printed
 pub textual_can_be_printed : (ward : Ward) (poll : Option Poll) (e : ElectionEntry) → shown ward ≡ shown_with poll e → IsTextual e → HasFewPapers poll → CanBePrinted ward
 textual_can_be_printed ward poll e same textual few =
     let seats : e.ward.seats ≡ ward.seats = sym (ap (λ (x : SheetEntry). x.seats) same) in
@@ -38,11 +38,11 @@ textual_can_be_printed ward poll e same textual few =
     record {
       some_seats = subst (λ (n : ℕ). 1 ≤ n) seats textual.some_seats;
       few_seats = subst (λ (n : ℕ). n ≤ max_seats) seats textual.few_seats;
-      candidate_set = subst IsColumnSet numbers textual.ascending;
+      candidate_set = subst IsCandidateSet numbers textual.ascending;
       few_papers = subst HasFewPapers (ap (λ (x : SheetEntry). x.poll) (sym same)) few;
     }
 
--- the papers of a textual election are few
+-- the papers of a textual election are few enough
 pub few_shown : (e : ElectionEntry) → length e.ballots.papers ≤ max_papers → HasFewPapers (poll_shown e)
 few_shown e few = go (has_count e)
   where
@@ -76,6 +76,6 @@ state_is_textual s w is columns there =
       few_seats = few.1;
       few_papers = few.2;
       numbered = list_all_weaker is_candidate is_numbered (candidates_of s w.number) numbered (kept_all is_candidate (λ c. c.ward == w.number) s.candidates candidates.0);
-      ascending = subst IsColumnSet columns (columns_are_set (candidates_of s w.number));
+      ascending = subst IsCandidateSet columns (columns_are_set (candidates_of s w.number));
       counted = contest_is_fair s w is.in_range is.keyed is.rise there;
     }

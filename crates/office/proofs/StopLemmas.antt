@@ -1,9 +1,9 @@
--- A read that is refused, or stopped by want of memory; and what an order leaves that only reads.
+-- A read that is refused, or stopped by a failed allocation; and what an order that only reads leaves.
 use Rattle.std.proofs.Common.{inl, inr, Bool, true, false, Result, Ok, Err, IfErr, refl}
 use Rattle.sqlite.specs.State.{State, HasCleanDisk}
 use Rattle.register.specs.Offices.{OfficeState}
 use Rattle.tables.specs.Reading.{OnlyReads}
-use Rattle.store.specs.Offices.{IsAt}
+use Rattle.store.specs.StateTables.{IsAt}
 use Rattle.store.proofs.KeepLemmas.{is_at_read}
 use Rattle.office.specs.Answers.{IsReadAt}
 use Rattle.office.specs.declared.answers.Stop.{Stop}

@@ -1,4 +1,4 @@
--- What is told where a text of a ward is asked for, by what was found of the ward.
+-- The answer to a request for a text of a ward, from what was found of the ward.
 use Rattle.std.proofs.Common.{◌≡◌, inl, inr, ℕ, Bool, true, false, Option, Some, None, option_map, Result, Ok, Err, IfOk, IfErr, OnOk, String, string_bytes, refl, sym, ap, subst, ◌∙◌}
 use Rattle.std.specs.declared.alloc.Global.{Global}
 use Rattle.std.proofs.lemmas.Bool.{cond-true, cond-false}
@@ -13,7 +13,7 @@ use Rattle.register.specs.Elections.{ElectionEntry, election_of}
 use Rattle.register.specs.Tabulated.{IsCountedWard, IsSheetOf}
 use Rattle.register.proofs.MapLemmas.{found_number}
 use Rattle.store.specs.Elections.{IsCountedInFor, IsSheetFor}
-use Rattle.store.specs.Offices.{IsAt}
+use Rattle.store.specs.StateTables.{IsAt}
 use Rattle.office.specs.declared.answers.Stop.{Stop}
 use Rattle.office.specs.declared.answers.Stop.TheVariants.{Refused, Fault as Failed}
 use Rattle.office.specs.declared.sheets.Text.{Text}
@@ -22,7 +22,7 @@ use Rattle.office.specs.Sheets.{is_told_in, text_shown, text_found, text_told, S
 
 -- ---- what was found
 
--- what was found of a ward stands for an election of the state
+-- what was found of a ward represents an election of the state
 pub sheet_found : {R : Type 0} (s : OfficeState) (ward : ℕ) (sheet : WardSheet) → IsSheetFor (option_map (election_of s) (ward_at s ward)) (Some sheet)
     → ((w : WardEntry) → ward_at s ward ≡ Some w → IsSheetOf (election_of s w) sheet → R) → R
 sheet_found {R = R} s ward sheet made so = by_ward (ward_at s ward) refl made
@@ -39,16 +39,16 @@ counted_found {R = R} s ward counted made so = by_ward (ward_at s ward) refl mad
     by_ward None none gone = absurd (cc)
     by_ward (Some w) there is = so w there (subst (IsCountedWard (election_of s w)) (sym (same_Some _ _ is.1)) is.2)
 
--- the texts of a ward that is there can be written
+-- the texts of a ward that exists can be written
 pub textual_at : (s : OfficeState) (ward : ℕ) (w : WardEntry) → ((x : WardEntry) → ward_at s x.number ≡ Some x → IsTextual (election_of s x)) → ward_at s ward ≡ Some w → IsTextual (election_of s w)
 textual_at s ward w law there = law w (subst (λ (n : ℕ). ward_at s n ≡ Some w) (found_number (λ (x : WardEntry). x.number) s.wards ward w there) there)
 
--- ---- what is told
+-- ---- what is returned
 
 told_there : (text : Text) (s : OfficeState) (ward : ℕ) (w : WardEntry) → is_ward_number ward ≡ true → ward_at s ward ≡ Some w → text_told text s ward ≡ text_found text s (Some w)
 told_there text s ward w in_range there = cond-true (is_ward_number ward) _ _ in_range ∙ ap (text_found text s) there
 
--- where a text of a ward that is there was told, or a stop, that is what is to be told
+-- if a read of an existing ward returns a text, or a stop, that is the answer to a request for this text
 pub text_read : (text : Text) (Stands : ElectionEntry → Type 0) (s : OfficeState) (ward : ℕ) (w : WardEntry) (phase : Phase) (r : Result (String Global) Stop) (before closed : Bool) (st : State)
     → is_ward_number ward ≡ true → ward_at s ward ≡ Some w → phase ≡ w.phase → Stands (election_of s w) → before ≡ false → IsAt s st
     → IfOk r (λ told. (is_told_in text phase ≡ true) × ((e : ElectionEntry) → Stands e → string_bytes told ≡ text_shown text e)) → OnOk r (closed ≡ before) → IfErr r (StopsText text phase closed)

@@ -1,4 +1,4 @@
--- What an answer says, and what it says of the office.
+-- The content of an answer, and what it implies for the office.
 use Rattle.std.specs.Prelude.{◌≡◌, ◌⊎◌, ℕ, Bool, true, false, List, [], string_bytes, Result, Ok, Err}
 use Rattle.sqlite.specs.Held.{Held}
 use Rattle.sqlite.specs.State.{State, HasCleanDisk}
@@ -9,46 +9,46 @@ use Rattle.tables.specs.declared.fault.Fault.{Fault}
 use Rattle.tables.specs.declared.fault.Fault.TheVariants.{Memory, Store}
 use Rattle.store.specs.declared.copying.CopyFault.{CopyFault}
 use Rattle.store.specs.declared.copying.CopyFault.TheVariants.{Office, Taken, Copy}
-use Rattle.store.specs.Offices.{IsAt, LeavesState}
+use Rattle.store.specs.StateTables.{IsAt, LeavesState}
 use Rattle.office.specs.declared.answers.Answer.{Answer}
 use Rattle.office.specs.declared.answers.Answer.TheVariants.{Done, Kept, Refused}
 use Rattle.office.specs.Values.{OfficeValue}
 
--- what an outcome comes to for who asked: the reply of an accepted or a kept request, or the reason of a refusal
+-- the outcome as the actor sees it: the reply to a request accepted now or before, or the reason of a refusal
 pub data Told : Type 0 where
   done : List ℕ → Told
   again : List ℕ → Told
   no : Reason → Told
 
--- what an answer says
+-- the content of an answer
 abbrev pub told : Answer → Told
 told (Done reply) = done (string_bytes reply)
 told (Kept reply) = again (string_bytes reply)
 told (Refused why) = no why
 
--- what the machine would answer
+-- the content of the machine's answer
 abbrev pub told_of : Outcome → Told
 told_of (accepted next reply) = done reply
 told_of (kept reply) = again reply
 told_of (refused why) = no why
 
--- it says that a request was accepted now
+-- this is the answer to a request that was accepted just now
 abbrev pub is_done : Told → Bool
 is_done (done reply) = true
 is_done (again reply) = false
 is_done (no why) = false
 
--- the reply of an accepted or a kept request
+-- the reply to a request accepted now or before
 abbrev pub reply_of : Outcome → List ℕ
 reply_of (accepted next reply) = reply
 reply_of (kept reply) = reply
 reply_of (refused why) = []
 
--- What is promised of an office that was open at a state, over a clean disk. The disk is judged as the call ends.
+-- A guarantee for an office that was open at a state, on a clean disk. Whether the disk is clean is judged when the call ends.
 abbrev pub WhenOpenAt : {S : Type 0} → (Held S → State) → OfficeValue S → OfficeValue S → (OfficeState → Type 0) → Type 0
 WhenOpenAt state_of old new P = HasCleanDisk (state_of new.held) → old.closed ≡ false → (s : OfficeState) → IsAt s (state_of old.held) → P s
 
--- memory was wanting, or the store failed
+-- an allocation or the store failed
 abbrev pub IsMemoryOrStore : Fault → Type 0
 IsMemoryOrStore f = (f ≡ Memory) ⊎ (f ≡ Store)
 
@@ -57,42 +57,42 @@ pub record IsOpenAt (s : OfficeState) (closed : Bool) (st : State) : Type 0 wher
   pub is_open : closed ≡ false
   pub at : IsAt s st
 
--- A fault that closed the office: a stop leaves the state before the request, or the one after it. Want of memory closes it only inside
--- the transaction of an accepted request.
+-- A fault that closed the office: a stop leaves the state before the request, or the one after it. A failed allocation closes it only inside the transaction of
+-- an accepted request.
 pub record IsClosedIn (s : OfficeState) (outcome : Outcome) (f : Fault) (closed : Bool) (st : State) : Type 0 where
   pub is_closed : closed ≡ true
   pub fault : IsMemoryOrStore f
   pub inside : f ≡ Memory → is_accepted outcome ≡ true
   pub leaves : LeavesState st (λ x. (x ≡ s) ⊎ (x ≡ state_after s outcome))
 
--- a fault before the transaction, for want of memory alone: nothing is changed, and the office stays open
+-- a fault before the transaction, which can only be a failed allocation: nothing is changed, and the office stays open
 pub record IsKeptOpen (s : OfficeState) (f : Fault) (closed : Bool) (st : State) : Type 0 where
   pub memory : f ≡ Memory
   pub open_at : IsOpenAt s closed st
 
--- What an order that only read leaves, whether or not it could be ended. The office is open
--- at its state; or its store failed, which closed it. A stop leaves the state as it was.
+-- What an order that only read leaves, whether or not it could be completed. Either the office is open at its state, or its store failed, which closed it. A
+-- stop leaves the state unchanged.
 abbrev pub IsReadAt : OfficeState → Bool → State → Type 0
 IsReadAt s closed st = IsOpenAt s closed st ⊎ ((closed ≡ true) × LeavesState st (λ x. x ≡ s))
 
--- any fault but want of memory closed the office; want of memory left it open
+-- any fault but a failed allocation closed the office; a failed allocation left it open
 abbrev pub ClosedBy : Bool → Fault → Type 0
 ClosedBy closed f = (f ≡ Memory → closed ≡ false) × ((f ≡ Memory) ⊎ (closed ≡ true))
 
--- the same where it was copied: a fault of the copy left it open
+-- the same for an office that was copied: a fault of the copy left it open
 abbrev pub ClosedInCopying : Bool → CopyFault → Type 0
 ClosedInCopying closed (Office f) = ClosedBy closed f
 ClosedInCopying closed Taken = closed ≡ false
 ClosedInCopying closed (Copy f) = closed ≡ false
 
--- What each exit of a request leaves. Answered: the state that the machine's step makes of the one before, which is the
--- same unless the request was accepted. A fault: the state before, or, where it closed the office, that or the one after.
+-- What each exit of a request leaves. An answer leaves the state after the machine's step, which is the state before unless the request was accepted. A fault
+-- leaves the state before or, if it closed the office, that or the one after.
 abbrev pub Handled : OfficeState → Outcome → Result Answer Fault → Bool → State → Type 0
 Handled s outcome (Ok answer) closed st = (told answer ≡ told_of outcome) × IsOpenAt (state_after s outcome) closed st
 Handled s outcome (Err f) closed st = IsKeptOpen s f closed st ⊎ IsClosedIn s outcome f closed st
 
--- A request that met a fault and was accepted all the same, sent again to an office that was opened at the state after it. It is kept, with the reply that
--- it would have had, and nothing changes. (Where the office was opened at the state before it, it is handled as for the first time.)
+-- A request that met a fault but was accepted, repeated in an office that was opened at the state after it. It is kept, with the reply that it would have had,
+-- and nothing changes. (If the office was opened at the state before it, the request is handled as if for the first time.)
 abbrev pub HandledAgain : OfficeState → Outcome → Result Answer Fault → Bool → State → Type 0
 HandledAgain s outcome (Ok answer) closed st = (told answer ≡ again (reply_of outcome)) × IsOpenAt (state_after s outcome) closed st
 HandledAgain s outcome (Err f) closed st = IsKeptOpen (state_after s outcome) f closed st ⊎ (closed ≡ true)

@@ -1,4 +1,4 @@
--- The page of all wards, as the state has it.
+-- The page of all wards, for a state.
 use Rattle.std.specs.Prelude.{ℕ, Bool, false, nat_eq, List, map, Option, Some, None, Result, Ok}
 use Rattle.std.specs.List.{filter, list_any}
 use Rattle.sheet.specs.Index.{ListedEntry, index}
@@ -11,19 +11,19 @@ use Rattle.register.specs.Offices.{CandidateEntry, OfficeState}
 use Rattle.store.specs.Overviews.{WardView, ward_views}
 use Rattle.office.specs.Sheets.{candidate_shown}
 
--- how a ward in a phase stands, for everyone
+-- the public standing of a ward in this phase
 abbrev pub standing_in : Phase → WardStanding
 standing_in Nominations = standing.Nominations
 standing_in Keying = standing.Keying
 standing_in Sealed = standing.Sealed
 standing_in Declared = standing.Declared
 
--- a candidate is among those elected, where these are known
+-- a candidate is among those elected, if they are known
 abbrev pub is_among_elected : Option (List ℕ) → CandidateEntry → Bool
 is_among_elected None c = false
 is_among_elected (Some elected) c = list_any (nat_eq c.number) elected
 
--- what is listed of a ward: who is elected, by number and name, once that is declared
+-- a ward as it is listed: with those elected, by number and name, once it is declared
 abbrev pub listed_shown : WardView → ListedEntry
 listed_shown v = record {
   number = v.ward.number;
@@ -37,6 +37,6 @@ listed_shown v = record {
 abbrev pub index_of : List ℕ → OfficeState → List ℕ
 index_of title s = index title (map listed_shown (ward_views s))
 
--- the answer where the page is asked for: it is never refused
+-- the answer to a request for the page: it is never refused
 abbrev pub index_told : List ℕ → OfficeState → Result (List ℕ) Reason
 index_told title s = Ok (index_of title s)

@@ -1,4 +1,4 @@
--- What the office alone gets as answers on how all stands.
+-- The answers to the office alone, with overviews.
 use Rattle.std.specs.Prelude.{ℕ, Bool, true, ◌||◌, if◌then◌else◌, List, Option, Some, None, Result, Ok, Err}
 use Rattle.register.specs.declared.refusal.Reason.{Reason}
 use Rattle.register.specs.declared.refusal.Reason.TheVariants.{NumberOutOfRange, NoSuchWard, NoSuchBatch, NoDifference, NotTaken}
@@ -7,41 +7,41 @@ use Rattle.register.specs.Offices.{OfficeState, ReceiptEntry}
 use Rattle.store.specs.Overviews.{BatchView, DifferencesView, DoubtfulPapersView, PapersView, WardView, batch_views_at, differences_at, doubtful_at, papers_at, receipts_of, ward_views}
 use Rattle.office.specs.Reads.{found_or}
 
--- the answer on all wards
+-- the answer for all wards
 abbrev pub wards_told : OfficeState → Result (List WardView) Reason
 wards_told s = Ok (ward_views s)
 
--- the answer on the batches of a ward
+-- the answer for the batches of a ward
 abbrev pub batches_told : OfficeState → ℕ → Result (List BatchView) Reason
 batches_told s ward = if is_ward_number ward then found_or NoSuchWard (batch_views_at s ward) else Err NumberOutOfRange
 
--- the answer on their doubtful papers
+-- the answer for their doubtful papers
 abbrev pub doubtful_told : OfficeState → ℕ → Result DoubtfulPapersView Reason
 doubtful_told s ward = if is_ward_number ward then found_or NoSuchWard (doubtful_at s ward) else Err NumberOutOfRange
 
--- the papers of a batch on which its keyings differ, where it differs
+-- the papers of a batch on which its keyings differ, if they differ
 abbrev pub differing_or : Reason → Option DifferencesView → Result DifferencesView Reason
 differing_or why None = Err why
 differing_or why (Some d) = if d.differs then Ok d else Err NoDifference
 
--- the answer on them
+-- the answer for these papers
 abbrev pub differences_told : OfficeState → ℕ → Result DifferencesView Reason
 differences_told s batch = if is_batch_number batch then differing_or NoSuchBatch (differences_at s batch) else Err NumberOutOfRange
 
--- the papers of a batch as they count, where it is taken
+-- the papers of a batch as they count, if it is taken
 abbrev pub taken_or : Reason → Option PapersView → Result PapersView Reason
 taken_or why None = Err why
 taken_or why (Some p) = if p.taken then Ok p else Err NotTaken
 
--- the answer on them
+-- the answer for these papers
 abbrev pub papers_told : OfficeState → ℕ → Result PapersView Reason
 papers_told s batch = if is_batch_number batch then taken_or NoSuchBatch (papers_at s batch) else Err NumberOutOfRange
 
--- an actor who may have receipts, the office or a clerk, or all of them
+-- an actor that may have receipts, either the office or a clerk; or no actor, for all of them
 abbrev pub may_have_receipts : Option ℕ → Bool
 may_have_receipts None = true
 may_have_receipts (Some actor) = is_office actor || is_clerk actor
 
--- the answer on receipts
+-- the answer for receipts
 abbrev pub receipts_told : OfficeState → Option ℕ → Result (List ReceiptEntry) Reason
 receipts_told s actor = if may_have_receipts actor then Ok (receipts_of s actor) else Err NumberOutOfRange

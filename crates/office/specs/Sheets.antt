@@ -1,8 +1,8 @@
--- The texts of a ward that people hold in their hands, as the state has them.
+-- The texts of a ward for the public, for a state.
 use Rattle.std.specs.Prelude.{◌≡◌, ◌≤◌, ◌⊎◌, ⊤, ℕ, Bool, false, true, if◌then◌else◌, List, [], map, length, reverse, Option, Some, None, Result, Ok, Err}
 use Rattle.std.specs.List.{list_all}
 use Rattle.votes.specs.Units.{max_seats, max_papers}
-use Rattle.paper.specs.Columns.{IsColumnSet}
+use Rattle.paper.specs.Columns.{IsCandidateSet}
 use Rattle.count.specs.Law.Contest.{IsContest}
 use Rattle.sheet.specs.declared.ward.Poll.{Poll}
 use Rattle.sheet.specs.Entries.{SheetEntry}
@@ -28,16 +28,16 @@ use Rattle.register.specs.Elections.{ElectionEntry, election_of, has_count, cont
 abbrev pub candidate_shown : CandidateEntry → ℕ × List ℕ
 candidate_shown c = (c.number, c.name)
 
--- the papers of a contested ward
+-- the poll of a contested ward
 abbrev pub poll_shown : ElectionEntry → Option Poll
 poll_shown e = if has_count e then Some (record { valid = length e.ballots.papers; rejected = e.ballots.rejected }) else None
 
--- what the texts show of an election, with these papers
+-- what the texts show of an election, with this poll
 abbrev pub shown_with : Option Poll → ElectionEntry → SheetEntry
 shown_with poll e =
     record { number = e.ward.number; name = e.ward.name; seats = e.ward.seats; candidates = map candidate_shown e.candidates; poll = poll }
 
--- what the texts show of an election, with its own papers
+-- what the texts show of an election, with its own poll
 abbrev pub election_shown : ElectionEntry → SheetEntry
 election_shown e = shown_with (poll_shown e) e
 
@@ -45,30 +45,30 @@ election_shown e = shown_with (poll_shown e) e
 abbrev pub is_numbered : CandidateEntry → Bool
 is_numbered c = is_candidate_number c.number
 
--- a count can be held where the election is contested
+-- if the election is contested, a count can be held on it
 abbrev pub CanBeCounted : ElectionEntry → Type 0
 CanBeCounted e = has_count e ≡ true → IsContest (contest_of e)
 
--- an election whose texts can be written, as those of each ward of an office can. The ward's number and its seats are in range, and so are the
--- numbers of its candidates, which ascend. Its papers are no more than a ward can have, and it can be counted.
+-- an election whose texts can be written, as those of every ward of an office can. The ward's number and its seats are in range, and so are the numbers of its
+-- candidates, which ascend. It has no more papers than a ward can have, and it can be counted.
 pub record IsTextual (e : ElectionEntry) : Type 0 where
   pub number : e.ward.number ≤ last_ward
   pub some_seats : 1 ≤ e.ward.seats
   pub few_seats : e.ward.seats ≤ max_seats
   pub few_papers : length e.ballots.papers ≤ max_papers
   pub numbered : list_all is_numbered e.candidates ≡ true
-  pub ascending : IsColumnSet (map (λ c. c.number) e.candidates)
+  pub ascending : IsCandidateSet (map (λ c. c.number) e.candidates)
   pub counted : CanBeCounted e
 
--- the stage sheet: the stages that are done, from the first on
+-- the stage sheet: the stages that are done, from the first
 abbrev pub sheet_of : ElectionEntry → List ℕ
 sheet_of e = sheet (election_shown e) (reverse (stages_of e))
 
--- the declaration: who is elected
+-- the declaration: those elected
 abbrev pub declaration_of : ElectionEntry → List ℕ
 declaration_of e = declaration (election_shown e) (elected_of e)
 
--- the stages of a contested ward that are done, from the first on
+-- the stages of a contested ward that are done, from the first
 abbrev pub stages_shown : ElectionEntry → List Stage
 stages_shown e = if has_count e then reverse (stages_of e) else []
 
@@ -76,15 +76,15 @@ stages_shown e = if has_count e then reverse (stages_of e) else []
 abbrev pub bundles_shown : ElectionEntry → List Bundle
 bundles_shown e = if has_count e then bundled e.ballots.papers else []
 
--- the lots that are recorded in its count
+-- the lots recorded in its count
 abbrev pub lots_shown : ElectionEntry → List (ℕ × ℕ)
 lots_shown e = if has_count e then e.lots else []
 
--- the ballots, as a file that counting programs share
+-- the ballots, in a file format that counting programs share
 abbrev pub ballots_of : ElectionEntry → List ℕ
 ballots_of e = ballots (election_shown e) (bundles_shown e) (lots_shown e)
 
--- the result as a page to print and sign, under a title, where it is declared; before that, how far the count is
+-- the result as a page to print and sign, under a title, if it is declared; before that, the progress of the count
 abbrev pub result_page_of : List ℕ → ElectionEntry → List ℕ
 result_page_of title e = page (election_shown e) title (is_declared e.ward.phase) (stages_shown e) (lots_shown e)
 
@@ -92,7 +92,7 @@ result_page_of title e = page (election_shown e) title (is_declared e.ward.phase
 abbrev pub table_of : ElectionEntry → List ℕ
 table_of e = spreadsheet (election_shown e) (stages_shown e)
 
--- which text may be printed once the ward is in which phase
+-- the text may be printed in this phase of the ward
 abbrev pub is_told_in : Text → Phase → Bool
 is_told_in Sheet phase = is_counted phase
 is_told_in Declaration phase = is_declared phase
@@ -108,26 +108,26 @@ text_shown Ballots e = ballots_of e
 text_shown (Page title) e = result_page_of title.now e
 text_shown Table e = table_of e
 
--- the text of the ward that was found
+-- the text of the ward found
 abbrev pub text_found : Text → OfficeState → Option WardEntry → Result (List ℕ) Reason
 text_found text s None = Err NoSuchWard
 text_found text s (Some w) = if is_told_in text w.phase then Ok (text_shown text (election_of s w)) else Err WrongPhase
 
--- the answer where a text of the ward of a number is asked for: the declaration once it is declared, each other text once it is sealed
+-- the answer to a request for a text of the ward with this number: the declaration once it is declared, any other text once it is sealed
 abbrev pub text_told : Text → OfficeState → ℕ → Result (List ℕ) Reason
 text_told text s ward = if is_ward_number ward then text_found text s (ward_at s ward) else Err NumberOutOfRange
 
--- why a text isn't written: memory was wanting and the office stays open, or a fault closed it
+-- why a text isn't written: an allocation failed and the office stays open, or a fault closed it
 abbrev pub StopsWriting : Bool → Stop → Type 0
 StopsWriting closed (Refused why) = ⊥
 StopsWriting closed (Failed f) = ((f ≡ Memory) × (closed ≡ false)) ⊎ ((f ≡ Store) × (closed ≡ true))
 
--- why no text of a ward in a phase is given: the text may not be printed in that phase, or memory was wanting and the office stays open; or a fault closed the office
+-- why there is no text of a ward in this phase: it may not be printed then, or an allocation failed and the office stays open, or a fault closed the office
 abbrev pub StopsText : Text → Phase → Bool → Stop → Type 0
 StopsText text phase closed (Refused why) = (why ≡ WrongPhase) × (is_told_in text phase ≡ false) × (closed ≡ false)
 StopsText text phase closed (Failed f) = StopsWriting closed (Failed f)
 
--- a fault, if it is one, is want of memory
+-- if it is a fault, it is a failed allocation
 abbrev pub IsOfMemory : Stop → Type 0
 IsOfMemory (Refused why) = ⊤
 IsOfMemory (Failed f) = f ≡ Memory

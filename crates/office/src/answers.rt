@@ -1,4 +1,4 @@
-//! What the office answers.
+//! The answers of the office.
 
 ghost use Rattle.std.specs.Prelude.{◌≡◌, Some};
 
@@ -9,20 +9,20 @@ use store::Fault;
 /// The answer to a request.
 #[derive(Drop)]
 pub enum Answer {
-    /// It was accepted now, and is kept: no stop takes it back.
+    /// It was accepted just now, and is stored: no stop undoes it.
     Done(Reply),
-    /// It was accepted before, under the same id: the reply of then.
+    /// It was accepted before, under the same id: this is the original reply.
     Kept(Reply),
     /// Nothing changed, for this reason.
     Refused(Refusal),
 }
 
-/// Why a read gives nothing.
+/// Why a read returns no value.
 #[derive(Drop)]
 pub enum Stop {
-    /// The state gives nothing, for this reason.
+    /// The state has no such value, for this reason.
     Refused(Refusal),
-    /// It met a fault.
+    /// The read met a fault.
     Fault(Fault),
 }
 
@@ -34,7 +34,7 @@ pub struct Run {
 }
 
 impl Run {
-    /// A run that a fault ended.
+    /// Returns a run that a fault ended.
     pub(crate) fn stopped(answers: Vec<Answer>, fault: Fault) -> Run
         ensures answers { result.answers ≡ answers }
         ensures fault { result.fault ≡ Some fault }

@@ -7,22 +7,23 @@ ghost use Rattle.sqlite.specs.Tree.{Trees};
 ghost use Rattle.register.specs.Offices.{OfficeState};
 ghost use Rattle.tables.specs.Reading.{OnlyReads};
 ghost use Rattle.store.specs.Copies.{CopiesAt, CopiesTo, IsUnbegun, StopsInCopying, holdings_of};
-ghost use Rattle.store.specs.Offices.{IsAt, StoresState, Wears};
+ghost use Rattle.store.specs.StateTables.{IsAt, StoresState, KeepsConnection};
 ghost use Rattle.store.specs.Openings.{IsBlank};
 ghost use Rattle.office.specs.Answers.{ClosedInCopying, IsReadAt, WhenOpenAt};
 
-use crate::offices::Office;
+use crate::open_office::Office;
 use sqlite::{Alter, Connection};
 use std::alloc::Global;
 use store::{CopyFault, Fault, Holdings};
 
 impl<S: Alter> Office<S> {
-    /// Copies the office that a connection's database holds into that of another connection, which has nothing in it, in one transaction.
-    /// Gives how much the copy has: it opens at the very state of the office, with every receipt. No office is open afterwards.
+    /// Copies the office in a connection's database into that of another connection, which must be empty, in one
+    /// transaction. Returns how much the copy contains. The copy opens at exactly the state of the office, with every
+    /// receipt. No office is open afterwards.
     ///
-    /// `Office` where `open_from` would report a fault, and nothing is copied; the office is only read, whatever comes of it.
-    /// `Taken` where there is a table with the name of one of ours already, or where the other connection is inside a
-    /// transaction. The other database is not changed then. After `Copy` it is found as it was, or the whole copy.
+    /// `Office` if `open_from` would report a fault; then nothing is copied. The office is only read, whatever the
+    /// outcome. `Taken` if a table with the name of one of ours already exists, or if the other connection is inside a
+    /// transaction. In these cases the other database is unchanged. After `Copy` it is either unchanged or contains the whole copy.
     pub fn copy<T: Alter>(
         alloc: Global,
         conn: &mut Connection<S>,
@@ -33,11 +34,12 @@ impl<S: Alter> Office<S> {
         store::copy(alloc, conn, copy)
     }
 
-    /// Copies this office, which goes on, into the database of another connection, which has nothing in it, in one
-    /// transaction. Gives how much the copy has: it opens at the very state of the office, with every receipt.
+    /// Copies this office, which stays open, into the database of another connection, which must be empty, in one
+    /// transaction. Returns how much the copy contains. The copy opens at exactly the state of the office, with every receipt.
     ///
-    /// `Office` says why the office couldn't be read, out of memory or since the store failed, and nothing is copied. Any such fault but
-    /// out of memory closes it. `Taken` and `Copy` are those of `copy`. A closed office returns `Closed`.
+    /// `Office` is the reason why the office couldn't be read, either out of memory or a failed store; then nothing is
+    /// copied. Any such fault but out of memory closes the office. `Taken` and `Copy` are those of `copy`. A closed
+    /// office returns `Closed`.
     pub fn copy_open<T: Alter>(&mut self, copy: &mut Connection<T>) -> Result<Holdings, CopyFault>
         ensures copies { WhenOpenAt (state S.Store) self.old self.new
             (λ s. CopiesAt s (state T.Store copy.old) (state T.Store copy.new) result × IsReadAt s self.new.closed (state S.Store self.new.held)) }
@@ -48,7 +50,7 @@ impl<S: Alter> Office<S> {
             → (trees : Trees) → (state T.Store copy.new).may_leave trees → (state T.Store copy.old).may_leave trees ⊎ ((x : OfficeState) × StoresState x trees) }
         ensures untouched { IfErr result (λ e. IsUnbegun e → copy.new ≡ copy.old) }
         ensures reads { OnlyReads (state S.Store self.old.held) (state S.Store self.new.held) }
-        ensures wears { Wears (state T.Store copy.old) (state T.Store copy.new) }
+        ensures keeps_connection { KeepsConnection (state T.Store copy.old) (state T.Store copy.new) }
         ensures clean { HasCleanDisk (state T.Store copy.new) → HasCleanDisk (state T.Store copy.old) }
         ensures opens { OnOk result (self.new.closed ≡ false) }
         ensures closes { IfErr result (ClosedInCopying self.new.closed) }

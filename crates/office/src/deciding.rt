@@ -1,27 +1,27 @@
-//! The machine's decision on what the store holds.
+//! The machine's decision, on what the store keeps.
 
 ghost use Rattle.std.specs.Prelude.{◌≡◌, IfOk, IfErr, OnOk, IsTrue};
 ghost use Rattle.sqlite.specs.State.{HasCleanDisk};
 ghost use Rattle.sqlite.specs.Held.{state};
 ghost use Rattle.register.specs.Offices.{OfficeState};
-ghost use Rattle.register.specs.Items.{IsState};
-ghost use Rattle.register.specs.Machine.{step, state_after, IsKeptAgain};
+ghost use Rattle.register.specs.StateConditions.{IsState};
+ghost use Rattle.register.specs.Machine.{step, state_after, RepeatGetsSameReply};
 ghost use Rattle.register.specs.Views.{IsViewOf, outcome_of};
 ghost use Rattle.register.specs.Tabulated.{AddsWhatIsCounted};
 ghost use Rattle.tables.specs.Reading.{OnlyReads, FailsBy};
-ghost use Rattle.store.specs.Offices.{IsAt};
+ghost use Rattle.store.specs.StateTables.{IsAt};
 
 use register::{Command, Decision, View, decide};
 use sqlite::Alter;
 use std::alloc::Global;
 use store::{Fault, Store};
 
-/// The decision on a view; want of memory is the fault `Memory`.
+/// Returns the decision on a view; the fault is `Memory` if an allocation fails.
 fn decided(alloc: Global, view: &View<'_>, command: &Command) -> Result<Decision, Fault>
     ensures decides { IfOk result (λ decision. (s : OfficeState) → IsViewOf s command.now view.now → outcome_of s decision ≡ step s view.now.actor view.now.id.now command.now) }
     ensures stays { (s : OfficeState) → IsState s → IsState (state_after s (step s view.now.actor view.now.id.now command.now)) }
     ensures tabulates { IfOk result (λ decision. (s : OfficeState) → IsState s → IsViewOf s command.now view.now → AddsWhatIsCounted s decision) }
-    ensures again { (s : OfficeState) → IsKeptAgain view.now.actor view.now.id.now command.now (step s view.now.actor view.now.id.now command.now) }
+    ensures again { (s : OfficeState) → RepeatGetsSameReply view.now.actor view.now.id.now command.now (step s view.now.actor view.now.id.now command.now) }
     ensures memory { IfErr result (λ f. f ≡ Fault.Memory) }
 {
     match decide(alloc, view, command) {
@@ -30,7 +30,7 @@ fn decided(alloc: Global, view: &View<'_>, command: &Command) -> Result<Decision
     }
 }
 
-/// The machine's decision on a request, at the state that the store keeps. It changes nothing.
+/// Returns the machine's decision on a request, at the state that the store keeps. Changes nothing.
 pub(crate) fn decision_of<S: Alter>(
     alloc: Global,
     store: &mut Store<S>,
@@ -42,7 +42,7 @@ pub(crate) fn decision_of<S: Alter>(
         → IfOk result (λ decision. outcome_of s decision ≡ step s actor id.now command.now) }
     ensures stays { OnOk result ((s : OfficeState) → IsState s → IsState (state_after s (step s actor id.now command.now))) }
     ensures tabulates { HasCleanDisk (state S.Store store.new) → (s : OfficeState) → IsAt s (state S.Store store.old) → IfOk result (AddsWhatIsCounted s) }
-    ensures again { OnOk result ((s : OfficeState) → IsKeptAgain actor id.now command.now (step s actor id.now command.now)) }
+    ensures again { OnOk result ((s : OfficeState) → RepeatGetsSameReply actor id.now command.now (step s actor id.now command.now)) }
     ensures cause { HasCleanDisk (state S.Store store.new) → (s : OfficeState) → IsAt s (state S.Store store.old) → IfErr result (FailsBy (state S.Store store.old) (state S.Store store.new)) }
     ensures opens { HasCleanDisk (state S.Store store.new) → OnOk result (IsTrue (state S.Store store.new).is_open) }
     ensures keeps { HasCleanDisk (state S.Store store.new) → (s : OfficeState) → IsAt s (state S.Store store.old) → IsAt s (state S.Store store.new) }

@@ -1,4 +1,4 @@
-//! The page of all wards, written from how they stand.
+//! The page of all wards, written from their overviews.
 #![tactic(auto, using(crate::proofs::StopLemmas::stops_of_memory))]
 
 ghost use Rattle.std.specs.Prelude.{◌≡◌, false, true, nat_eq, map, IfOk, IfErr, OnOk, Err, string_bytes};
@@ -14,7 +14,7 @@ ghost use Rattle.office.specs.Reads.{ReadWhenOpen, StopsBy, ClosesAt};
 ghost use Rattle.office.specs.Sheets.{candidate_shown};
 
 use crate::answers::Stop;
-use crate::offices::Office;
+use crate::open_office::Office;
 use paper::Columns;
 use register::{Candidate, Phase};
 use sheet::{ListedWard, WardStanding, index_text};
@@ -22,7 +22,7 @@ use sqlite::Alter;
 use std::alloc::{AllocError, Global};
 use store::{Fault, WardOverview};
 
-/// How a ward in a phase stands, for everyone.
+/// Returns the public standing of a ward in this phase.
 fn standing_in(phase: Phase) -> WardStanding
     ensures { result ≡ standing_in phase }
 {
@@ -34,21 +34,21 @@ fn standing_in(phase: Phase) -> WardStanding
     }
 }
 
-/// Whether a column has a candidate's number.
+/// Returns whether a column has a candidate's number.
 fn has_number(number: u32, column: u8) -> bool
     ensures { result ≡ nat_eq number column }
 {
     number == u32::from(column)
 }
 
-/// Whether a candidate's number is among these columns.
+/// Returns whether a candidate's number is among these columns.
 fn is_among(columns: &[u8], number: u32) -> bool
     ensures { result ≡ list_any (nat_eq number) columns.now }
 {
     columns.iter().any(|column| has_number(number, *column))
 }
 
-/// Whether a candidate is among those elected, where these are known.
+/// Returns whether a candidate is among those elected, if they are known.
 fn is_elected(elected: &Option<Columns>, candidate: &Candidate) -> bool
     ensures { result ≡ is_among_elected elected.now (candidate_entry candidate.now) }
 {
@@ -58,7 +58,7 @@ fn is_elected(elected: &Option<Columns>, candidate: &Candidate) -> bool
     }
 }
 
-/// Those candidates who are among the elected, by number and name.
+/// Returns the number and name of each of these candidates who is elected.
 fn elected_names(
     alloc: Global,
     elected: &Option<Columns>,
@@ -75,7 +75,7 @@ fn elected_names(
     Ok(names)
 }
 
-/// What is listed of a ward.
+/// Returns a ward as it is listed.
 fn listed_of(alloc: Global, overview: &WardOverview) -> Result<ListedWard, AllocError>
     ensures { IfOk result (λ ward. listed ward ≡ listed_shown (ward_view overview.now)) }
 {
@@ -88,7 +88,7 @@ fn listed_of(alloc: Global, overview: &WardOverview) -> Result<ListedWard, Alloc
     })
 }
 
-/// What is listed of all wards.
+/// Returns all wards as they are listed.
 fn all_listed(alloc: Global, overviews: &[WardOverview]) -> Result<Vec<ListedWard>, AllocError>
     ensures { IfOk result (λ wards. map listed wards.items ≡ map listed_shown (map ward_view overviews.now)) }
 {
@@ -99,7 +99,7 @@ fn all_listed(alloc: Global, overviews: &[WardOverview]) -> Result<Vec<ListedWar
     Ok(wards)
 }
 
-/// The page of all wards that stand so.
+/// Returns the page of all wards with these overviews.
 fn index_over(alloc: Global, title: &str, overviews: &[WardOverview]) -> Result<String, AllocError>
     ensures { IfOk result (λ text. string_bytes text ≡ index title.now (map listed_shown (map ward_view overviews.now))) }
 {
@@ -108,7 +108,7 @@ fn index_over(alloc: Global, title: &str, overviews: &[WardOverview]) -> Result<
 }
 
 impl<S: Alter> Office<S> {
-    /// The page of all wards that stand so. Only want of memory fails it, which leaves the office open.
+    /// Returns the page of all wards with these overviews. It fails only if an allocation fails, which leaves the office open.
     fn index_of(&mut self, title: &str, overviews: &[WardOverview]) -> Result<String, Stop>
         ensures told { IfOk result (λ text. string_bytes text ≡ index title.now (map listed_shown (map ward_view overviews.now))) }
         ensures stopped { IfErr result (λ stop. (stop ≡ Stop.Fault Fault.Memory) × (self.new.closed ≡ false)) }
@@ -121,10 +121,10 @@ impl<S: Alter> Office<S> {
         }
     }
 
-    /// The page of all wards, to hang at the door: how each stands, and who is elected where that is declared. An empty
-    /// title is left out.
+    /// Returns the page of all wards, to be posted for the public: the standing of each, and those elected once it is
+    /// declared. An empty title is left out.
     ///
-    /// Nothing is changed. `Memory` leaves the office open; any other fault closes it. A closed office answers `Closed`.
+    /// Changes nothing. `Memory` leaves the office open; any other fault closes it. A closed office returns `Closed`.
     pub fn index(&mut self, title: &str) -> Result<String, Stop>
         ensures reads { ReadWhenOpen (state S.Store) self.old self.new string_bytes (λ s. index_told title.now s) result }
         ensures same { OnlyReads (state S.Store self.old.held) (state S.Store self.new.held) }

@@ -1,5 +1,5 @@
-//! What the office alone reads of how all stands: its wards, the batches of a ward, their doubtful papers, where a batch differs,
-//! the papers of a batch as they count, and what was kept. No read changes the state.
+//! Overviews for the office alone: its wards, the batches of a ward, their doubtful papers, where the keyings of a
+//! batch differ, the papers of a batch as they count, and the receipts. No read changes the state.
 #![tactic(auto, using(crate::proofs::StopLemmas::stops_of_memory))]
 
 ghost use Rattle.std.specs.Prelude.{◌≡◌, true, map, IfErr, Err};
@@ -12,7 +12,7 @@ ghost use Rattle.office.specs.Reads.{ReadWhenOpen, StopsBy, ClosesAt};
 ghost use Rattle.office.specs.Overviews.{wards_told, batches_told, doubtful_told, differences_told, papers_told, receipts_told, may_have_receipts};
 
 use crate::answers::Stop;
-use crate::offices::Office;
+use crate::open_office::Office;
 use crate::reads::{read, refused};
 use register::ranges::{is_batch_number, is_clerk, is_ward_number};
 use register::{Reason, Receipt};
@@ -22,7 +22,7 @@ use store::{BatchOverview, CountedPapers, Differences, DoubtfulPapers, Fault, Wa
 /// The office itself, as an actor.
 const OFFICE: u32 = 0;
 
-/// Whether this actor may have receipts: the office, or a clerk. Where none is named, all are meant.
+/// Returns whether this actor may have receipts: the office, or a clerk. No actor means all of them.
 fn may_have_receipts(actor: Option<u32>) -> bool
     ensures { result ≡ may_have_receipts actor }
 {
@@ -33,9 +33,9 @@ fn may_have_receipts(actor: Option<u32>) -> bool
 }
 
 impl<S: Alter> Office<S> {
-    /// How all wards stand, in the order of their numbers, each with who is elected where that is declared.
+    /// Returns the overviews of all wards, in the order of their numbers, each with those elected once it is declared.
     ///
-    /// Nothing is changed. `Memory` leaves the office open; any other fault closes it. A closed office answers `Closed`.
+    /// Changes nothing. `Memory` leaves the office open; any other fault closes it. A closed office returns `Closed`.
     pub fn wards(&mut self) -> Result<Vec<WardOverview>, Stop>
         ensures reads { ReadWhenOpen (state S.Store) self.old self.new (λ wards. map ward_view wards.items) (λ s. wards_told s) result }
         ensures same { OnlyReads (state S.Store self.old.held) (state S.Store self.new.held) }
@@ -46,10 +46,10 @@ impl<S: Alter> Office<S> {
         read!(self, true => load_wards())
     }
 
-    /// How the batches of a ward stand, in the order of their numbers.
+    /// Returns the overviews of the batches of a ward, in the order of their numbers.
     ///
-    /// Refused where the number is outside 1 to 99, or no ward has it. Nothing is changed. `Memory` leaves
-    /// the office open; any other fault closes it. A closed office answers `Closed`.
+    /// Refused if the number is outside 1 to 99 or no ward has it. Changes nothing. `Memory` leaves the office open;
+    /// any other fault closes it. A closed office returns `Closed`.
     pub fn batches(&mut self, ward: u32) -> Result<Vec<BatchOverview>, Stop>
         ensures reads { ReadWhenOpen (state S.Store) self.old self.new (λ batches. map batch_view batches.items) (λ s. batches_told s ward) result }
         ensures same { OnlyReads (state S.Store self.old.held) (state S.Store self.new.held) }
@@ -60,11 +60,11 @@ impl<S: Alter> Office<S> {
         read!(self, is_ward_number(ward) => load_batches(ward), Reason::NoSuchWard)
     }
 
-    /// The doubtful papers of the batches of a ward that are taken, by batch and paper; and the candidates of the ward. Each
-    /// paper comes as it counts, with its verdict, if there is one.
+    /// Returns the doubtful papers of the batches of a ward that are taken, by batch and paper; and the candidates of
+    /// the ward. Each paper is returned as it counts, with its verdict, if there is one.
     ///
-    /// Refused where the number is outside 1 to 99, or no ward has it. Nothing is changed. `Memory` leaves
-    /// the office open; any other fault closes it. A closed office answers `Closed`.
+    /// Refused if the number is outside 1 to 99 or no ward has it. Changes nothing. `Memory` leaves the office open;
+    /// any other fault closes it. A closed office returns `Closed`.
     pub fn doubtful(&mut self, ward: u32) -> Result<DoubtfulPapers, Stop>
         ensures reads { ReadWhenOpen (state S.Store) self.old self.new doubtful_papers_view (λ s. doubtful_told s ward) result }
         ensures same { OnlyReads (state S.Store self.old.held) (state S.Store self.new.held) }
@@ -75,10 +75,10 @@ impl<S: Alter> Office<S> {
         read!(self, is_ward_number(ward) => load_doubtful(ward), Reason::NoSuchWard)
     }
 
-    /// The papers of a batch on which keyings of its current round differ.
+    /// Returns the papers of a batch on which keyings of its current round differ.
     ///
-    /// Refused where the number is outside 1 to 9999, no batch has it, or its keyings don't differ. Nothing is
-    /// changed. `Memory` leaves the office open; any other fault closes it. A closed office answers `Closed`.
+    /// Refused if the number is outside 1 to 9999, no batch has it, or its keyings don't differ. Changes nothing.
+    /// `Memory` leaves the office open; any other fault closes it. A closed office returns `Closed`.
     pub fn differences(&mut self, batch: u32) -> Result<Differences, Stop>
         ensures reads { ReadWhenOpen (state S.Store) self.old self.new differences_view (λ s. differences_told s batch) result }
         ensures same { OnlyReads (state S.Store self.old.held) (state S.Store self.new.held) }
@@ -97,11 +97,11 @@ impl<S: Alter> Office<S> {
         }
     }
 
-    /// The papers of a batch that is taken, in the order of their numbers, each as it counts; and the candidates of
-    /// its ward.
+    /// Returns the papers of a batch that is taken, in the order of their numbers, each as it counts; and the
+    /// candidates of its ward.
     ///
-    /// Refused where the number is outside 1 to 9999, no batch has it, or the batch isn't taken. Nothing is
-    /// changed. `Memory` leaves the office open; any other fault closes it. A closed office answers `Closed`.
+    /// Refused if the number is outside 1 to 9999, no batch has it, or the batch isn't taken. Changes nothing. `Memory`
+    /// leaves the office open; any other fault closes it. A closed office returns `Closed`.
     pub fn papers(&mut self, batch: u32) -> Result<CountedPapers, Stop>
         ensures reads { ReadWhenOpen (state S.Store) self.old self.new papers_view (λ s. papers_told s batch) result }
         ensures same { OnlyReads (state S.Store self.old.held) (state S.Store self.new.held) }
@@ -120,10 +120,10 @@ impl<S: Alter> Office<S> {
         }
     }
 
-    /// The receipts of an actor, 0 for the office itself or a clerk's number, or of all, by actor and id.
+    /// Returns the receipts of an actor, 0 for the office itself or a clerk's number, or of all, by actor and id.
     ///
-    /// Refused where the number is above 999. Nothing is changed. `Memory` leaves the office open; any other
-    /// fault closes it. A closed office answers `Closed`.
+    /// Refused if the number is above 999. Changes nothing. `Memory` leaves the office open; any other fault closes it.
+    /// A closed office returns `Closed`.
     pub fn receipts(&mut self, actor: Option<u32>) -> Result<Vec<Receipt>, Stop>
         ensures reads { ReadWhenOpen (state S.Store) self.old self.new (λ receipts. map receipt_entry receipts.items) (λ s. receipts_told s actor) result }
         ensures same { OnlyReads (state S.Store self.old.held) (state S.Store self.new.held) }

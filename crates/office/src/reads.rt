@@ -1,12 +1,12 @@
-//! What the office answers of its state, which no read changes.
+//! What the office returns of its state, which no read changes.
 #![tactic(auto, using(crate::proofs::StopLemmas::stops_of_memory))]
 
 ghost use Rattle.std.specs.Prelude.{◌≡◌, ◌⊎◌, Bool, true, false, map, IfOk, IfErr, IfSome, IfNone, IsSome, OnOk, Some, None, Ok, Err, string_bytes};
 ghost use Rattle.sqlite.specs.Held.{state};
-ghost use Rattle.register.specs.Standings.{paper_at, paper_entry, status_entry, work_entry, work_of};
-ghost use Rattle.register.specs.Steps.{step_entry};
+ghost use Rattle.register.specs.Status.{paper_at, paper_entry, status_entry, work_entry, work_of};
+ghost use Rattle.register.specs.NextSteps.{step_entry};
 ghost use Rattle.register.specs.Seen.{seen_by};
-ghost use Rattle.register.specs.Keepings.{is_kept_otherwise};
+ghost use Rattle.register.specs.Repeats.{is_kept_otherwise};
 ghost use Rattle.register.specs.declared.refusal.Reason.{Reason};
 ghost use Rattle.tables.specs.Reading.{OnlyReads};
 ghost use Rattle.register.specs.Elections.{ElectionEntry};
@@ -16,7 +16,7 @@ ghost use Rattle.office.specs.Reads.{ReadWhenOpen, status_told, next_told, colum
 ghost use Rattle.office.specs.Sheets.{is_told_in, text_shown, text_told, StopsText, StopsWriting, IsTextual, IsOfMemory};
 
 use crate::answers::Stop;
-use crate::offices::Office;
+use crate::open_office::Office;
 use crate::sheets::{Text, declaration, text_of, texts_are_there};
 use paper::Columns;
 use register::ranges::{is_batch_number, is_clerk, is_ward_number};
@@ -27,8 +27,8 @@ use sqlite::Alter;
 use std::alloc::{AllocError, Global};
 use store::Fault;
 
-/// Reads from the store, where the office is open and the number is in its range; else it answers why not. It gives what was
-/// found, or what is made of that. Where the store may have nothing under the number, the reason for that is given.
+/// Reads from the store, if the office is open and the number is in its range; otherwise returns why not. Returns what
+/// was found, or what is made of it; or, if the store has nothing under the number, the reason stated for that.
 macro_rules! read {
     ($office:ident, $is_in_range:expr => $load:ident($($number:ident)?)) => {{
         if let Some(stop) = $office.stop_before($is_in_range) {
@@ -56,7 +56,7 @@ macro_rules! read {
 
 pub(crate) use read;
 
-/// A refusal for a reason, or want of memory.
+/// Returns a refusal for a reason, or the fault `Memory` if an allocation fails.
 pub(crate) fn refused(alloc: Global, reason: Reason) -> Stop
     ensures reason { StopsFor reason result }
     ensures closes { (closed : Bool) → ClosesAt closed result }
@@ -69,7 +69,7 @@ pub(crate) fn refused(alloc: Global, reason: Reason) -> Stop
 }
 
 impl<S: Alter> Office<S> {
-    /// What stops a read before it asks the store: the office is closed, or the number is out of its range.
+    /// Returns what stops a read before it queries the store: the office is closed, or the number is out of range.
     pub(crate) fn stop_before(&self, is_in_range: bool) -> Option<Stop>
         ensures closed { self.now.closed ≡ true → result ≡ Some (Stop.Fault Fault.Closed) }
         ensures range { self.now.closed ≡ false → IfSome result (λ stop. (is_in_range ≡ false) × StopsFor Reason.NumberOutOfRange stop × IsOfMemory stop) }
@@ -85,7 +85,7 @@ impl<S: Alter> Office<S> {
         None
     }
 
-    /// Gives a fault that a read met. Any but want of memory closes the office.
+    /// Returns a fault that a read met. Any fault but out of memory closes the office.
     pub(crate) fn stopped_by(&mut self, fault: Fault) -> Stop
         ensures told { result ≡ Stop.Fault fault }
         ensures held { self.new.held ≡ self.old.held }
@@ -97,10 +97,10 @@ impl<S: Alter> Office<S> {
         Stop::Fault(fault)
     }
 
-    /// How the election of a ward stands.
+    /// Returns the status of a ward.
     ///
-    /// Refused where the number is outside 1 to 99, or no ward has it. Nothing is changed. `Memory` leaves
-    /// the office open; any other fault closes it. A closed office answers `Closed`.
+    /// Refused if the number is outside 1 to 99 or no ward has it. Changes nothing. `Memory` leaves the office open;
+    /// any other fault closes it. A closed office returns `Closed`.
     pub fn status(&mut self, ward: u32) -> Result<Status, Stop>
         ensures reads { ReadWhenOpen (state S.Store) self.old self.new status_entry (λ s. status_told s ward) result }
         ensures same { OnlyReads (state S.Store self.old.held) (state S.Store self.new.held) }
@@ -111,10 +111,10 @@ impl<S: Alter> Office<S> {
         read!(self, is_ward_number(ward) => load_status(ward), Reason::NoSuchWard)
     }
 
-    /// What comes next in the election of a ward, with its candidates once it is counted.
+    /// Returns the next step in the election of a ward, with its candidates once it is counted.
     ///
-    /// Refused where the number is outside 1 to 99, or no ward has it. Nothing is changed. `Memory` leaves
-    /// the office open; any other fault closes it. A closed office answers `Closed`.
+    /// Refused if the number is outside 1 to 99 or no ward has it. Changes nothing. `Memory` leaves the office open;
+    /// any other fault closes it. A closed office returns `Closed`.
     pub fn next_step(&mut self, ward: u32) -> Result<NextStep, Stop>
         ensures reads { ReadWhenOpen (state S.Store) self.old self.new step_entry (λ s. next_told s ward) result }
         ensures same { OnlyReads (state S.Store self.old.held) (state S.Store self.new.held) }
@@ -125,10 +125,10 @@ impl<S: Alter> Office<S> {
         read!(self, is_ward_number(ward) => load_next(ward), Reason::NoSuchWard)
     }
 
-    /// The columns of the papers of a batch: the numbers of its ward's candidates, in ascending order.
+    /// Returns the columns of the papers of a batch: the numbers of its ward's candidates, in ascending order.
     ///
-    /// Refused where the number is outside 1 to 9999, or no batch has it. Nothing is changed. `Memory` leaves
-    /// the office open; any other fault closes it. A closed office answers `Closed`.
+    /// Refused if the number is outside 1 to 9999 or no batch has it. Changes nothing. `Memory` leaves the office open;
+    /// any other fault closes it. A closed office returns `Closed`.
     pub fn columns(&mut self, batch: u32) -> Result<Columns, Stop>
         ensures reads { ReadWhenOpen (state S.Store) self.old self.new (λ columns. columns) (λ s. columns_told s batch) result }
         ensures same { OnlyReads (state S.Store self.old.held) (state S.Store self.new.held) }
@@ -139,11 +139,11 @@ impl<S: Alter> Office<S> {
         read!(self, is_batch_number(batch) => load_columns(batch), Reason::NoSuchBatch)
     }
 
-    /// The work of a clerk: his batches in wards in keying, in the order of their numbers. Each has its ward, the columns and the
-    /// number of its papers, its current round, and whether he has keyed that.
+    /// Returns the work of a clerk: their batches in wards in keying, in the order of their numbers. Each has its ward,
+    /// the columns and the number of its papers, its current round, and whether the clerk has keyed that round.
     ///
-    /// It rests on what the clerk sees of the state alone, whatever others keyed. Refused where the number is outside 1 to
-    /// 999. Nothing is changed. `Memory` leaves the office open; any other fault closes it. A closed office answers `Closed`.
+    /// It depends only on what the clerk sees of the state, whatever others keyed. Refused if the number is outside 1
+    /// to 999. Changes nothing. `Memory` leaves the office open; any other fault closes it. A closed office returns `Closed`.
     pub fn work(&mut self, clerk: u32) -> Result<Vec<Work>, Stop>
         ensures reads { ReadWhenOpen (state S.Store) self.old self.new (λ work. map work_entry work.items) (λ s. work_told s clerk) result }
         ensures blind { WhenOpenAt (state S.Store) self.old self.new (λ s. IfOk result (λ work. map work_entry work.items ≡ work_of (seen_by clerk s) clerk)) }
@@ -155,11 +155,11 @@ impl<S: Alter> Office<S> {
         read!(self, is_clerk(clerk) => load_work(clerk))
     }
 
-    /// What stands on the papers of a batch, for one of its clerks: its ward, and the candidates there.
+    /// Returns the text of the ballot papers of a batch, for one of its clerks: its ward, and the candidates there.
     ///
-    /// It rests on what the clerk sees of the state alone. Refused where a number is out of its range, or he is no clerk
-    /// of such a batch. Nothing is changed. `Memory` leaves the office open; any other fault closes it. A closed office
-    /// answers `Closed`.
+    /// It depends only on what the clerk sees of the state. Refused if a number is out of range, or the clerk is not
+    /// one of such a batch. Changes nothing. `Memory` leaves the office open; any other fault closes it. A closed
+    /// office returns `Closed`.
     pub fn paper(&mut self, clerk: u32, batch: u32) -> Result<BallotPaper, Stop>
         ensures reads { ReadWhenOpen (state S.Store) self.old self.new paper_entry (λ s. paper_told s clerk batch) result }
         ensures blind { WhenOpenAt (state S.Store) self.old self.new (λ s. IfOk result (λ paper. Some (paper_entry paper) ≡ paper_at (seen_by clerk s) clerk batch)) }
@@ -171,26 +171,26 @@ impl<S: Alter> Office<S> {
         read!(self, is_clerk(clerk) && is_batch_number(batch) => load_paper(clerk, batch), Reason::NotItsClerk)
     }
 
-    /// Returns whether what is kept of a request that is sent again differs from what it says. A receipt has the id and the
-    /// subject of its request alone, so such a request gets the same reply whatever else it says.
+    /// Returns whether what is stored of a repeated request differs from the request. A receipt has only the id and the
+    /// subject of its request, so such a request gets the same reply whatever else it says.
     ///
-    /// Never refused, and nothing is changed. `Memory` leaves the office open; any other fault closes it. A closed office
-    /// answers `Closed`.
-    pub fn keeps_other(&mut self, request: &Request) -> Result<bool, Stop>
+    /// Never refused. Changes nothing. `Memory` leaves the office open; any other fault closes it. A closed office
+    /// returns `Closed`.
+    pub fn differs_from_stored(&mut self, request: &Request) -> Result<bool, Stop>
         ensures reads { ReadWhenOpen (state S.Store) self.old self.new (λ differs. differs) (λ s. Ok (is_kept_otherwise s request.now)) result }
         ensures same { OnlyReads (state S.Store self.old.held) (state S.Store self.new.held) }
         ensures closes { IfErr result (ClosesAt self.new.closed) }
         ensures cause { WhenOpenAt (state S.Store) self.old self.new (λ s. IfErr result (StopsBy (state S.Store self.old.held) (state S.Store self.new.held))) }
         ensures closed { self.old.closed ≡ true → (result ≡ Err (Stop.Fault Fault.Closed)) × (self.new ≡ self.old) }
     {
-        read!(self, true => load_keeps_other(request))
+        read!(self, true => load_differs_from_stored(request))
     }
 
-    /// The stage sheet of a ward: its papers, and the stages that are done, no more. Of an uncontested ward
-    /// its seats.
+    /// Returns the stage sheet of a ward: its papers, and the stages that are done, no more. For an uncontested ward it
+    /// shows its seats.
     ///
-    /// Refused where the number is outside 1 to 99, no ward has it, or the ward isn't sealed yet. Nothing is
-    /// changed. `Memory` leaves the office open; any other fault closes it. A closed office answers `Closed`.
+    /// Refused if the number is outside 1 to 99, no ward has it, or the ward isn't sealed yet. Changes nothing.
+    /// `Memory` leaves the office open; any other fault closes it. A closed office returns `Closed`.
     pub fn sheet(&mut self, ward: u32) -> Result<String, Stop>
         ensures reads { ReadWhenOpen (state S.Store) self.old self.new string_bytes (λ s. text_told Text.Sheet s ward) result }
         ensures same { OnlyReads (state S.Store self.old.held) (state S.Store self.new.held) }
@@ -201,11 +201,12 @@ impl<S: Alter> Office<S> {
         self.text(ward, Text::Sheet)
     }
 
-    /// A text of a ward, from what its stage sheet is written from: of its papers and of the stages that are done, no more. The
-    /// ballots of an uncontested ward have its seats and candidates.
+    /// Returns a text of a ward, written from the contents of its stage sheet: its papers and the stages that are done,
+    /// no more. The ballots of an uncontested ward have its seats and candidates.
     ///
-    /// Refused where the number is outside 1 to 99, no ward has it, or the text can't be had yet: the declaration before the ward is declared, any
-    /// other before it is sealed. Nothing is changed. `Memory` leaves the office open; any other fault closes it. A closed office answers `Closed`.
+    /// Refused if the number is outside 1 to 99, no ward has it, or the text isn't available yet: the declaration
+    /// before the ward is declared, any other before it is sealed. Changes nothing. `Memory` leaves the office open;
+    /// any other fault closes it. A closed office returns `Closed`.
     pub fn text(&mut self, ward: u32, text: Text) -> Result<String, Stop>
         ensures reads { ReadWhenOpen (state S.Store) self.old self.new string_bytes (λ s. text_told text.entry s ward) result }
         ensures same { OnlyReads (state S.Store self.old.held) (state S.Store self.new.held) }
@@ -217,10 +218,10 @@ impl<S: Alter> Office<S> {
         read!(self, is_ward_number(ward) => load_sheet(ward), Reason::NoSuchWard, sheet => self.read_text(&sheet, text))
     }
 
-    /// The declaration of a ward: who is elected.
+    /// Returns the declaration of a ward: those elected.
     ///
-    /// Refused where the number is outside 1 to 99, no ward has it, or the ward isn't declared yet. Nothing is
-    /// changed. `Memory` leaves the office open; any other fault closes it. A closed office answers `Closed`.
+    /// Refused if the number is outside 1 to 99, no ward has it, or the ward isn't declared yet. Changes nothing.
+    /// `Memory` leaves the office open; any other fault closes it. A closed office returns `Closed`.
     pub fn result(&mut self, ward: u32) -> Result<String, Stop>
         ensures reads { ReadWhenOpen (state S.Store) self.old self.new string_bytes (λ s. text_told Text.Declaration s ward) result }
         ensures same { OnlyReads (state S.Store self.old.held) (state S.Store self.new.held) }
@@ -232,7 +233,7 @@ impl<S: Alter> Office<S> {
         read!(self, is_ward_number(ward) => load_counted(ward), Reason::NoSuchWard, counted => self.declaration_of(&counted))
     }
 
-    /// Gives a text as it was written. Where it can't be written, the rows are those of no office, which is closed then.
+    /// Returns a text that was written. If it couldn't be, the rows are those of no office, and the office is closed.
     fn told(&mut self, written: Result<Option<String>, AllocError>) -> Result<String, Stop>
         ensures told { IfOk result (λ text. written ≡ Ok (Some text)) }
         ensures stopped { self.old.closed ≡ false → IfErr result (StopsWriting self.new.closed) }
@@ -248,8 +249,8 @@ impl<S: Alter> Office<S> {
         }
     }
 
-    /// A text of a ward that was read. Only want of memory fails it where the ward's texts can be written, as
-    /// those of each ward of an office can.
+    /// Returns a text of a ward that was read. If the ward's texts can be written, as those of every ward of an office
+    /// can, it fails only if an allocation fails.
     fn read_text(&mut self, sheet: &WardSheet, text: Text) -> Result<String, Stop>
         ensures told { IfOk result (λ told. (is_told_in text.entry sheet.now.counted.ward.phase ≡ true) × ((e : ElectionEntry) → IsSheetOf e sheet.now → string_bytes told ≡ text_shown text.entry e)) }
         ensures stopped { self.old.closed ≡ false → IfErr result (λ stop. StopsText text.entry sheet.now.counted.ward.phase self.new.closed stop) }
@@ -265,7 +266,7 @@ impl<S: Alter> Office<S> {
         self.told(written)
     }
 
-    /// The declaration of a ward that was read, in the same way.
+    /// Returns the declaration of a ward that was read, in the same way.
     fn declaration_of(&mut self, counted: &CountedWard) -> Result<String, Stop>
         ensures told { IfOk result (λ text. (is_told_in Text.Declaration counted.now.ward.phase ≡ true)
             × ((e : ElectionEntry) → IsCountedWard e counted.now → string_bytes text ≡ text_shown Text.Declaration e)) }

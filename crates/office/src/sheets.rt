@@ -1,10 +1,10 @@
-//! The texts of a ward that people hold in their hands, written from its election.
+//! The texts of a ward for the public, written from its election.
 
 ghost use Rattle.std.specs.Prelude.{◌≡◌, [], true, map, Some, IfOk, IfSome, IsSome, string_bytes};
 ghost use Rattle.std.specs.List.{list_all};
 ghost use Rattle.register.specs.Ranges.{is_candidate_number};
 ghost use Rattle.register.specs.Offices.{WardEntry, OfficeState, ward_at, candidate_entry};
-ghost use Rattle.register.specs.Items.{IsState};
+ghost use Rattle.register.specs.StateConditions.{IsState};
 ghost use Rattle.register.specs.Elections.{ElectionEntry, election_of, is_counted};
 ghost use Rattle.register.specs.Tabulated.{IsCountedWard, IsSheetOf};
 ghost use Rattle.sheet.specs.Entries.{shown};
@@ -21,31 +21,31 @@ use sheet::{
 use std::alloc::{AllocError, Global};
 use store::elected_in;
 
-/// The law of the texts of an office, for its callers: at a state, those of each ward can be written.
+/// The law of the texts of an office, for its callers: at a state, those of every ward can be written.
 pub fn texts_are_there()
     ensures { (s : OfficeState) (w : WardEntry) → IsState s → ward_at s w.number ≡ Some w → IsTextual (election_of s w) }
 {
-    // for its law, that a ward's columns are its candidates' numbers
+    // For its law that a ward's columns are its candidates' numbers.
     columns_of(&[]);
 }
 
-/// Which text of a ward is asked for.
+/// The texts of a ward.
 #[derive(Clone, Copy, Debug)]
 pub enum Text<'a> {
     /// The stage sheet, once the ward is sealed.
     Sheet,
-    /// The declaration, once it is declared.
+    /// The declaration, once the ward is declared.
     Declaration,
-    /// The ballots as a file that counting programs share, once the ward is sealed.
+    /// The ballots, in a file format that counting programs share, once the ward is sealed.
     Ballots,
-    /// The result as a page to print and sign, once the ward is sealed, under this title; an empty one is left out.
+    /// The result as a page to print and sign, under this title, once the ward is sealed; an empty title is left out.
     Page(&'a str),
     /// The stages as a table for a spreadsheet, once the ward is sealed.
     Table,
 }
 
 impl<'a> Text<'a> {
-    /// Whether the text may be printed in a phase.
+    /// Returns whether the text may be printed in a phase.
     pub(crate) fn is_told_in(self, phase: Phase) -> bool
         ensures is { result ≡ is_told_in self.entry phase }
         ensures counted { result ≡ true → is_counted phase ≡ true }
@@ -59,7 +59,7 @@ impl<'a> Text<'a> {
     }
 }
 
-/// A candidate's number and name. `None` where the number is out of range. No candidate of an office has such a number.
+/// Returns a candidate's number and name. `None` if the number is out of range; no candidate of an office has such a number.
 fn candidate_line(candidate: &Candidate) -> Result<Option<(u8, String)>, AllocError>
     ensures is { IfOk result (λ found. IfSome found (λ line. (line.0, string_bytes line.1) ≡ candidate_shown (candidate_entry candidate.now))) }
     ensures some { IfOk result (λ found. is_candidate_number candidate.now.number ≡ true → IsSome found) }
@@ -70,7 +70,7 @@ fn candidate_line(candidate: &Candidate) -> Result<Option<(u8, String)>, AllocEr
     Ok(Some((number, candidate.name.clone()?)))
 }
 
-/// The numbers and names of candidates, in their order. `None` where a number is out of range.
+/// Returns the numbers and names of candidates, in order. `None` if a number is out of range.
 fn candidate_lines(
     alloc: Global,
     candidates: &[Candidate],
@@ -88,7 +88,7 @@ fn candidate_lines(
     Ok(Some(lines))
 }
 
-/// What the papers of a ward in count come to.
+/// Returns the poll of a ward in count.
 fn poll_of(sheet: &WardSheet) -> Option<Poll>
     ensures { (e : ElectionEntry) → IsSheetOf e sheet.now → is_counted e.ward.phase ≡ true → result ≡ poll_shown e }
 {
@@ -101,8 +101,8 @@ fn poll_of(sheet: &WardSheet) -> Option<Poll>
     }
 }
 
-/// A ward that was counted, as the texts show it, with these lines of its candidates and its papers. `None` where a number is out
-/// of range, so that the ward can't be printed. No ward of an office has such a number.
+/// Returns a counted ward as the texts show it, with these lines of its candidates and this poll. `None` if a number is
+/// out of range, so that the ward can't be printed; no ward of an office has such a number.
 fn ward_of<'a>(
     counted: &'a CountedWard,
     candidates: &'a [(u8, String)],
@@ -133,7 +133,7 @@ fn ward_of<'a>(
     Some(ward)
 }
 
-/// The stages of a ward's count that are done; of an uncontested ward none.
+/// Returns the stages of a ward's count that are done; none for an uncontested ward.
 fn stages_of(counted: &CountedWard) -> &[Stage]
     ensures { (e : ElectionEntry) → IsCountedWard e counted.now → is_counted e.ward.phase ≡ true → result.now ≡ stages_shown e }
 {
@@ -143,7 +143,7 @@ fn stages_of(counted: &CountedWard) -> &[Stage]
     }
 }
 
-/// The bundles of equal valid papers of a ward in count; an uncontested ward has no bundle, and gives `none`.
+/// Returns the bundles of equal valid papers of a ward in count; `none` for an uncontested ward, which has no bundles.
 fn bundles_of<'a>(counted: &'a CountedWard, none: &'a Bundles) -> &'a Bundles
     requires { none.now ≡ [] }
     ensures { (e : ElectionEntry) → IsCountedWard e counted.now → is_counted e.ward.phase ≡ true → result.now ≡ bundles_shown e }
@@ -154,7 +154,7 @@ fn bundles_of<'a>(counted: &'a CountedWard, none: &'a Bundles) -> &'a Bundles
     }
 }
 
-/// The lots that are recorded in a ward's count; of an uncontested ward none.
+/// Returns the lots recorded in a ward's count; none for an uncontested ward.
 fn lots_of(counted: &CountedWard) -> &[(u8, u8)]
     ensures { (e : ElectionEntry) → IsCountedWard e counted.now → is_counted e.ward.phase ≡ true → result.now ≡ lots_shown e }
 {
@@ -164,7 +164,7 @@ fn lots_of(counted: &CountedWard) -> &[(u8, u8)]
     }
 }
 
-/// A text of a ward that was read, as it is shown.
+/// Returns a text of a ward that was read, from what it shows.
 fn written(
     alloc: Global,
     counted: &CountedWard,
@@ -197,8 +197,8 @@ fn written(
     }
 }
 
-/// A text of a ward, of the stages that are done. `None` where it can't be written. Each text of an office can be. An
-/// error is want of memory.
+/// Returns a text of a ward, from the stages that are done. `None` if it can't be written, but every text of an office
+/// can be. `AllocError` if an allocation fails.
 pub(crate) fn text_of(
     alloc: Global,
     sheet: &WardSheet,
@@ -217,7 +217,7 @@ pub(crate) fn text_of(
     Ok(Some(written(alloc, counted, &ward, text)?))
 }
 
-/// The declaration of a ward, by who is elected, in the same way.
+/// Returns the declaration of a ward, from those elected, in the same way.
 pub(crate) fn declaration(
     alloc: Global,
     counted: &CountedWard,

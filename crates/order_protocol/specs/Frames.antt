@@ -1,4 +1,4 @@
--- The frames in which the output of an order comes back; and what is decoded of them, byte by byte.
+-- The frames that return the output of an order, and how they are decoded, byte by byte.
 use Rattle.std.specs.Prelude.{◌≡◌, ℕ, zero, suc, ◌+◌, ◌*◌, ◌==◌, List, [], ◌∷◌, ◌++◌, fold, if◌then◌else◌}
 use Rattle.std.specs.Int.{w32, to_be_bytes}
 use Rattle.std.specs.List.{flat_map}

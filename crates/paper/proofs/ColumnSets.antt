@@ -3,11 +3,11 @@ use Rattle.std.proofs.Common.{◌≡◌, ℕ, suc, zero, ◌+◌, ◌-◌, ◌<�
 use Rattle.std.proofs.Common.{arith, length-append, take-append-drop}
 use Rattle.std.specs.List.{filter, AllByRecursion, list_any, prefix_len}
 use Rattle.std.proofs.lemmas.Bool.{lt-ltb, le-ltb, eq-eqb, ne_eqb, cases_order, or_parts, or_from, or_left}
-use Rattle.paper.specs.Columns.{max_candidates, IsColumnSet, with_column}
+use Rattle.paper.specs.Columns.{max_candidates, IsCandidateSet, with_column}
 use Rattle.paper.specs.Padded.{listed, padded}
 use Rattle.paper.proofs.PaddedLists.{listed-append_zeros}
 
--- numbers of candidates that ascend from above a number on
+-- ascending candidate numbers above a bound
 abbrev pub Ascends : ℕ → List ℕ → Type 0
 Ascends low [] = Unit {0}
 Ascends low (x ∷ xs) = (low < x) × (x ≤ max_candidates) × Ascends x xs
@@ -27,17 +27,17 @@ ascends_next low (x ∷ xs) up (suc k) here =
     let later = ascends_next x xs up.2 k (omega arith) in
     subst (λ j. slice_index xs k < slice_index (x ∷ xs) j) (sym e) later
 
-pub columns_from_ascends : (low : ℕ) (xs : List ℕ) → Ascends low xs → IsColumnSet xs
+pub columns_from_ascends : (low : ℕ) (xs : List ℕ) → Ascends low xs → IsCandidateSet xs
 columns_from_ascends low xs up = record {
   ascending = ascends_next low xs up;
   within = λ k here. let each = ascends_each low xs up k here in (omega (arith, each.0), each.1);
 }
 
-ascends_from : (low : ℕ) (xs : List ℕ) → IsColumnSet xs → (0 < length xs → low < slice_index xs 0) → Ascends low xs
+ascends_from : (low : ℕ) (xs : List ℕ) → IsCandidateSet xs → (0 < length xs → low < slice_index xs 0) → Ascends low xs
 ascends_from low [] set first = tt
 ascends_from low (x ∷ xs) set first = (first (omega arith), (set.within 0 (omega arith)).1, ascends_from x xs others (λ some. set.ascending 0 (omega (arith, some))))
   where
-    others : IsColumnSet xs
+    others : IsCandidateSet xs
     others = record {
       ascending = λ k here.
           let e : suc k + 1 ≡ suc (k + 1) = omega arith in
@@ -45,26 +45,26 @@ ascends_from low (x ∷ xs) set first = (first (omega arith), (set.within 0 (ome
       within = λ k here. set.within (suc k) (omega (arith, here));
     }
 
-pub ascends_from_columns : (xs : List ℕ) → IsColumnSet xs → Ascends 0 xs
+pub ascends_from_columns : (xs : List ℕ) → IsCandidateSet xs → Ascends 0 xs
 ascends_from_columns xs set = ascends_from 0 xs set (λ some. (set.within 0 some).0)
 
 ascends_length : (low : ℕ) (xs : List ℕ) → low ≤ max_candidates → Ascends low xs → low + length xs ≤ max_candidates
 ascends_length low [] small up = omega arith
 ascends_length low (x ∷ xs) small up = omega (arith, ascends_length x xs up.1 up.2, up.0)
 
--- a set of columns has no more numbers than there can be candidates
-pub length_columns : (xs : List ℕ) → IsColumnSet xs → length xs ≤ max_candidates
+-- a set of columns has at most as many numbers as there can be candidates
+pub length_columns : (xs : List ℕ) → IsCandidateSet xs → length xs ≤ max_candidates
 length_columns xs set = omega (arith, ascends_length 0 xs (omega arith) (ascends_from_columns xs set))
 
 ascends_some : (low : ℕ) (xs : List ℕ) → Ascends low xs → AllByRecursion (λ x. 1 ≤ x) xs
 ascends_some low [] up = tt
 ascends_some low (x ∷ xs) up = (omega (arith, up.0), ascends_some x xs up.2)
 
--- a set of columns stands in its array
-pub listed-padded_columns : (xs : List ℕ) → IsColumnSet xs → listed (padded xs) ≡ xs
+-- a set of columns is stored in its array
+pub listed-padded_columns : (xs : List ℕ) → IsCandidateSet xs → listed (padded xs) ≡ xs
 listed-padded_columns xs set = listed-append_zeros xs (max_candidates - length xs) (ascends_some 0 xs (ascends_from_columns xs set))
 
--- none of a set that ascends from c on is below c, and all of it is above c
+-- in a set that ascends from c on, no number is below c, and all are above c
 none_below : (c low : ℕ) (xs : List ℕ) → c ≤ low → Ascends low xs → filter (λ d. nat_lt d c) xs ≡ []
 none_below c low [] at up = refl
 none_below c low (x ∷ xs) at up = rw (le-ltb x c (omega (arith, up.0))) (none_below c x xs (omega (arith, up.0)) up.2)
@@ -73,7 +73,7 @@ all_above : (c low : ℕ) (xs : List ℕ) → c ≤ low → Ascends low xs → f
 all_above c low [] at up = refl
 all_above c low (x ∷ xs) at up = rw (lt-ltb c x (omega (arith, up.0))) (ap (λ l. x ∷ l) (all_above c x xs (omega (arith, up.0)) up.2))
 
--- a number goes behind those below it, in front of those above it, and nowhere where it stands already
+-- a number is inserted after those below it and before those above it, and not at all if it is present
 with_less : (c x : ℕ) (xs : List ℕ) → x < c → with_column (x ∷ xs) c ≡ x ∷ with_column xs c
 with_less c x xs less = rw (lt-ltb x c less, le-ltb c x (omega arith)) refl
 
@@ -84,7 +84,7 @@ with_same : (c x : ℕ) (xs : List ℕ) → c ≡ x → Ascends x xs → with_co
 with_same c x xs same up =
     rw (le-ltb x c (omega arith), le-ltb c x (omega arith), none_below c x xs (omega arith) up, all_above c x xs (omega arith) up) (ap (λ n. n ∷ xs) same)
 
--- the set with a number more ascends
+-- the set with one more number is ascending
 with_column-Ascends : (c low : ℕ) (xs : List ℕ) → low < c → c ≤ max_candidates → Ascends low xs → Ascends low (with_column xs c)
 with_column-Ascends c low [] high few up = (high, few, tt)
 with_column-Ascends c low (x ∷ xs) high few up =
@@ -96,8 +96,8 @@ with_column-Ascends c low (x ∷ xs) high few up =
       ]
     ]
 
-pub with_column-IsColumnSet : (xs : List ℕ) (c : ℕ) → 1 ≤ c → c ≤ max_candidates → IsColumnSet xs → IsColumnSet (with_column xs c)
-with_column-IsColumnSet xs c some few set =
+pub with_column-IsCandidateSet : (xs : List ℕ) (c : ℕ) → 1 ≤ c → c ≤ max_candidates → IsCandidateSet xs → IsCandidateSet (with_column xs c)
+with_column-IsCandidateSet xs c some few set =
     columns_from_ascends 0 (with_column xs c) (with_column-Ascends c 0 xs (omega (arith, some)) few (ascends_from_columns xs set))
 
 absent_below : (c low : ℕ) (xs : List ℕ) → c ≤ low → Ascends low xs → list_any (nat_eq c) xs ≡ false
@@ -116,7 +116,7 @@ with_present c low (x ∷ xs) up found =
       ]
     ]
 
--- the parts of a list at the first number that isn't below c
+-- the parts of a list, split at the first number that isn't below c
 abbrev pub parts : ℕ → List ℕ → List ℕ
 parts c xs = take (prefix_len (λ d. nat_lt d c) xs) xs ++ c ∷ drop (prefix_len (λ d. nat_lt d c) xs) xs
 
@@ -148,33 +148,33 @@ with_last : (c low : ℕ) (xs : List ℕ) → Ascends low (xs ++ c ∷ []) → w
 with_last c low [] up = refl
 with_last c low (x ∷ xs) up = with_less c x xs (last_above c x xs up.2) ∙ ap (λ l. x ∷ l) (with_last c x xs up.2)
 
--- the same of sets
-pub with_column-present : (xs : List ℕ) (c : ℕ) → IsColumnSet xs → list_any (nat_eq c) xs ≡ true → with_column xs c ≡ xs
+-- the same for sets
+pub with_column-present : (xs : List ℕ) (c : ℕ) → IsCandidateSet xs → list_any (nat_eq c) xs ≡ true → with_column xs c ≡ xs
 with_column-present xs c set found = with_present c 0 xs (ascends_from_columns xs set) found
 
-pub with_column-absent : (xs : List ℕ) (c : ℕ) → IsColumnSet xs → list_any (nat_eq c) xs ≡ false → with_column xs c ≡ parts c xs
+pub with_column-absent : (xs : List ℕ) (c : ℕ) → IsCandidateSet xs → list_any (nat_eq c) xs ≡ false → with_column xs c ≡ parts c xs
 with_column-absent xs c set absent = with_absent c 0 xs (ascends_from_columns xs set) absent
 
-pub with_column-last : (xs : List ℕ) (c : ℕ) → IsColumnSet (xs ++ c ∷ []) → with_column xs c ≡ xs ++ c ∷ []
+pub with_column-last : (xs : List ℕ) (c : ℕ) → IsCandidateSet (xs ++ c ∷ []) → with_column xs c ≡ xs ++ c ∷ []
 with_column-last xs c set = with_last c 0 xs (ascends_from_columns (xs ++ c ∷ []) set)
 
--- there is room for a number that the set doesn't have
-pub with_column-room : (xs : List ℕ) (c : ℕ) → 1 ≤ c → c ≤ max_candidates → IsColumnSet xs → list_any (nat_eq c) xs ≡ false → length xs < max_candidates
+-- there is room for a number that isn't in the set
+pub with_column-room : (xs : List ℕ) (c : ℕ) → 1 ≤ c → c ≤ max_candidates → IsCandidateSet xs → list_any (nat_eq c) xs ≡ false → length xs < max_candidates
 with_column-room xs c some few set absent =
     let n = prefix_len (λ d. nat_lt d c) xs in
-    let most = length_columns (with_column xs c) (with_column-IsColumnSet xs c some few set) in
+    let most = length_columns (with_column xs c) (with_column-IsCandidateSet xs c some few set) in
     let parts = ap length (with_column-absent xs c set absent) ∙ length-append (take n xs) (c ∷ drop n xs) in
     let both = ap length (take-append-drop n xs) in
     omega (arith, most, parts, both, length-append (take n xs) (drop n xs))
 
--- the array that is made of the parts
-pub parts-made : (xs slice below above numbers : List ℕ) (c at : ℕ) → IsColumnSet xs → list_any (nat_eq c) xs ≡ false → slice ≡ xs → at ≡ prefix_len (λ d. nat_lt d c) xs →
+-- the array made from the parts
+pub parts-made : (xs slice below above numbers : List ℕ) (c at : ℕ) → IsCandidateSet xs → list_any (nat_eq c) xs ≡ false → slice ≡ xs → at ≡ prefix_len (λ d. nat_lt d c) xs →
     below ≡ take at slice → above ≡ drop at slice → numbers ≡ padded (below ++ c ∷ above) → numbers ≡ padded (with_column xs c)
 parts-made xs slice below above numbers c at set absent whole place front back made =
     rw (front, back, whole, place) at made ∙ ap padded (sym (with_column-absent xs c set absent))
 
--- an array made of a set is one
-pub stands : (numbers ys : List ℕ) → IsColumnSet ys → numbers ≡ padded ys → (padded (listed numbers) ≡ numbers) × IsColumnSet (listed numbers)
+-- an array made from a set satisfies the invariant
+pub stands : (numbers ys : List ℕ) → IsCandidateSet ys → numbers ≡ padded ys → (padded (listed numbers) ≡ numbers) × IsCandidateSet (listed numbers)
 stands numbers ys set made =
     let same : listed numbers ≡ ys = ap listed made ∙ listed-padded_columns ys set in
-    (ap padded same ∙ sym made, subst IsColumnSet (sym same) set)
+    (ap padded same ∙ sym made, subst IsCandidateSet (sym same) set)

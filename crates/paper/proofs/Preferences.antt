@@ -1,11 +1,11 @@
--- The preferences worked out are the longest list of candidates who stand alone.
+-- The computed preferences are the longest list of candidates who are alone with their numbers.
 use Rattle.std.proofs.Common.{◌≡◌, ℕ, suc, zero, ◌+◌, ◌-◌, ◌<◌, ◌≤◌, ◌==◌, nat_eq, Bool, true, false, cond, ◌||◌, List, [], ◌∷◌, ◌++◌, length, take, drop, set, replicate, map, inl, inr}
 use Rattle.std.proofs.Common.{refl, sym, ap, ◌∙◌, arith, append-nil, append_assoc}
 use Rattle.std.specs.List.{filter, list_any}
 use Rattle.std.proofs.lemmas.Bool.{eq-eqb, ne_eqb, eqb-true, cases_eq, or_left, or_right, or_from}
 use Rattle.std.proofs.lemmas.List.{take_more_set, take-append-drop, length-take-le}
 use Rattle.paper.specs.Bearers.{bearers_of}
-use Rattle.paper.specs.Columns.{max_candidates, IsColumnSet}
+use Rattle.paper.specs.Columns.{max_candidates, IsCandidateSet}
 use Rattle.paper.specs.Marking.{Marking, candidates_of, marked_with}
 use Rattle.paper.specs.Padded.{padded}
 use Rattle.paper.specs.Preferences.{StandAlone, IsPreferences, if_alone, preferences_from, preferences, LowerMarksDecide}
@@ -14,7 +14,7 @@ use Rattle.paper.specs.declared.marked.Bearers.TheVariants.{Nobody, One, Several
 use Rattle.paper.proofs.ColumnSets.{Ascends, ascends_from_columns}
 use Rattle.paper.proofs.Rankings.{length_ranking}
 
--- What is worked out is a list of candidates who stand alone,
+-- The computed list consists of candidates who are alone with their numbers,
 alone_from : (most n : ℕ) (ms : Marking) → StandAlone n ms (preferences_from most n ms)
 unfolding preferences_from
 alone_from zero n ms = tt
@@ -33,7 +33,7 @@ longest_from most n ms [] alone few = omega arith
 longest_from zero n ms (c ∷ cs) alone few = absurd (omega (arith, few))
 longest_from (suc most) n ms (c ∷ cs) alone few = rw alone.0 (omega (arith, longest_from most (n + 1) ms cs alone.1 (omega (arith, few))))
 
--- a number among ascending ones
+-- a number in an ascending list
 in_ascending : (c low : ℕ) (xs : List ℕ) → Ascends low xs → list_any (nat_eq c) xs ≡ true → (low < c) × (c ≤ max_candidates)
 in_ascending c low [] up found = cc
 in_ascending c low (x ∷ xs) up found =
@@ -44,7 +44,7 @@ in_ascending c low (x ∷ xs) up found =
           (omega (arith, later.0, up.0), later.1)
     ]
 
--- one beside whom a number stands is a candidate
+-- a candidate with a number in the field is a candidate of the paper
 in_candidates : (c n : ℕ) (ms : Marking) → list_any (nat_eq c) (marked_with n ms) ≡ true → list_any (nat_eq c) (candidates_of ms) ≡ true
 in_candidates c n [] found = found
 in_candidates c n (m ∷ ms) found = by_mark (m.1 == n) found (in_candidates c n ms)
@@ -58,12 +58,12 @@ in_candidates c n (m ∷ ms) found = by_mark (m.1 == n) found (in_candidates c n
         by_head true found = refl
         by_head false found = later found
 
--- the mark beside a candidate
+-- the mark of a candidate
 abbrev pub mark_beside : Marking → ℕ → ℕ
 mark_beside [] c = 0
 mark_beside (m ∷ ms) c = cond (nat_eq c m.0) m.1 (mark_beside ms c)
 
--- is the number that stands beside him, each candidate being there once
+-- is the number in the candidate's field, because each candidate occurs once
 mark_is : (c n low : ℕ) (ms : Marking) → Ascends low (candidates_of ms) → list_any (nat_eq c) (marked_with n ms) ≡ true → mark_beside ms c ≡ n
 mark_is c n low [] up found = cc
 mark_is c n low (m ∷ ms) up found =
@@ -88,7 +88,7 @@ absent_later c n k ms (y ∷ ys) up mark later alone =
     or_from _ _ (ne_eqb y c (λ same. omega (arith, later, mark, ap (mark_beside ms) same, mark_is y k 0 ms up (rw alone.0 (or_left _ false (eq-eqb y y refl))))))
     (absent_later c n (k + 1) ms ys up mark (omega (arith, later)) alone.1)
 
--- candidates who stand alone are a ranking, since no candidate has two marks
+-- candidates who are alone with their numbers are a ranking, because no candidate has two marks
 pub alone_ranking : (n : ℕ) (ms : Marking) (cs : List ℕ) → Ascends 0 (candidates_of ms) → StandAlone n ms cs → IsRanking cs
 alone_ranking n ms [] up alone = tt
 alone_ranking n ms (c ∷ cs) up alone =
@@ -96,17 +96,17 @@ alone_ranking n ms (c ∷ cs) up alone =
     let column = in_ascending c 0 (candidates_of ms) up (in_candidates c n ms here) in
     (omega (arith, column.0), column.1, absent_later c n (n + 1) ms cs up (mark_is c n 0 ms up here) (omega arith) alone.1, alone_ranking (n + 1) ms cs up alone.1)
 
-pub preferences-IsRanking : (ms : Marking) → IsColumnSet (candidates_of ms) → IsRanking (preferences ms)
+pub preferences-IsRanking : (ms : Marking) → IsCandidateSet (candidates_of ms) → IsRanking (preferences ms)
 preferences-IsRanking ms set = alone_ranking 1 ms (preferences ms) (ascends_from_columns (candidates_of ms) set) (alone_from max_candidates 1 ms)
 
--- what is worked out are the preferences
-pub preferences-IsPreferences : (ms : Marking) → IsColumnSet (candidates_of ms) → IsPreferences ms (preferences ms)
+-- the computed list is the preferences
+pub preferences-IsPreferences : (ms : Marking) → IsCandidateSet (candidates_of ms) → IsPreferences ms (preferences ms)
 preferences-IsPreferences ms set = record {
   alone = alone_from max_candidates 1 ms;
   longest = λ others alone. longest_from max_candidates 1 ms others alone (length_ranking others (alone_ranking 1 ms others (ascends_from_columns (candidates_of ms) set) alone));
 }
 
--- there is a first preference where one candidate alone has the number 1
+-- there is a first preference if only one candidate has the number 1
 pub preferences-some : (ms : Marking) (c : ℕ) → marked_with 1 ms ≡ c ∷ [] → 1 ≤ length (preferences ms)
 unfolding preferences_from
 preferences-some ms c first = rw first (omega arith)
@@ -128,7 +128,7 @@ lower_from (suc most) (suc n) start others ms same =
 pub lower_marks_decide : (ms : Marking) → LowerMarksDecide ms
 lower_marks_decide ms others n same = lower_from max_candidates n 1 others ms (λ k low high. same k low (omega (arith, high)))
 
--- What a loop that goes up the numbers has so far:
+-- What a loop that counts up the numbers has so far:
 step_alone : (place : ℕ) (ms : Marking) → place < max_candidates →
     preferences_from (max_candidates - place) (place + 1) ms ≡ if_alone (marked_with (place + 1) ms) (preferences_from (max_candidates - (place + 1)) (place + 1 + 1) ms)
 unfolding preferences_from
@@ -141,7 +141,7 @@ alone-One [] c one = cc
 alone-One (d ∷ []) c one = cc
 alone-One (d ∷ e ∷ cs) c one = cc
 
--- one preference more,
+-- one more preference,
 pub preferred-more : (ms : Marking) (numbers : List ℕ) (place c : ℕ) → preferences ms ≡ take place numbers ++ preferences_from (max_candidates - place) (place + 1) ms → place < max_candidates →
     length numbers ≡ max_candidates →
     One c ≡ bearers_of (marked_with (place + 1) ms) → preferences ms ≡ take (place + 1) (set numbers place c) ++ preferences_from (max_candidates - (place + 1)) (place + 1 + 1) ms

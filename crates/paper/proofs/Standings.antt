@@ -1,4 +1,4 @@
--- Statuses that are given one after the other, and preferences that are passed over.
+-- Statuses that are set one by one, and preferences that are passed over.
 use Rattle.std.proofs.Common.{◌⊎◌, ap, ◌≡◌, ℕ, suc, zero, ◌+◌, ◌<◌, nat_eq, Bool, true, false, not, cond, ◌||◌, List, [], ◌∷◌, length, take, drop, set, replicate, slice_index, inl, inr}
 use Rattle.std.proofs.Common.{refl, ◌∙◌, arith, get_or-set_other, get_or-set_same}
 use Rattle.std.specs.List.{list_any, find, prefix_len, slice_get}
@@ -13,7 +13,7 @@ or_none : (b c : Bool) → c ≡ false → (b || c) ≡ b
 or_none true c none = refl
 or_none false c none = none
 
--- one number more has been given the status
+-- the status of one more number has been set
 pub status_of-set : (old now : List CandidateStatus) (s : CandidateStatus) (xs : List ℕ) (i k : ℕ) → i < length xs → slice_index xs i < length now →
     status_of now k ≡ cond (list_any (nat_eq k) (take i xs)) s (status_of old k) →
     status_of (set now (slice_index xs i) s) k ≡ cond (list_any (nat_eq k) (take (i + 1) xs)) s (status_of old k)
@@ -28,7 +28,7 @@ status_of-set old now s xs i k here within given =
           (get_or-set_other now (slice_index xs i) k s _ other ∙ given)
     ]
 
--- passing over those that fail a test leaves the list from the first that passes
+-- passing over elements that fail a test leaves the list from the first that passes
 pub drop-passed : {X : Type 0} (p : X → Bool) (xs : List X) → drop (prefix_len (λ x. not (p x)) xs) xs ≡ from_first p xs
 drop-passed p [] = refl
 drop-passed p (x ∷ xs) = by_test (p x) refl (drop-passed p xs)
@@ -49,7 +49,7 @@ find-from_first p (x ∷ xs) = by_test (p x) refl (find-from_first p xs)
     by_test true passes others = rw passes refl
     by_test false fails others = rw fails others
 
--- before anything is given, every number is absent
+-- before any status is set, every number is absent
 pub status_of-absent : (n k : ℕ) → status_of (replicate n Absent) k ≡ Absent
 status_of-absent zero k = refl
 status_of-absent (suc n) zero = refl

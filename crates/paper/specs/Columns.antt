@@ -1,9 +1,9 @@
--- Candidates' numbers, and sets of them.
+-- Candidate numbers, and sets of them.
 use Rattle.std.specs.Prelude.{ℕ, ◌≤◌, nat_lt, List, ◌∷◌, ◌++◌, EachIndex, slice_index}
 use Rattle.std.specs.List.{filter}
 use Rattle.std.specs.List.Sorted.{IsStrictlyIncreasing}
 
--- the most candidates of a ward
+-- the maximum number of candidates in a ward
 abbrev pub max_candidates : ℕ
 max_candidates = 30
 
@@ -11,11 +11,11 @@ max_candidates = 30
 abbrev pub IsColumn : ℕ → Type 0
 IsColumn c = (1 ≤ c) × (c ≤ max_candidates)
 
--- a set of candidates' numbers, as the list of them in ascending order
-pub record IsColumnSet (columns : List ℕ) : Type 0 where
+-- a set of candidate numbers, as the list of them in ascending order
+pub record IsCandidateSet (columns : List ℕ) : Type 0 where
   pub ascending : IsStrictlyIncreasing columns
   pub within : EachIndex columns (λ k. IsColumn (slice_index columns k))
 
--- a set with a number more: those below it, the number, and those above it
+-- a set with one more number: those below it, the number, and those above it
 abbrev pub with_column : List ℕ → ℕ → List ℕ
 with_column columns c = filter (λ d. nat_lt d c) columns ++ c ∷ filter (λ d. nat_lt c d) columns

@@ -1,10 +1,10 @@
 -- The marks on a ballot paper.
 use Rattle.std.specs.Prelude.{ℕ, ◌≤◌, ◌==◌, List, length, map}
 use Rattle.std.specs.List.{filter, AllByRecursion}
-use Rattle.paper.specs.Columns.{IsColumnSet}
+use Rattle.paper.specs.Columns.{IsCandidateSet}
 
--- the marks on a paper: each candidate's number beside the number in his field, 0 where that is empty, in ascending
--- order of the candidates
+-- the marks on a paper, in ascending order of the candidates: each candidate's number with the number in the candidate's
+-- field, 0 if that is empty
 abbrev pub Marking : Type 0
 Marking = List (ℕ × ℕ)
 
@@ -12,16 +12,16 @@ Marking = List (ℕ × ℕ)
 abbrev pub candidates_of : Marking → List ℕ
 candidates_of marking = map (λ m. m.0) marking
 
--- the number in each candidate's field, 0 where it is empty
+-- the number in each candidate's field, 0 if it is empty
 abbrev pub marks_of : Marking → List ℕ
 marks_of marking = map (λ m. m.1) marking
 
--- the candidates beside whom a number stands
+-- the candidates with a number in their fields
 abbrev pub marked_with : ℕ → Marking → List ℕ
 marked_with n marking = map (λ m. m.0) (filter (λ m. m.1 == n) marking)
 
--- what is true of the marks on every paper
+-- what holds of the marks on every paper
 pub record IsMarking (marking : Marking) : Type 0 where
-  pub columns : IsColumnSet (candidates_of marking)
+  pub columns : IsCandidateSet (candidates_of marking)
   pub small : AllByRecursion (λ mark. mark ≤ 99) (marks_of marking)
   pub some : 1 ≤ length marking

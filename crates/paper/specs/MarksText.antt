@@ -1,4 +1,4 @@
--- Marks as text: what a text says, and the one text of what is keyed.
+-- Marks as text: the meaning of a text, and the only text of a keyed paper.
 use Rattle.std.specs.Prelude.{◌≡◌, ℕ, ◌+◌, ◌-◌, ◌*◌, Bool, not, ◌&&◌, ◌||◌, ◌==◌, nat_le, nat_lt, if◌then◌else◌, List, [], ◌∷◌, length, map, Result, Ok, Err, codes, decimal, bytes_eq}
 use Rattle.std.specs.List.{slice_split, join_with_byte, list_all, fold, zip}
 use Rattle.paper.specs.Marking.{candidates_of, marks_of}
@@ -7,7 +7,7 @@ use Rattle.paper.specs.declared.marks.MarkFault.TheVariants.{FieldCount, NotANum
 use Rattle.paper.specs.declared.marked.Keyed.{Keyed}
 use Rattle.paper.specs.declared.marked.Keyed.TheVariants.{Doubtful, Marked}
 
--- the fields of a marks text, parted by commas
+-- the fields of a marks text, separated by commas
 abbrev pub fields : List ℕ → List (List ℕ)
 fields text = slice_split (λ b. b == 44) text
 
@@ -15,35 +15,35 @@ fields text = slice_split (λ b. b == 44) text
 abbrev pub is_digit : ℕ → Bool
 is_digit b = nat_le 48 b && nat_le b 57
 
--- the number that digits write
+-- the number that digits denote
 abbrev pub number_in : List ℕ → ℕ
 number_in digits = fold (λ n b. n * 10 + (b - 48)) 0 digits
 
--- the mark in a field: 0 where it is empty, else its number, which has no leading zero and is at most 99
+-- the mark in a field: 0 if it is empty, otherwise its number, which has no leading zero and is at most 99
 abbrev pub mark_in : List ℕ → Result ℕ MarkFault
 mark_in [] = Ok 0
 mark_in (b ∷ bs) =
     if b == 48 || not (list_all is_digit (b ∷ bs)) then Err NotANumber else (
     if nat_lt 99 (number_in (b ∷ bs)) then Err TooLarge else Ok (number_in (b ∷ bs)))
 
--- the mark in a field before those in the fields behind it, or the fault of the first faulty one
+-- the mark in a field, followed by those in the later fields, or the fault of the first invalid field
 abbrev pub and_marks : Result ℕ MarkFault → Result (List ℕ) MarkFault → Result (List ℕ) MarkFault
 and_marks (Err fault) marks = Err fault
 and_marks (Ok mark) (Err fault) = Err fault
 and_marks (Ok mark) (Ok marks) = Ok (mark ∷ marks)
 
--- the marks in some fields, or the fault of the leftmost faulty one
+-- the marks in a list of fields, or the fault of the leftmost invalid one
 abbrev pub marks_in : List (List ℕ) → Result (List ℕ) MarkFault
 marks_in [] = Ok []
 marks_in (field ∷ fields) = and_marks (mark_in field) (marks_in fields)
 
--- the marks beside the candidates of some columns, or the fault
+-- the marks of the candidates in these columns, or the fault
 abbrev pub beside : List ℕ → Result (List ℕ) MarkFault → Result Keyed MarkFault
 beside columns (Err fault) = Err fault
 beside columns (Ok marks) = Ok (Marked (zip columns marks))
 
--- what is keyed by a text of a paper with some columns: doubtful by the letter D, else one field for each column; the
--- number of fields is judged first
+-- the paper that a text denotes, given the columns: doubtful if the text is the letter D, otherwise one field for each column;
+-- the number of fields is checked first
 abbrev pub reading : List ℕ → List ℕ → Result Keyed MarkFault
 reading columns text =
     if bytes_eq text (codes "D") then Ok Doubtful else (
@@ -53,20 +53,20 @@ reading columns text =
 abbrev pub mark_text : ℕ → List ℕ
 mark_text mark = if mark == 0 then [] else decimal mark
 
--- the text of a field of a paper, with a comma in front of every field but the first
+-- the text of a field of a paper, with a comma before every field but the first
 abbrev pub field_text : ℕ → ℕ → List ℕ
 field_text i mark = if i == 0 then mark_text mark else 44 ∷ mark_text mark
 
--- the one text of what is keyed
+-- the only text of a keyed paper
 abbrev pub spelling : Keyed → List ℕ
 spelling Doubtful = codes "D"
 spelling (Marked marking) = join_with_byte 44 (map mark_text (marks_of marking))
 
--- a paper's own columns; a doubtful one may have any
+-- a paper has its own columns; a doubtful paper may have any
 abbrev pub HasColumns : Keyed → List ℕ → Type 0
 HasColumns Doubtful columns = Unit {0}
 HasColumns (Marked marking) columns = candidates_of marking ≡ columns
 
--- the text of what is keyed reads back as it
+-- the text of a keyed paper reads back as the same paper
 abbrev pub ReadsBack : Keyed → Type 0
 ReadsBack keyed = (columns : List ℕ) → HasColumns keyed columns → reading columns (spelling keyed) ≡ Ok keyed

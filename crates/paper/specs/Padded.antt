@@ -3,15 +3,15 @@ use Rattle.std.specs.Prelude.{ℕ, ◌+◌, ◌-◌, ◌*◌, ◌^◌, ◌==◌,
 use Rattle.std.specs.List.{before_first}
 use Rattle.paper.specs.Columns.{max_candidates}
 
--- the list that stands in an array of numbers, before the first 0
+-- the list that is stored in an array of numbers: those before the first 0
 abbrev pub listed : List ℕ → List ℕ
 listed numbers = before_first (λ n. n == 0) numbers
 
--- the array in which a list stands, with zeros behind it; the list has no more numbers than there can be candidates
+-- the array that stores a list, followed by zeros; the list has at most as many numbers as there can be candidates
 abbrev pub padded : List ℕ → List ℕ
 padded list = list ++ replicate (max_candidates - length list) 0
 
--- the number that bytes are, the first one the highest
+-- the number that bytes denote, most significant byte first
 abbrev pub number_of : List ℕ → ℕ
 number_of [] = 0
 number_of (x ∷ xs) = x * 256 ^ length xs + number_of xs

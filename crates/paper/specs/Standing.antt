@@ -1,14 +1,14 @@
--- Where candidates stand, and the next available preference.
+-- The status of each candidate, and the next available preference.
 use Rattle.std.specs.Prelude.{◌≡◌, ℕ, nat_eq, Bool, true, false, if◌then◌else◌, List, [], ◌∷◌, drop, slice_index_or, Option}
 use Rattle.std.specs.List.{list_any, find}
 use Rattle.paper.specs.declared.standing.CandidateStatus.{CandidateStatus}
 use Rattle.paper.specs.declared.standing.CandidateStatus.TheVariants.{Continuing, Elected, Excluded, Absent}
 
--- the status that a standing gives a number: the one at its place, and absent past the end
+-- the status of a number in a standing: the one at its place, and absent beyond the end
 abbrev pub status_of : List CandidateStatus → ℕ → CandidateStatus
 status_of standing c = slice_index_or standing c Absent
 
--- the status of a number by the sets of those who continue, who are elected, and who are excluded
+-- the status of a number, by the sets of continuing, elected and excluded candidates
 abbrev pub status_among : List ℕ → List ℕ → List ℕ → ℕ → CandidateStatus
 status_among continuing elected excluded c =
     if list_any (nat_eq c) continuing then Continuing else (
@@ -30,12 +30,12 @@ is_continuing_status Absent = false
 abbrev pub is_continuing : List CandidateStatus → ℕ → Bool
 is_continuing standing c = is_continuing_status (status_of standing c)
 
--- Transfer of ballot papers: the next available preference from a place on, the next in order for a continuing
--- candidate, preferences for others being passed over
+-- Transfer of ballot papers: the next available preference from a place on is the next in order for a continuing candidate,
+-- passing over preferences for others
 abbrev pub next_available_of : List ℕ → ℕ → List CandidateStatus → Option ℕ
 next_available_of prefs from standing = find (is_continuing standing) (drop from prefs)
 
--- a list from its first element on that passes a test
+-- a list from its first element that passes a test
 abbrev pub from_first : {X : Type 0} → (X → Bool) → List X → List X
 from_first test [] = []
 from_first test (x ∷ xs) = if test x then x ∷ xs else from_first test xs

@@ -1,18 +1,18 @@
-//! Sets of candidates' numbers.
+//! Sets of candidate numbers.
 
 ghost use Rattle.std.specs.Prelude.{◌≡◌, ℕ, ◌+◌, ◌<◌, ◌≤◌, [], ◌∷◌, ◌++◌, length, nat_eq, nat_lt};
 ghost use Rattle.std.specs.List.{list_any, prefix_len};
-ghost use Rattle.paper.specs.Columns.{max_candidates, IsColumnSet, with_column};
+ghost use Rattle.paper.specs.Columns.{max_candidates, IsCandidateSet, with_column};
 ghost use Rattle.paper.specs.Padded.{padded};
 
 use crate::padded::{list_in, padded_numbers};
 use std::marker::Model;
 
-/// The most candidates of a ward; their numbers are 1 to this one.
+/// The maximum number of candidates in a ward; candidates are numbered from 1 to this number.
 pub const MAX_CANDIDATES: usize = 30;
 
-/// A set of candidates' numbers, 1 to `MAX_CANDIDATES`, seen as the list of them in ascending order.
-// The numbers, and zeros behind them.
+/// A set of candidate numbers, 1 to `MAX_CANDIDATES`, modelled as the list of them in ascending order.
+// The numbers, followed by zeros.
 #[derive(Clone, Copy, Debug, PartialEq, Eq)]
 pub struct Columns {
     numbers: [u8; MAX_CANDIDATES],
@@ -20,14 +20,14 @@ pub struct Columns {
 
 impl Model for Columns {
     ghost use Rattle.std.specs.Prelude.{◌≡◌, List, ℕ};
-    ghost use Rattle.paper.specs.Columns.{IsColumnSet};
+    ghost use Rattle.paper.specs.Columns.{IsCandidateSet};
     ghost use Rattle.paper.specs.Padded.{listed, padded};
 
     ghost Value = { List ℕ };
 
     ghost view = { λ a. listed a.numbers };
 
-    ghost invariant = { λ a. (padded (listed a.numbers) ≡ a.numbers) × IsColumnSet (listed a.numbers) };
+    ghost invariant = { λ a. (padded (listed a.numbers) ≡ a.numbers) × IsCandidateSet (listed a.numbers) };
 
     ghost inverse = { λ d. record { numbers = padded d } };
 
@@ -35,7 +35,7 @@ impl Model for Columns {
 }
 
 impl Columns {
-    /// The set of no number.
+    /// Returns the empty set.
     pub fn empty() -> Columns
         ensures { result ≡ [] }
     {
@@ -44,14 +44,14 @@ impl Columns {
         }
     }
 
-    /// The set with a number of 1 to `MAX_CANDIDATES` more.
+    /// Returns the set with one more number, 1 to `MAX_CANDIDATES`.
     pub fn with(self, c: u8) -> Columns
         requires some { 1 ≤ c }
         requires few { c ≤ max_candidates }
         ensures is { result ≡ with_column self c }
-        ensures set { IsColumnSet result }
-        // a number above all others comes last
-        ensures last { IsColumnSet (self ++ c ∷ []) → result ≡ self ++ c ∷ [] }
+        ensures set { IsCandidateSet result }
+        // a number above all others is appended
+        ensures last { IsCandidateSet (self ++ c ∷ []) → result ≡ self ++ c ∷ [] }
     {
         let list = self.as_slice();
         if self.has(c) {
@@ -63,7 +63,7 @@ impl Columns {
         }
     }
 
-    /// How many numbers of the set are below a number.
+    /// Returns how many numbers of the set are below a number.
     fn count_below(&self, c: u8) -> usize
         ensures is { result ≡ prefix_len (λ d. nat_lt d c) self.now }
         ensures within { result ≤ length self.now }
@@ -71,14 +71,14 @@ impl Columns {
         self.as_slice().iter().take_while(|d| **d < c).count()
     }
 
-    /// Whether the set has a number.
+    /// Returns whether the set contains a number.
     pub fn has(&self, c: u8) -> bool
         ensures is { result ≡ list_any (nat_eq c) self.now }
     {
         self.as_slice().contains(&c)
     }
 
-    /// How many numbers the set has, at most `MAX_CANDIDATES`.
+    /// Returns the size of the set, at most `MAX_CANDIDATES`.
     pub fn len(&self) -> usize
         ensures is { result ≡ length self.now }
         ensures few { result ≤ max_candidates }
@@ -86,16 +86,16 @@ impl Columns {
         self.as_slice().len()
     }
 
-    /// The numbers in ascending order.
+    /// Returns the numbers in ascending order.
     pub fn as_slice(&self) -> &[u8]
         ensures is { result.now ≡ self.now }
-        ensures set { IsColumnSet self.now }
+        ensures set { IsCandidateSet self.now }
     {
         list_in(&self.numbers)
     }
 }
 
-/// The array of a list, a number behind it, and another list.
+/// Returns the array of a list, followed by a number and another list.
 fn inserted(below: &[u8], c: u8, above: &[u8]) -> [u8; MAX_CANDIDATES]
     requires { length below.now + length above.now < max_candidates }
     ensures { result ≡ padded (below.now ++ c ∷ above.now) }

@@ -1,21 +1,21 @@
-//! Numbers that are written plainly.
+//! Numbers in plain digits.
 
 ghost use Rattle.std.specs.Prelude.{◌≡◌};
 ghost use Rattle.std.specs.Char.{is_ascii_digit};
 ghost use Rattle.std.specs.List.{list_all};
 ghost use Rattle.paper.specs.Digits.{plain_number_in};
 
-/// The most digits of a number.
+/// The maximum number of digits.
 const MOST_DIGITS: usize = 5;
 
-/// Whether bytes are digits alone.
+/// Returns whether all bytes are digits.
 pub fn are_digits(text: &[u8]) -> bool
     ensures { result ≡ list_all is_ascii_digit text.now }
 {
     text.iter().all(|b| b.is_ascii_digit())
 }
 
-/// The number that a text writes in 1 to 5 digits, the first not 0.
+/// Parses a number of 1 to 5 digits, the first not 0.
 pub fn plain_number_in(text: &str) -> Option<u32>
     ensures { result ≡ plain_number_in text.now }
 {

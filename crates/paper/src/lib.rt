@@ -1,31 +1,31 @@
-//! Ballot papers: what a clerk keyed of one, its preferences, and whether it is valid.
+//! Ballot papers: what a clerk keyed from one, its preferences, and whether it is valid.
 //!
-//! [`Marks::read`] gives what is [`Keyed`] by a text, or the exact [`MarkFault`], and
-//! [`Keyed::text`] gives the text back. [`judge`] finds the preferences of a [`Marked`] paper, or why
-//! it is rejected. [`Columns`] is a set of candidates' numbers, walked in ascending order;
-//! a [`Standing`] gives each number a [`CandidateStatus`], by which [`next_available`] passes over preferences.
+//! [`Marks::read`] parses the text of a [`Keyed`] paper, or returns the exact [`MarkFault`]; [`Keyed::text`] converts the paper back
+//! to its text. [`judge`] returns the preferences of a [`Marked`] paper, or the reason for its rejection. [`Columns`] is a set of
+//! candidate numbers, iterated in ascending order. A [`Standing`] maps each number to a [`CandidateStatus`], by which
+//! [`next_available`] passes over preferences.
 //!
 //! ```text
 //! let columns = Columns::empty().with(1).with(2).with(3);
 //! if let Keyed::Marked(marked) = Marks::read(b"2,1,3", columns)? {
 //!     let prefs = judge(&marked)?;                        // 2, 1, 3
-//!     next_available(prefs.as_slice(), 1, &standing);     // Some(1), where 1 continues
+//!     next_available(prefs.as_slice(), 1, &standing);     // Some(1), if 1 continues
 //! }
 //! ```
 #![tactic(auto)]
 
-// candidates' numbers, in sets and in arrays
+// candidate numbers, in sets and in arrays
 mod columns;
 mod padded;
 // what a clerk keyed, and its text
 mod marked;
 mod marks;
-// the preferences of a paper, or why it is rejected
+// the preferences of a paper, or the reason for its rejection
 mod prefs;
 mod validity;
-// where candidates stand, and the next available preference
+// the status of each candidate, and the next available preference
 mod standing;
-// numbers in digits, as files and paths have them
+// numbers in digits, as in files and paths
 mod digits;
 
 pub use columns::{Columns, MAX_CANDIDATES};

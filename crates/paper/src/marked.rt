@@ -1,4 +1,4 @@
-//! What a clerk keyed of a ballot paper, and its text.
+//! What a clerk keyed from a ballot paper, and its text.
 
 ghost use Rattle.std.specs.Prelude.{◌≡◌, ℕ, ◌+◌, ◌≤◌, ◌++◌, length, IfOk, OnOk, string_bytes};
 ghost use Rattle.std.specs.List.{zip};
@@ -12,11 +12,11 @@ use std::alloc::{AllocError, Global};
 use std::fmt::Write;
 use std::marker::Model;
 
-/// The numbers to look for beside candidates: 0, and one for each preference.
+/// The number of marks to look for: 0, and one for each preference.
 pub(crate) const NUMBERS: usize = MAX_CANDIDATES + 1;
 
-/// The marks on a ballot paper: each candidate's number, and beside it the number in the field for him, 1 to 99, or 0 where that
-/// field is empty. They stand in ascending order of the candidates.
+/// The marks on a ballot paper: each candidate's number with the mark in the candidate's field, 1 to 99, or 0 if the field is
+/// empty. In ascending order of the candidates.
 #[derive(Clone, Copy, Debug, PartialEq, Eq)]
 pub struct Marked {
     columns: Columns,
@@ -42,7 +42,7 @@ impl Model for Marked {
     ghost inverse_ok = { λ a h. Prim.rw (h.0, h.1) };
 }
 
-/// What a clerk keyed of a ballot paper.
+/// A ballot paper as keyed by a clerk.
 #[derive(Clone, Copy, Debug, PartialEq, Eq)]
 pub enum Keyed {
     /// The clerk leaves the paper to the returning officer.
@@ -51,7 +51,7 @@ pub enum Keyed {
 }
 
 impl Keyed {
-    /// The one text that is read as what was keyed, or want of memory.
+    /// Returns the only text that parses to this paper; `AllocError` if an allocation fails.
     pub fn text(&self, alloc: Global) -> Result<String, AllocError>
         ensures is { IfOk result (λ text. string_bytes text ≡ spelling self.now) }
         ensures reads_back { ReadsBack self.now }
@@ -64,7 +64,7 @@ impl Keyed {
 }
 
 impl Marked {
-    /// The fields of the columns in their order, parted by commas.
+    /// Returns the fields of the columns in order, separated by commas; `AllocError` if an allocation fails.
     fn text(&self, alloc: Global) -> Result<String, AllocError>
         ensures is { IfOk result (λ text. string_bytes text ≡ spelling (Keyed.Marked self.now)) }
         ensures marking { IsMarking self.now }
@@ -76,7 +76,7 @@ impl Marked {
         Ok(text)
     }
 
-    /// The marks of some columns, in their order.
+    /// Returns the marks of these columns, in order.
     pub(crate) fn new(columns: Columns, marks: [u8; MAX_CANDIDATES]) -> Marked
         requires columns { candidates_of (zip columns marks) ≡ columns }
         requires marks { padded (marks_of (zip columns marks)) ≡ marks }
@@ -86,7 +86,7 @@ impl Marked {
         Marked { columns, marks }
     }
 
-    /// Who has each number beside him, from 0 to the most that a preference can have.
+    /// Returns, for each mark from 0 to the highest that a preference can have, the candidates who bear it.
     pub(crate) fn bearers(&self) -> [Bearers; NUMBERS]
         ensures is { AreBearers self.now result }
         ensures marking { IsMarking self.now }
@@ -102,7 +102,7 @@ impl Marked {
     }
 }
 
-/// Puts a field to the end of a text, with a comma in front of every field but the first.
+/// Appends a field to a text, with a comma before every field but the first.
 fn push_field(text: &mut String, i: usize, mark: u8) -> Result<(), AllocError>
     ensures { OnOk result (string_bytes text.new ≡ string_bytes text.old ++ field_text i mark) }
 {
@@ -115,7 +115,7 @@ fn push_field(text: &mut String, i: usize, mark: u8) -> Result<(), AllocError>
     Ok(())
 }
 
-/// The candidates beside whom one number stands.
+/// The candidates who bear one mark.
 #[derive(Clone, Copy, PartialEq, Eq)]
 pub(crate) enum Bearers {
     Nobody,
@@ -124,7 +124,7 @@ pub(crate) enum Bearers {
 }
 
 impl Bearers {
-    /// The same with one candidate more.
+    /// Returns the bearers after adding one candidate.
     fn and(self, c: u8) -> Bearers
         ensures { result ≡ one_more self c }
     {

@@ -11,7 +11,7 @@ use crate::columns::{Columns, MAX_CANDIDATES};
 use crate::marked::{Keyed, Marked};
 use thiserror::Error;
 
-/// What is wrong with a marks text.
+/// The reason why a marks text is invalid.
 #[derive(Clone, Copy, Debug, PartialEq, Eq, Error)]
 pub enum MarkFault {
     #[error("wrong number of fields")]
@@ -23,7 +23,7 @@ pub enum MarkFault {
 }
 
 impl MarkFault {
-    /// The number of a fault: 1 a wrong number of fields, 2 a field that isn't empty and isn't a number without a leading zero, 3 a number over 99.
+    /// Returns the fault number: 1 wrong number of fields, 2 a field neither empty nor a number without leading zero, 3 above 99.
     pub fn number(&self) -> u32
         ensures { result ≡ fault_number self.now }
     {
@@ -35,18 +35,18 @@ impl MarkFault {
     }
 }
 
-/// The texts by which clerks key the marks on ballot papers.
+/// The texts in which clerks key the marks on ballot papers.
 pub struct Marks;
 
 impl Marks {
-    /// What is keyed by a text of a paper with some columns.
+    /// Parses the marks text of a paper with these columns.
     ///
-    /// The text is the letter `D` for a doubtful paper. Else it has one field for each column in ascending order, parted by
-    /// commas; a field is empty or a number 1 to 99 without a leading zero. A wrong number of fields comes first among the
-    /// faults, else the fault of the leftmost faulty field. Takes no memory.
+    /// The text is the letter `D` for a doubtful paper. Otherwise it has one field for each column in ascending order, separated by
+    /// commas; a field is empty or a number from 1 to 99 without a leading zero. A wrong number of fields is reported first,
+    /// otherwise the fault of the leftmost invalid field. Allocates nothing.
     pub fn read(text: &[u8], columns: Columns) -> Result<Keyed, MarkFault>
         ensures is { result ≡ reading columns text.now }
-        // each keyed paper has one spelling
+        // each keyed paper has exactly one spelling
         ensures spelled { IfOk result (λ keyed. spelling keyed ≡ text.now) }
     {
         if text == b"D".as_slice() {
@@ -61,7 +61,7 @@ impl Marks {
     }
 }
 
-/// How many fields a text has.
+/// Returns how many fields a text has.
 #[tactic(auto, using(crate::proofs::Fields::field_counts))]
 fn count_fields(text: &[u8]) -> usize
     ensures { result ≡ length (fields text.now) }
@@ -76,7 +76,7 @@ fn count_commas(text: &[u8]) -> usize
     text.iter().filter(|b| **b == b',').count()
 }
 
-/// Reads the fields of a text into the front of an array.
+/// Reads the fields of a text into the front of an array; the error is the fault of the leftmost invalid field.
 fn read_fields(text: &[u8], count: usize) -> Result<[u8; MAX_CANDIDATES], MarkFault>
     requires all { length (fields text.now) ≡ count }
     requires few { count ≤ max_candidates }
@@ -94,7 +94,7 @@ fn read_fields(text: &[u8], count: usize) -> Result<[u8; MAX_CANDIDATES], MarkFa
     Ok(marks)
 }
 
-/// The first field of a text, and what stands behind its comma.
+/// Returns the first field of a text, and the rest after its comma.
 fn split_field(text: &[u8]) -> (&[u8], &[u8])
     ensures field { result.0.now ≡ before_first (λ b. b == 44) text.now }
     ensures behind { result.1.now ≡ after_first (λ b. b == 44) text.now }
@@ -106,7 +106,7 @@ fn split_field(text: &[u8]) -> (&[u8], &[u8])
     (&text[..end], &text[end + 1..])
 }
 
-/// How many bytes stand before the first comma.
+/// Returns how many bytes precede the first comma.
 fn field_len(text: &[u8]) -> usize
     ensures is { result ≡ position_or_len (λ b. b == 44) text.now }
     ensures within { result ≤ length text.now }
@@ -114,7 +114,7 @@ fn field_len(text: &[u8]) -> usize
     text.iter().take_while(|b| **b != b',').count()
 }
 
-/// The mark in a field, 0 where it is empty.
+/// Parses the mark in a field: 0 if it is empty.
 fn read_field(field: &[u8]) -> Result<u8, MarkFault>
     ensures is { result ≡ mark_in field.now }
     ensures small { IfOk result (λ mark. mark ≤ 99) }

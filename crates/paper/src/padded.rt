@@ -1,4 +1,4 @@
-//! Lists of at most `MAX_CANDIDATES` numbers in arrays: the list, and zeros behind it.
+//! Lists of at most `MAX_CANDIDATES` numbers in arrays: the list, followed by zeros.
 
 ghost use Rattle.std.specs.Prelude.{◌≡◌, ◌≤◌, length, take};
 ghost use Rattle.std.specs.Cmp.Lexicographic.{slice_cmp};
@@ -9,7 +9,7 @@ ghost use Rattle.paper.specs.Padded.{listed, padded, number_of};
 use crate::columns::MAX_CANDIDATES;
 use std::cmp::Ordering;
 
-/// The list that stands in an array.
+/// Returns the list that is stored in an array.
 #[tactic(auto, using(crate::proofs::PaddedLists::listed_by_length))]
 pub fn list_in(numbers: &[u8; MAX_CANDIDATES]) -> &[u8]
     ensures { result.now ≡ listed numbers.now }
@@ -17,7 +17,7 @@ pub fn list_in(numbers: &[u8; MAX_CANDIDATES]) -> &[u8]
     &numbers[..list_len(numbers)]
 }
 
-/// How many numbers stand before the first 0.
+/// Returns how many numbers precede the first 0.
 #[tactic(auto, using(crate::proofs::PaddedLists::listed_by_length))]
 fn list_len(numbers: &[u8; MAX_CANDIDATES]) -> usize
     ensures is { result ≡ length (listed numbers.now) }
@@ -26,7 +26,7 @@ fn list_len(numbers: &[u8; MAX_CANDIDATES]) -> usize
     numbers.iter().take_while(|n| **n != 0).count()
 }
 
-/// The array that a list stands in.
+/// Returns the array that stores a list.
 pub fn padded_numbers(list: &[u8]) -> [u8; MAX_CANDIDATES]
     requires { length list.now ≤ max_candidates }
     ensures { result ≡ padded list.now }
@@ -36,7 +36,7 @@ pub fn padded_numbers(list: &[u8]) -> [u8; MAX_CANDIDATES]
     numbers
 }
 
-/// The first eight numbers of an array as one, in whose order they stand.
+/// Returns the first eight numbers of an array as one integer that sorts as they do.
 fn beginning(numbers: &[u8; MAX_CANDIDATES]) -> u64
     ensures { result ≡ number_of (take 8 numbers.now) }
 {
@@ -46,7 +46,7 @@ fn beginning(numbers: &[u8; MAX_CANDIDATES]) -> u64
     ])
 }
 
-/// The order of two arrays. Mostly their first eight numbers decide, which are compared at once.
+/// Compares two arrays. Usually their first eight numbers decide, which are compared in one step.
 pub fn padded_cmp(numbers: &[u8; MAX_CANDIDATES], others: &[u8; MAX_CANDIDATES]) -> Ordering
     ensures { result ≡ slice_cmp nat_cmp numbers.now others.now }
 {

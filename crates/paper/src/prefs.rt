@@ -13,11 +13,10 @@ use crate::padded::{list_in, padded_cmp, padded_numbers};
 use std::cmp::Ordering;
 use std::marker::Model;
 
-/// The preferences of a valid ballot paper, seen as the list of its candidates' numbers, each once,
-/// the first preference first. In their order the first number that differs decides, and a list
-/// stands before those that it begins.
-// One byte a candidate: the numbers, and zeros behind them in place of a length.
-// No value that is Copy and lends so many numbers as a slice has fewer bytes.
+/// The preferences of a valid ballot paper, modelled as the list of the candidates' numbers without duplicates, first preference
+/// first. Ordered lexicographically: the first number that differs decides, and a prefix precedes the lists that it begins.
+// One byte per candidate: the numbers, followed by zeros instead of a length.
+// No `Copy` type that can lend this many numbers as a slice has fewer bytes.
 #[derive(Clone, Copy, Debug)]
 pub struct Prefs {
     numbers: [u8; MAX_CANDIDATES],
@@ -40,8 +39,8 @@ impl Model for Prefs {
 }
 
 impl Prefs {
-    /// The preferences of a list; `None` exactly where it is empty, or has a number outside 1 to
-    /// `MAX_CANDIDATES` or one twice.
+    /// Returns the preferences in a list; `None` exactly if it is empty, contains a number outside 1 to `MAX_CANDIDATES`, or
+    /// contains a number twice.
     #[tactic(auto, using(crate::proofs::Rankings::rankings))]
     pub fn from_slice(list: &[u8]) -> Option<Prefs>
         ensures is { IfSome result (λ prefs. prefs ≡ list.now) }
@@ -55,7 +54,7 @@ impl Prefs {
         })
     }
 
-    /// The preferences that stand in an array, with zeros behind them.
+    /// Returns the preferences that are stored in an array, followed by zeros.
     pub(crate) fn from_ranking(numbers: [u8; MAX_CANDIDATES]) -> Prefs
         requires whole { padded (listed numbers) ≡ numbers }
         requires some { 1 ≤ length (listed numbers) }
@@ -65,7 +64,7 @@ impl Prefs {
         Prefs { numbers }
     }
 
-    /// The first preference.
+    /// Returns the first preference.
     pub fn first(&self) -> u8
         ensures is { result ≡ slice_index self.now 0 }
         ensures some { 1 ≤ length self.now }
@@ -74,7 +73,7 @@ impl Prefs {
         self.numbers[0]
     }
 
-    /// The candidates' numbers, the first preference first.
+    /// Returns the candidates' numbers, first preference first.
     pub fn as_slice(&self) -> &[u8]
         ensures is { result.now ≡ self.now }
         ensures some { 1 ≤ length self.now }
@@ -117,13 +116,13 @@ impl Ord for Prefs {
 
     ghost matches_eq = { texts_ties };
 
-    // The arrays stand in the order of their lists, since no candidate has the number 0; so no list's end is looked for.
+    // The arrays sort as their lists do, because no candidate has the number 0; so there is no need to find where a list ends.
     fn cmp(&self, other: &Prefs) -> Ordering {
         padded_cmp(&self.numbers, &other.numbers)
     }
 }
 
-/// Whether a list has numbers 1 to `MAX_CANDIDATES`, none of them twice.
+/// Returns whether a list consists of numbers from 1 to `MAX_CANDIDATES` without duplicates.
 #[tactic(auto, using(crate::proofs::Rankings::rankings))]
 fn is_ranking(list: &[u8]) -> bool
     ensures is { IsTrue result ↔ IsRanking list.now }

@@ -1,4 +1,4 @@
-//! Where each candidate stands in a count, and the next available preference.
+//! The status of each candidate during a count, and the next available preference.
 
 ghost use Rattle.std.specs.Prelude.{◌≡◌, ℕ, ◌+◌, ◌<◌, ◌≤◌, nat_eq, not, if◌then◌else◌, slice_index_or, drop, length, IsTrue};
 ghost use Rattle.std.specs.List.{list_any, prefix_len};
@@ -8,21 +8,21 @@ ghost use Rattle.paper.specs.Standing.{status_of, status_among, AreApart, is_con
 use crate::columns::{Columns, MAX_CANDIDATES};
 use std::marker::Model;
 
-/// Where the bearer of a number stands.
+/// The status of a candidate number.
 #[derive(Clone, Copy, PartialEq, Eq)]
 pub enum CandidateStatus {
     /// Neither elected nor excluded.
     Continuing,
     Elected,
     Excluded,
-    /// No candidate has the number.
+    /// No candidate has this number.
     Absent,
 }
 
-/// The numbers that have a place: 0, and those of candidates.
+/// The numbers that have a status: 0, and those of candidates.
 const NUMBERS: usize = MAX_CANDIDATES + 1;
 
-/// A status for each number 1 to `MAX_CANDIDATES`, seen as the list of them from number 0 on; any other number is
+/// A status for each number from 1 to `MAX_CANDIDATES`, modelled as the list of statuses from number 0 on. Any other number is
 /// absent.
 #[derive(Clone, Copy, PartialEq, Eq)]
 pub struct Standing {
@@ -47,8 +47,7 @@ impl Model for Standing {
 }
 
 impl Standing {
-    /// The standing of those who continue, who are elected, and who are excluded, no number being in
-    /// two of these.
+    /// Returns the standing with these continuing, elected and excluded candidates. No number may be in two of the sets.
     pub fn new(continuing: Columns, elected: Columns, excluded: Columns) -> Standing
         requires elected_apart { AreApart continuing elected }
         requires excluded_apart { AreApart continuing excluded }
@@ -63,7 +62,7 @@ impl Standing {
         Standing { statuses }
     }
 
-    /// The status of a number.
+    /// Returns the status of a number.
     pub fn status(&self, c: u8) -> CandidateStatus
         ensures is { result ≡ status_of self.now c }
         ensures other { ¬ IsColumn c → result ≡ CandidateStatus.Absent }
@@ -74,7 +73,7 @@ impl Standing {
         }
     }
 
-    /// Whether a number is that of a continuing candidate.
+    /// Returns whether a number is that of a continuing candidate.
     pub fn continues(&self, c: u8) -> bool
         ensures is { result ≡ is_continuing self.now c }
         ensures known { IsTrue result → IsColumn c }
@@ -88,7 +87,7 @@ impl Standing {
     }
 }
 
-/// Gives a status to each number of a set.
+/// Sets the status of each number in a set.
 fn give(statuses: &mut [CandidateStatus; NUMBERS], numbers: &Columns, status: CandidateStatus)
     ensures each { (c : ℕ) → status_of statuses.new c ≡ (if list_any (nat_eq c) numbers.now then status else status_of statuses.old c) }
     ensures none { status_of statuses.new 0 ≡ status_of statuses.old 0 }
@@ -98,15 +97,15 @@ fn give(statuses: &mut [CandidateStatus; NUMBERS], numbers: &Columns, status: Ca
     }
 }
 
-/// The next available preference ("Transfer of ballot papers"): the first from place `from` on,
-/// counted from 0, that is for a continuing candidate.
+/// Returns the next available preference ("Transfer of ballot papers"): the first one for a continuing candidate, starting at
+/// place `from`, counted from 0.
 pub fn next_available(prefs: &[u8], from: usize, standing: &Standing) -> Option<u8>
     ensures { result ≡ next_available_of prefs.now from standing.now }
 {
     available_from(prefs, from, standing).first().copied()
 }
 
-/// The preferences from the next available one on; none where there is no such.
+/// Returns the preferences from the next available one on; empty if there is none.
 pub fn available_from<'a>(prefs: &'a [u8], from: usize, standing: &Standing) -> &'a [u8]
     ensures { result.now ≡ from_first (is_continuing standing.now) (drop from prefs.now) }
 {
@@ -114,7 +113,7 @@ pub fn available_from<'a>(prefs: &'a [u8], from: usize, standing: &Standing) -> 
     &rest[count_passed(rest, standing)..]
 }
 
-/// How many preferences are passed over before the first for a continuing candidate.
+/// Returns how many preferences are passed over before the first one for a continuing candidate.
 fn count_passed(prefs: &[u8], standing: &Standing) -> usize
     ensures is { result ≡ prefix_len (λ c. not (is_continuing standing.now c)) prefs.now }
     ensures within { result ≤ length prefs.now }

@@ -12,7 +12,7 @@ use crate::marked::{Bearers, Marked, NUMBERS};
 use crate::prefs::Prefs;
 use thiserror::Error;
 
-/// Why a ballot paper is rejected.
+/// The reason for rejecting a ballot paper.
 #[derive(Clone, Copy, Debug, PartialEq, Eq, Error)]
 pub enum Rejection {
     #[error("no first preference")]
@@ -28,7 +28,7 @@ pub enum Rejection {
 }
 
 impl Rejection {
-    /// The code of a rejection: 1 and 2 are judged by the marks, 3 to 5 by the returning officer.
+    /// Returns the code of the rejection. Codes 1 and 2 follow from the marks; 3 to 5 are decisions of the returning officer.
     pub fn number(&self) -> u32
         ensures { result ≡ rejection_code self.now }
     {
@@ -42,11 +42,11 @@ impl Rejection {
     }
 }
 
-/// The preferences of a paper by its marks: the longest list in which 1, 2, 3, .. each stand beside
-/// exactly one candidate.
+/// Returns the preferences of a paper, by its marks: the longest list such that 1, 2, 3, .. each appear next to exactly one
+/// candidate.
 ///
-/// A paper is valid exactly if the number 1 stands beside exactly one candidate, and is rejected with
-/// `NoFirstPreference` if beside none, with `SeveralFirstPreferences` if beside more. Takes no memory.
+/// A paper is valid exactly if the number 1 appears next to exactly one candidate. It is rejected with `NoFirstPreference` if
+/// next to none, and with `SeveralFirstPreferences` if next to more than one. Allocates nothing.
 pub fn judge(m: &Marked) -> Result<Prefs, Rejection>
     ensures rejected { IfSome (rejection_of m.now) (λ rejection. result ≡ Err rejection) }
     ensures valid { IfNone (rejection_of m.now) (IsOk result) }
@@ -62,8 +62,7 @@ pub fn judge(m: &Marked) -> Result<Prefs, Rejection>
     }
 }
 
-/// The preferences of a paper by those who have each number beside them, in an array with zeros behind
-/// them.
+/// Returns the preferences of a paper, by the bearers of each mark, in an array followed by zeros.
 fn preferred(bearers: &[Bearers; NUMBERS]) -> [u8; MAX_CANDIDATES]
     ensures { (m : Marking) → AreBearers m bearers.now → result ≡ padded (preferences m) }
 {

@@ -1,4 +1,4 @@
--- A stage more of a ward's count: with what it adds, the tabulation before it is the one after it.
+-- One more stage of a ward's count: the old tabulation and what the stage adds make up the new tabulation.
 use Rattle.std.proofs.Common.{◌≡◌, ℕ, suc, ◌+◌, ◌==◌, true, false, cond, not, List, [], ◌∷◌, ◌++◌, length, map, Some, refl, sym, ap, subst, ◌∙◌, append_assoc, arith}
 use Rattle.std.specs.List.{flat_map}
 use Rattle.std.specs.List.Sorted.{IsPermutation}
@@ -16,7 +16,7 @@ use Rattle.register.specs.Offices.{WardEntry, OfficeState, ward_at}
 use Rattle.register.specs.Marks.{columns_of}
 use Rattle.register.specs.Effects.{at_stage, stage_counted, with_effect}
 use Rattle.register.specs.Elections.{ElectionEntry, election_of, has_count, contest_of, stages_of}
-use Rattle.register.specs.Items.{IsState}
+use Rattle.register.specs.StateConditions.{IsState}
 use Rattle.register.specs.Tabulated.{PlacedEntry, FigureEntry, has_stages, bundles_in, figures_to, figures_in, tabulation_of, with_addition, SameTabulation, placed_after}
 use Rattle.register.specs.Additions.{moved_between, figures_added, addition_by, addition_at}
 use Rattle.register.proofs.SplitLemmas.{are_others, IsSplit, changed_split, flat_split}
@@ -26,7 +26,7 @@ use Rattle.register.proofs.TabulationLemmas.{bundles_of_count, told_by, wards_sp
 use Rattle.register.proofs.CountLemmas.{IsStageDue}
 use Rattle.register.proofs.MovedLemmas.{bundled-rise, all_moved, moved-append, of_others, of_ward, others_stay, of_it, of_no_other, moved_there}
 
--- ---- what is new, put first or put where it belongs
+-- ---- new entries, put first or in their proper place
 
 pub put_between : {X : Type 0} (new front own back : List X) → IsPermutation (new ++ (front ++ (own ++ back))) (front ++ ((own ++ new) ++ back))
 put_between {X} new front own back =
@@ -52,12 +52,12 @@ module _ (e : ElectionEntry) (held : has_count e ≡ true) (done : length (stage
   bundles_done : (s : Stage) (before : History) → stages_of e ≡ s ∷ before → bundles_in e ≡ map (placed_after e (s ∷ before)) (bundled e.ballots.papers)
   bundles_done s before is = rw (some_done s before is) (ap (λ (stages : History). map (placed_after e stages) (bundled e.ballots.papers)) is)
 
-  -- and the figures of these, of which there may be none
+  -- and their figures, of which there may be none
   figures_done : (stages : History) → stages_of e ≡ stages → figures_in e ≡ figures_to e.ward.number (columns_of e.candidates) stages
   figures_done [] is = rw (none_done is) refl
   figures_done (s ∷ before) is = rw (some_done s before is) (ap (figures_to e.ward.number (columns_of e.candidates)) is)
 
--- ---- a stage more
+-- ---- one more stage
 
 module _ (s : OfficeState) (n : ℕ) (w : WardEntry) (is : IsState s) (found : ward_at s n ≡ Some w) where
   abbrev own : ElectionEntry
@@ -66,7 +66,7 @@ module _ (s : OfficeState) (n : ℕ) (w : WardEntry) (is : IsState s) (found : w
   split : IsSplit (λ (x : WardEntry). x.number) n w s.wards
   split = wards_split s n w is found
 
-  -- what is told of the wards before it, and of those behind it
+  -- the entries of the wards before it, and of those after it
   front_of : {X : Type 0} → (ElectionEntry → List X) → List X
   front_of told = flat_map (λ (x : WardEntry). told (election_of s x)) split.front
 
@@ -84,7 +84,7 @@ module _ (s : OfficeState) (n : ℕ) (w : WardEntry) (is : IsState s) (found : w
       ap (flat_map h) (changed_split (λ (x : WardEntry). x.number) n (at_stage done) w s.wards split)
       ∙ flat_map-append h split.front (at_stage done w ∷ split.back)
 
-  -- ---- bundles of the wards beside it
+  -- ---- bundles of the other wards
 
   of_one : (x : WardEntry) → (n == x.number) ≡ false → of_others w.number (bundles_in (election_of s x)) ≡ true
   of_one x other =
@@ -102,7 +102,7 @@ module _ (s : OfficeState) (n : ℕ) (w : WardEntry) (is : IsState s) (found : w
       list_all-append (λ (b : PlacedEntry). not (w.number == b.ward)) (bundles_in (election_of s x)) (flat_map (λ (y : WardEntry). bundles_in (election_of s y)) xs)
       ∙ and_from _ _ (of_one x (not-true (n == x.number) parts.0)) (of_some xs parts.1)
 
-  -- bundles of it that are moved leave those
+  -- moving bundles of this ward leaves those as they are
   front_stays : (ms : List PlacedEntry) → of_ward w.number ms ≡ true → all_moved (front_of bundles_in) ms ≡ front_of bundles_in
   unfolding front_of
   front_stays ms moved = others_stay w.number ms (front_of bundles_in) moved (of_some split.front split.before)
@@ -111,7 +111,7 @@ module _ (s : OfficeState) (n : ℕ) (w : WardEntry) (is : IsState s) (found : w
   unfolding back_of
   back_stays ms moved = others_stay w.number ms (back_of bundles_in) moved (of_some split.back split.behind)
 
-  -- ---- the stage that is due
+  -- ---- the stage due
 
   module _ (action : Action) (due : IsStageDue s n w action) where
     abbrev new : Stage
@@ -140,7 +140,7 @@ module _ (s : OfficeState) (n : ℕ) (w : WardEntry) (is : IsState s) (found : w
         ∙ ap (λ (fs : List FigureEntry). front_of figures_in ++ (fs ++ back_of figures_in))
         (figures_done (at_stage_of (w.done + 1) own) due.contested long (new ∷ before) (added ∙ ap (λ (h : History). new ∷ h) same))
 
-    -- its figures come to those that were there,
+    -- its figures are added to those that were there,
     figures_come : (before : History) → stages_of own ≡ before → IsPermutation (figures_added own before new ++ told_by figures_in s) (told_by figures_in later)
     figures_come before same =
         let was : told_by figures_in s ≡ front_of figures_in ++ (figures_to w.number (columns_of own.candidates) before ++ back_of figures_in) =
@@ -148,7 +148,7 @@ module _ (s : OfficeState) (n : ℕ) (w : WardEntry) (is : IsState s) (found : w
         in
         rw (was, figures_after before same) (put_between (figures_added own before new) (front_of figures_in) (figures_to w.number (columns_of own.candidates) before) (back_of figures_in))
 
-    -- at the first stage all bundles come,
+    -- at the first stage all bundles are added,
     bundles_come : stages_of own ≡ [] → IsPermutation (map (placed_after own (new ∷ [])) (bundled own.ballots.papers) ++ told_by bundles_in s) (told_by bundles_in later)
     bundles_come none =
         let was : told_by bundles_in s ≡ front_of bundles_in ++ ([] ++ back_of bundles_in) =
@@ -175,7 +175,7 @@ module _ (s : OfficeState) (n : ℕ) (w : WardEntry) (is : IsState s) (found : w
         ∙ ap (λ (xs : List PlacedEntry). map (placed_after own (new ∷ r ∷ before)) (bundled own.ballots.papers) ++ xs) (back_stays ms moved))
         ∙ sym (bundles_after (r ∷ before) same)
 
-    -- With what the stage adds, the tabulation is that of the state after it.
+    -- With what the stage adds, the tabulation is that of the next state.
     pub stage_tabulated : SameTabulation (with_addition (addition_at own action) (tabulation_of s)) (tabulation_of later)
     unfolding tabulation_of
     stage_tabulated = go (stages_of own) refl

@@ -1,4 +1,4 @@
--- The commands about batches, where nothing stands against them, lead from a state to a state, and leave a receipt in range.
+-- Commands about batches without objections lead from a state to a state, and leave a receipt in range.
 use Rattle.std.proofs.Common.{rules, inl, inr, ◌≡◌, ℕ, suc, Bool, true, false, cond, not, ◌&&◌, ◌||◌, ◌==◌, ◌++◌, nat_le, codes, List, [], Option, Some, None, is_some, option_map, refl, sym}
 use Rattle.std.proofs.Common.{ap, subst, ◌∙◌, arith}
 use Rattle.std.specs.Fmt.{decimal}
@@ -19,12 +19,12 @@ use Rattle.register.specs.Subjects.{is_office_subject}
 use Rattle.register.specs.Offices.{WardEntry, BatchEntry, ThirdEntry, KeyedEntry, JudgedEntry, OfficeState, changed, batch_cmp, third_cmp, ward_compared, batch_compared, third_compared}
 use Rattle.register.specs.Offices.{ward_at, candidates_of, batch_at, third_at, keying_of, verdicts_of}
 use Rattle.register.specs.Nominations.{are_enough}
-use Rattle.register.specs.Papers.{are_taken, differ, is_taken, is_its_clerk, two_clerks, clerks, clerks_of, keyings_in, keyings_now}
+use Rattle.register.specs.Agreement.{are_taken, differ, is_taken, is_its_clerk, two_clerks, clerks, clerks_of, keyings_in, keyings_now}
 use Rattle.register.specs.Marks.{is_readable}
-use Rattle.register.specs.Keyed.{columns_for, is_polled, is_given_out, is_third_for, is_keyed_for, is_round_of, are_rounds_to, is_judged}
-use Rattle.register.specs.Items.{is_batch, is_third, IsState}
+use Rattle.register.specs.BatchConditions.{columns_for, is_polled, is_given_out, is_third_for, is_keyed_for, is_round_of, are_rounds_to, is_judged}
+use Rattle.register.specs.StateConditions.{is_batch, is_third, IsState}
 use Rattle.register.specs.Effects.{batch_added, batch_reopened, third_set, in_round, with_effect}
-use Rattle.register.specs.Parts.{passes}
+use Rattle.register.specs.CommandInputs.{passes}
 use Rattle.register.specs.Batches.{ward_for, third_for, keyings_for, part_of, is_in_last_round, is_in_range, objections, next_round, subject_of, reply_to, effect_of}
 use Rattle.register.proofs.LineLemmas.{lower, is_plain-decimal, words, line_append, line_number, line_reply, line_text}
 use Rattle.register.proofs.ObjectionLemmas.{no_objection, asked, unasked, absent, present, there}
@@ -44,7 +44,7 @@ found_in_range {s} is n b found = let batches = maps_of is batch_map in batch_pa
 -- ---- a new batch
 
 module _ (s : OfficeState) (b : BatchEntry) (is : IsState s) (new : batch_at s b.number ≡ None) where
-  -- no paper is keyed of it
+  -- no paper of it is keyed
   unkeyed : (round clerk : ℕ) → keying_of s b.number round clerk ≡ []
   unkeyed round clerk = filter_none _ s.keyings (list_all_weaker _ _ s.keyings (λ k keyed. go k (k.batch == b.number) refl keyed) (and_parts _ _ is.keyed).0)
     where
@@ -83,7 +83,7 @@ module _ (s : OfficeState) (b : BatchEntry) (is : IsState s) (new : batch_at s b
       go None found set = absurd (cc)
       go (Some x) found set = rw (found_put_still (λ (x : BatchEntry). x.number) s.batches b t.batch x new found) set
 
-  -- a batch in range, in its first round, of a number that is new, given out
+  -- a batch with a new number, in range, in its first round, and given out
   pub added_stays : IsBeforeCount s (batch_added b) → is_batch b ≡ true → b.round ≡ 1 → is_given_out s b ≡ true → IsState (with_effect (batch_added b) s)
   added_stays before good first out =
       let keyed = and_parts _ _ is.keyed in
@@ -115,7 +115,7 @@ module _ (s : OfficeState) (b : BatchEntry) (is : IsState s) (new : batch_at s b
 
 -- ---- a batch in its next round
 
--- in whichever round, a batch has its number, and is in range where it was
+-- in any round a batch keeps its number, and stays in range
 in_range_still : (round : ℕ) → is_round round ≡ true → (x : BatchEntry) → is_batch x ≡ true → is_batch (in_round round x) ≡ true
 unfolding is_batch
 in_range_still round good x fine =
@@ -142,7 +142,7 @@ module _ (s : OfficeState) (n : ℕ) (b : BatchEntry) (is : IsState s) (found : 
           let round = eqb-true k.round (suc b.round) next in
           absurd (omega (arith, up, round))
 
-  -- the rounds before the next one are whole, and differ
+  -- the rounds before the next one are whole, and their keyings differ
   module _ (bs : List BatchEntry) where
     earlier_round : (m : ℕ) → is_round_of s b m ≡ true → is_round_of (record s { batches = bs }) (in_round (suc b.round) b) m ≡ true
     earlier_round m holds =
@@ -185,7 +185,7 @@ module _ (s : OfficeState) (n : ℕ) (b : BatchEntry) (is : IsState s) (found : 
       go None set = set
       go (Some x) set = up x (is_eq (batch_compared n x)) set
 
-  -- papers that were keyed of it are of a round up to the next one
+  -- the keyed papers of it are in a round up to the next one
   keyed_for_next : (k : KeyedEntry) → is_keyed_for s k (batch_at s k.batch) ≡ true → is_keyed_for s k (batch_at (with_effect (batch_reopened n (suc b.round)) s) k.batch) ≡ true
   keyed_for_next k = rw (changed_at (batch_compared n) (batch_compared k.batch) (in_round (suc b.round)) (λ x. refl) s.batches) (go (batch_at s k.batch) refl)
     where
@@ -205,7 +205,7 @@ module _ (s : OfficeState) (n : ℕ) (b : BatchEntry) (is : IsState s) (found : 
       go None at keyed = keyed
       go (Some x) at keyed = up x at (is_eq (batch_compared n x)) refl keyed
 
-  -- what holds of each other batch as it is, and of it in its next round, holds of each
+  -- what holds of every other batch as it is, and of this one in its next round, holds of every batch
   next_all : (p q : BatchEntry → Bool) → q (in_round (suc b.round) b) ≡ true → ((x : BatchEntry) → p x ≡ true → q x ≡ true) → list_all p s.batches ≡ true
       → list_all q (changed (batch_compared n) (in_round (suc b.round)) s.batches) ≡ true
   next_all p q good others all =
@@ -224,7 +224,7 @@ module _ (s : OfficeState) (n : ℕ) (b : BatchEntry) (is : IsState s) (found : 
       let own = found_passes (batch_compared n) (λ (x : BatchEntry). is_judged s x (verdicts_of s x.number)) b s.batches parts.1 found in
       rw (no_verdicts s b untaken (verdicts_of s b.number) own) refl
 
-  -- the batch in its next round, which is in range
+  -- the batch in its next round, if that is in range
   next_stays : IsBeforeCount s (batch_reopened n (suc b.round)) → is_round (suc b.round) ≡ true → IsState (with_effect (batch_reopened n (suc b.round)) s)
   next_stays before good =
       let keyed = and_parts _ _ is.keyed in
@@ -268,7 +268,7 @@ module _ (s : OfficeState) (n : ℕ) (b : BatchEntry) (is : IsState s) (found : 
 
 module _ (s : OfficeState) (t : ThirdEntry) (b : BatchEntry) (is : IsState s) (found : batch_at s t.batch ≡ Some b) (new : third_at s t.batch ≡ None)
     (other : is_its_clerk t.clerk b None ≡ false) where
-  -- he has keyed nothing of the batch
+  -- the third clerk has keyed nothing of the batch
   unkeyed_yet : (round : ℕ) → keying_of s t.batch round t.clerk ≡ []
   unkeyed_yet round = filter_none _ s.keyings (list_all_weaker _ _ s.keyings (λ k keyed. go k (k.batch == t.batch) refl (k.clerk == t.clerk) refl keyed) (and_parts _ _ is.keyed).0)
     where
@@ -288,14 +288,14 @@ module _ (s : OfficeState) (t : ThirdEntry) (b : BatchEntry) (is : IsState s) (f
   abbrev with_third : OfficeState
   with_third = with_effect (third_set t) s
 
-  -- he is that of the batch, and each other batch has the one that it had
+  -- the third clerk is assigned to the batch, and every other batch has the same third clerk as before
   set_there : third_at with_third t.batch ≡ Some t
   set_there = found_put third_total t s.thirds new
 
   set_elsewhere : (n : ℕ) → (n == t.batch) ≡ false → third_at with_third n ≡ third_at s n
   set_elsewhere n away = found_put_other third_cmp (third_compared n) t s.thirds (unsigned_tied n t.batch ∙ away)
 
-  -- the keyings of each batch are as they were
+  -- the keyings of every batch are as they were
   same_keyings : (x : BatchEntry) (round : ℕ) → keyings_in with_third x round ≡ keyings_in s x round
   same_keyings x round = go (x.number == t.batch) refl
     where
@@ -314,7 +314,7 @@ module _ (s : OfficeState) (t : ThirdEntry) (b : BatchEntry) (is : IsState s) (f
   same_file : (x : BatchEntry) → HasSameFile s with_third x
   same_file x = record { candidates = refl; keyings = same_keyings x; verdicts = refl }
 
-  -- papers that were keyed are of clerks of their batches still
+  -- keyed papers are still by clerks of their batches
   keyed_for_still : (k : KeyedEntry) → is_keyed_for s k (batch_at s k.batch) ≡ true → is_keyed_for with_third k (batch_at s k.batch) ≡ true
   keyed_for_still k = go (batch_at s k.batch)
     where
@@ -372,7 +372,7 @@ module _ (s : OfficeState) (t : ThirdEntry) (b : BatchEntry) (is : IsState s) (f
 
 -- ---- each command
 
--- what the receipt of a batch's command may be about
+-- the subjects of receipts for the commands about a batch
 batch_about : (n : ℕ) → is_batch_number n ≡ true → is_office_subject (codes "batch " ++ decimal n) ≡ true
 unfolding is_office_subject
 batch_about n h = rw (is_plain-decimal last_batch n (omega arith) h) refl
@@ -385,7 +385,7 @@ third_about : (n : ℕ) → is_batch_number n ≡ true → is_office_subject (co
 unfolding is_office_subject
 third_about n h = rw (is_plain-decimal last_batch n (omega arith) h) refl
 
--- a ward in keying is contested, so a batch of it with two clerks is given out
+-- a ward in keying is contested, so a batch of it with two different clerks is given out
 keying_given_out : (s : OfficeState) (ward : ℕ) (w : WardEntry) (first second : ℕ) → IsState s → ward_at s ward ≡ Some w → w.phase ≡ Keying → (first == second) ≡ false
     → (not (first == second) && is_polled (ward_at s ward) (candidates_of s ward)) ≡ true
 keying_given_out s ward w first second is found phased other =

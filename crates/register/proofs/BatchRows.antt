@@ -1,4 +1,4 @@
--- Batches, computed: what is refused of a batch, of a keying and of a verdict, how its ward stands, and which are states.
+-- Batches, computed: the refusals about a batch, a keying and a verdict, the status of its ward, and which of these are states.
 use Rattle.std.proofs.Common.{ℕ, true, false, ◌≡◌, List, [], ◌∷◌, map, codes, refl, string_bytes, Some, ◌++◌}
 use Rattle.std.specs.Fmt.{digits}
 use Rattle.std.specs.declared.string.String.{String}
@@ -15,24 +15,24 @@ use Rattle.register.specs.declared.refusal.Reason.TheVariants.{NumberOutOfRange,
 use Rattle.register.specs.declared.refusal.Reason.TheVariants.{BadMarks, NoDifference, NotTaken, AlreadyJudged, BadVerdict}
 use Rattle.register.specs.Ranges.{is_id}
 use Rattle.register.specs.Offices.{BatchEntry, KeyedEntry, JudgedEntry, ReceiptEntry, OfficeState}
-use Rattle.register.specs.Papers.{same_marks}
-use Rattle.register.specs.Keyed.{are_numbered, are_rounds_to}
-use Rattle.register.specs.Items.{all_given_out, all_keyed, all_judged}
+use Rattle.register.specs.Agreement.{same_marks}
+use Rattle.register.specs.BatchConditions.{are_numbered, are_rounds_to}
+use Rattle.register.specs.StateConditions.{all_given_out, all_keyed, all_judged}
 use Rattle.register.specs.Marks.{first_bad_marks}
 use Rattle.register.specs.Batches as batches
 use Rattle.register.specs.Keyings as keyings
 use Rattle.register.specs.Verdicts as verdicts
 use Rattle.register.specs.Machine.{accepted, refused, step, decided}
-use Rattle.register.specs.Standings.{status_at}
+use Rattle.register.specs.Status.{status_at}
 
--- the batch of two papers of the ward Harbour, which the clerks 4 and 9 key, in this round; and another one
+-- the batch of two papers of the ward Harbour that the clerks 4 and 9 key, in this round; and another batch
 abbrev batch_in : ℕ → BatchEntry
 batch_in round = record { number = 12; ward = 7; size = 2; first_clerk = 4; second_clerk = 9; round = round }
 
 abbrev other_batch : BatchEntry
 other_batch = record { number = 13; ward = 7; size = 1; first_clerk = 9; second_clerk = 4; round = 1 }
 
--- an office with both batches, in a ward of this phase, with these keyed papers, verdicts and receipts
+-- an office with both batches, their ward in this phase, with these keyed papers, verdicts and receipts
 abbrev with_batch : Phase → ℕ → List KeyedEntry → List JudgedEntry → List ReceiptEntry → OfficeState
 with_batch phase round papers judged receipts =
     record {
@@ -46,11 +46,11 @@ with_batch phase round papers judged receipts =
       receipts = receipts;
     }
 
--- the two papers of the batch, keyed by a clerk in the first round, the second one as doubtful
+-- the two papers of the batch as keyed by a clerk in the first round, the second one as doubtful
 abbrev keyed : ℕ → List ℕ → List KeyedEntry
 keyed clerk marks = record { batch = 12; round = 1; clerk = clerk; paper = 1; marks = marks } ∷ record { batch = 12; round = 1; clerk = clerk; paper = 2; marks = codes "D" } ∷ []
 
--- what a clerk asked under the id k1, and was told
+-- the receipt of a clerk's request with the id k1
 abbrev key_receipt : ℕ → ReceiptEntry
 key_receipt clerk = record { actor = clerk; id = codes "k1"; subject = codes "key 12 1"; reply = codes "batch 12 round 1 keyed" }
 
@@ -87,7 +87,7 @@ one_clerk = refl
 
 -- ---- keyings
 
--- the first clerk's keying, and the second one's, equal or not
+-- the first clerk's keying, and the second clerk's, equal or not
 abbrev once : OfficeState
 once = with_batch Keying 1 (keyed 4 (codes "1,2,")) [] (key_receipt 4 ∷ [])
 
@@ -119,7 +119,7 @@ module _ (papers : Vec (String Global) Global) where
   unfolding step decided is_id keyings.subject_of first_bad_marks digits
   bad_marks are = simp are refl
 
--- ---- how the ward stands
+-- ---- the status of the ward
 
 taken : status_at (twice (codes "1,2,") []) 7 ≡ Some (record { ward = 7; phase = Keying; candidates = 3; batches = 2; taken = 1; differing = 0; doubtful_open = 1; stages = 0 })
 unfolding same_marks
@@ -185,7 +185,7 @@ judged_already : step (twice (codes "1,2,") (record { batch = 12; paper = 2; cod
 unfolding step decided is_id verdicts.subject_of same_marks digits
 judged_already = refl
 
--- ---- which are states
+-- ---- which of these are states
 
 in_nominations : all_given_out (with_batch Nominations 1 [] [] []) ≡ false
 in_nominations = refl

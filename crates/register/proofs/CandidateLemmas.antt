@@ -1,4 +1,4 @@
--- The commands about candidates, where nothing stands against them, lead from a state to a state, and leave a receipt in range.
+-- Commands about candidates without objections lead from a state to a state, and leave a receipt in range.
 use Rattle.std.proofs.Common.{rules, ◌≡◌, ℕ, ◌<◌, true, ◌&&◌, ◌++◌, codes, List, None, string_bytes, refl, arith}
 use Rattle.std.specs.Fmt.{decimal}
 use Rattle.std.proofs.lemmas.Bool.{and_parts, and_from}
@@ -11,7 +11,7 @@ use Rattle.register.specs.Reasons.{first_reason}
 use Rattle.register.specs.Ranges.{last_ward, is_office, is_ward_number, is_candidate_number, is_name, is_reply}
 use Rattle.register.specs.Subjects.{is_office_subject}
 use Rattle.register.specs.Offices.{OfficeState, ward_at, candidate_at}
-use Rattle.register.specs.Items.{is_candidate, IsState}
+use Rattle.register.specs.StateConditions.{is_candidate, IsState}
 use Rattle.register.specs.Candidates.{part_of, is_in_range, objections, subject_of, reply_to, effect_of}
 use Rattle.register.proofs.LineLemmas.{are_plain-decimals, IsLine, words, line_append, line_number, line_reply, line_text}
 use Rattle.register.proofs.ObjectionLemmas.{no_objection, asked, absent, there}
@@ -19,7 +19,7 @@ use Rattle.register.proofs.ItemLemmas.{IsFit, office_about}
 use Rattle.register.proofs.NominationLemmas.{added_before, withdrawn_before, candidate_stays, withdrawn_stays}
 use Rattle.register.proofs.TabulationLemmas.{tabulation_kept}
 
--- what the receipt of a candidate's command may be about
+-- the subjects of receipts for the commands about a candidate
 candidate_about : (m n : ℕ) → is_ward_number m ≡ true → is_candidate_number n ≡ true → is_office_subject (codes "candidate " ++ (decimal m ++ (codes " " ++ decimal n))) ≡ true
 unfolding is_office_subject
 candidate_about m n h k = rw (are_plain-decimals last_ward max_candidates m n (omega arith) (omega arith) h k) refl
@@ -28,7 +28,7 @@ withdraw_about : (m n : ℕ) → is_ward_number m ≡ true → is_candidate_numb
 unfolding is_office_subject
 withdraw_about m n h k = rw (are_plain-decimals last_ward max_candidates m n (omega arith) (omega arith) h k) refl
 
--- the numbers of a ward and a candidate, parted by a space, are a line; and so is a reply that names both
+-- the numbers of a ward and a candidate, separated by a space, are a line; and so is a reply that contains both
 module _ (ward candidate : ℕ) (good : is_ward_number ward ≡ true) (fine : is_candidate_number candidate ≡ true) where
   both : IsLine 21 (decimal ward ++ (codes " " ++ decimal candidate))
   both = line_append (line_number last_ward ward (omega arith) good) (line_append (words (codes " ") (search rules) refl) (line_number max_candidates candidate (omega arith) fine))
@@ -41,7 +41,7 @@ module _ (ward candidate : ℕ) (good : is_ward_number ward ≡ true) (fine : is
       in
       line_reply (line_append (words (codes "candidate ") (search rules) refl) numbered) (omega (arith, short))
 
--- each command, where nothing stands against it
+-- each command without objections
 pub candidate_fits : (s : OfficeState) (actor : ℕ) (command : CandidateCommand) → IsState s → first_reason (objections actor command (part_of s actor command)) ≡ None
     → IsFit s actor (effect_of command (part_of s actor command)) (subject_of command) (reply_to command (part_of s actor command))
 unfolding subject_of reply_to is_candidate

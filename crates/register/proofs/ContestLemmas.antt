@@ -1,4 +1,4 @@
--- The contest of a ward is one that the rules of the count speak of.
+-- The contest of a ward is one that the rules of the count apply to.
 use Rattle.std.proofs.Common.{◌≡◌, ℕ, zero, suc, ◌+◌, ◌*◌, ◌<◌, ◌≤◌, ◌==◌, ◌&&◌, ◌||◌, nat_eq, nat_le, Bool, true, false, cond, List, [], ◌∷◌, ◌++◌, length, map, filter, find, fold, Option}
 use Rattle.std.proofs.Common.{Some, None, Result, Ok, Err, codes, refl, sym, ap, arith, length-append}
 use Rattle.std.specs.List.{AllByRecursion, list_all, list_any, flat_map, zip}
@@ -9,7 +9,7 @@ use Rattle.std.proofs.lemmas.Bool.{and_parts, leb-true, ltb-true, eqb-true, eq-e
 use Rattle.std.proofs.lemmas.Cmp.{ranked}
 use Rattle.std.proofs.lemmas.List.Kept.{IsStrictlySortedBy-filter}
 use Rattle.votes.specs.Units.{max_seats, max_papers}
-use Rattle.paper.specs.Columns.{IsColumnSet, with_column}
+use Rattle.paper.specs.Columns.{IsCandidateSet, with_column}
 use Rattle.paper.specs.Ranking.{IsRanking}
 use Rattle.paper.specs.Marking.{Marking, marked_with}
 use Rattle.paper.specs.Marking as marking
@@ -19,7 +19,7 @@ use Rattle.paper.specs.declared.marked.Keyed.TheVariants.{Doubtful}
 use Rattle.paper.specs.declared.marks.MarkFault.TheVariants.{FieldCount}
 use Rattle.paper.specs.declared.marks.MarkFault.{MarkFault}
 use Rattle.paper.specs.declared.validity.Rejection.{Rejection}
-use Rattle.paper.proofs.ColumnSets.{Ascends, columns_from_ascends, ascends_from_columns, with_column-IsColumnSet}
+use Rattle.paper.proofs.ColumnSets.{Ascends, columns_from_ascends, ascends_from_columns, with_column-IsCandidateSet}
 use Rattle.paper.proofs.Preferences.{preferences-IsRanking}
 use Rattle.count.specs.Law.Contest.{In, AreForCandidates, IsContest}
 use Rattle.count.specs.Books.{AreRankings}
@@ -27,12 +27,12 @@ use Rattle.count.proofs.ContestLemmas.{contest-is}
 use Rattle.register.specs.declared.polls.Judgement.{Judgement}
 use Rattle.register.specs.declared.polls.Judgement.TheVariants.{Valid, Rejected, Open}
 use Rattle.register.specs.Ranges.{is_ward_number, is_seat_number, is_candidate_number, is_name}
-use Rattle.register.specs.Offices.{WardEntry, CandidateEntry, BatchEntry, KeyedEntry, JudgedEntry, OfficeState, MapsRise, batch_cmp, ward_compared, ward_at, candidates_of}
+use Rattle.register.specs.Offices.{WardEntry, CandidateEntry, BatchEntry, KeyedEntry, JudgedEntry, OfficeState, MapsAreSorted, batch_cmp, ward_compared, ward_at, candidates_of}
 use Rattle.register.specs.Nominations.{is_contested}
 use Rattle.register.specs.Marks.{and_column, columns_of}
-use Rattle.register.specs.Papers.{same_marks, agreed, keyings_now, batches_of}
-use Rattle.register.specs.Keyed.{is_whole, is_round_of, are_rounds_to}
-use Rattle.register.specs.Items.{is_ward, is_candidate, is_batch, all_in_range, all_given_out, all_keyed}
+use Rattle.register.specs.Agreement.{same_marks, agreed, keyings_now, batches_of}
+use Rattle.register.specs.BatchConditions.{is_whole, is_round_of, are_rounds_to}
+use Rattle.register.specs.StateConditions.{is_ward, is_candidate, is_batch, all_in_range, all_given_out, all_keyed}
 use Rattle.register.specs.Polls.{Pile, pile_of, piles_of, by_rejection, by_reading, by_verdict, judgement_on, judgements_in, judgements, preferences_by, ballots_in}
 use Rattle.register.specs.Elections.{election_of, contest_of}
 use Rattle.register.proofs.MapLemmas.{kept_all, found_passes}
@@ -42,23 +42,23 @@ use Rattle.register.proofs.WardColumnLemmas.{columns_at}
 
 -- ---- the candidates
 
-columns_set : (columns : List ℕ) (cs : List CandidateEntry) → IsColumnSet columns → IsColumnSet (fold and_column columns cs)
+columns_set : (columns : List ℕ) (cs : List CandidateEntry) → IsCandidateSet columns → IsCandidateSet (fold and_column columns cs)
 columns_set columns [] set = set
 columns_set columns (c ∷ cs) set = columns_set (and_column columns c) cs (go (is_candidate_number c.number) refl)
   where
-    go : (b : Bool) → is_candidate_number c.number ≡ b → IsColumnSet (cond b (with_column columns c.number) columns)
+    go : (b : Bool) → is_candidate_number c.number ≡ b → IsCandidateSet (cond b (with_column columns c.number) columns)
     go true is =
         let parts = and_parts _ _ is in
-        with_column-IsColumnSet columns c.number (leb-true 1 c.number parts.0) (leb-true c.number 30 parts.1) set
+        with_column-IsCandidateSet columns c.number (leb-true 1 c.number parts.0) (leb-true c.number 30 parts.1) set
     go false is = set
 
--- the columns of any candidates are a set of candidates' numbers
-pub columns_are_set : (cs : List CandidateEntry) → IsColumnSet (columns_of cs)
+-- the columns of any candidates are a set of candidate numbers
+pub columns_are_set : (cs : List CandidateEntry) → IsCandidateSet (columns_of cs)
 columns_are_set cs = columns_set [] cs (columns_from_ascends 0 [] tt)
 
--- ---- each preference is for a candidate
+-- ---- every preference is for a candidate
 
--- numbers that are all among some columns
+-- numbers that are all among these columns
 abbrev AreAmong : List ℕ → List ℕ → Type 0
 AreAmong columns cs = AllByRecursion (λ c. In c columns) cs
 
@@ -66,7 +66,7 @@ each_append : {X : Type 0} (P : X → Type 0) (xs ys : List X) → AllByRecursio
 each_append P [] ys first second = second
 each_append P (x ∷ xs) ys first second = (first.0, each_append P xs ys first.1 second)
 
--- one beside whom a number stands has a column
+-- a candidate with a number next to the name has a column
 marked_in : (columns marks : List ℕ) (n c : ℕ) → In c (marked_with n (zip columns marks)) → In c columns
 marked_in [] marks n c found = found
 marked_in (column ∷ columns) [] n c found = absurd (cc)
@@ -92,7 +92,7 @@ preferred_in columns marks (suc most) n = go (marked_with n (zip columns marks))
     go (c ∷ []) each behind = (each c (or_left (nat_eq c c) false (eq-eqb c c refl)), behind)
     go (c ∷ d ∷ cs) each behind = tt
 
--- what holds of the preferences that any valid marks give in these columns holds of those that each judgement gives
+-- what holds of the preferences of any valid marks in these columns holds of the preferences of every judgement
 module _ (columns : List ℕ) (P : List ℕ → Type 0) (each : (marks : List ℕ) → rejection_of (zip columns marks) ≡ None → P (preferences (zip columns marks))) where
   abbrev Gives : Judgement → Type 0
   Gives judgement = AllByRecursion P (preferences_by judgement)
@@ -139,18 +139,18 @@ module _ (columns : List ℕ) (P : List ℕ → Type 0) (each : (marks : List �
   papers_given : (piles : List Pile) → AllByRecursion P (ballots_in columns piles).papers
   papers_given piles = given_papers (judgements columns piles) (given_piles piles)
 
--- each preference of a ward's papers is for one of its candidates
+-- every preference of a ward's papers is for one of its candidates
 pub papers_are_fair : (columns : List ℕ) (piles : List Pile) → AreForCandidates columns (ballots_in columns piles).papers
 papers_are_fair columns piles = papers_given columns (AreAmong columns) (λ marks valid. preferred_in columns marks 30 1) piles
 
--- the columns beside some marks are the first ones
+-- the columns of some marks are the first ones
 first_columns : (low : ℕ) (columns marks : List ℕ) → Ascends low columns → Ascends low (marking.candidates_of (zip columns marks))
 first_columns low [] marks up = tt
 first_columns low (column ∷ columns) [] up = tt
 first_columns low (column ∷ columns) (mark ∷ marks) up = (up.0, up.1, first_columns column columns marks up.2)
 
--- and each paper lists them in an order, none twice
-pub papers_are_rankings : (columns : List ℕ) (piles : List Pile) → IsColumnSet columns → AreRankings (ballots_in columns piles).papers
+-- and each paper ranks candidates without repetition
+pub papers_are_rankings : (columns : List ℕ) (piles : List Pile) → IsCandidateSet columns → AreRankings (ballots_in columns piles).papers
 papers_are_rankings columns piles set =
     go (ballots_in columns piles).papers (papers_given columns IsRanking
     (λ marks valid. preferences-IsRanking (zip columns marks) (columns_from_ascends 0 _ (first_columns 0 columns marks (ascends_from_columns columns set)))) piles)
@@ -159,7 +159,7 @@ papers_are_rankings columns piles set =
     go [] each = tt
     go (paper ∷ papers) each = (each.0, go papers each.1)
 
--- and has a preference at least
+-- and has at least one preference
 preferred_some : (marking : Marking) → rejection_of marking ≡ None → 1 ≤ length (preferences marking)
 unfolding preferences_from
 preferred_some marking valid = go (marked_with 1 marking) valid
@@ -172,7 +172,7 @@ preferred_some marking valid = go (marked_with 1 marking) valid
 pub papers_have_some : (columns : List ℕ) (piles : List Pile) → AllByRecursion (λ paper. 1 ≤ length paper) (ballots_in columns piles).papers
 papers_have_some columns piles = papers_given columns (λ paper. 1 ≤ length paper) (λ marks valid. preferred_some (zip columns marks) valid) piles
 
--- ---- the papers are not too many
+-- ---- the papers are within the limit
 
 few_by : (js : List Judgement) → length (flat_map preferences_by js) ≤ length js
 few_by [] = omega arith
@@ -183,7 +183,7 @@ few_by (j ∷ js) = omega (arith, length-append (preferences_by j) (flat_map pre
     one (Rejected code) = omega arith
     one Open = omega arith
 
--- a batch is taken with at most as many papers as it has
+-- a batch is taken with at most as many papers as its size
 whole_few : (size : ℕ) (ks : List (List KeyedEntry)) → list_all (is_whole size) ks ≡ true → length (agreed ks) ≤ size
 whole_few size [] whole = omega arith
 whole_few size (k ∷ ks) whole = elim (list_any (same_marks k) ks) as (λ b. length (cond b k (agreed ks)) ≤ size) [
@@ -225,7 +225,7 @@ few_among s columns (b ∷ bs) fine rounds =
       few_among s columns bs good.1 all.1,
     )
 
--- numbers that rise are not more than the highest
+-- ascending numbers are at most as many as the highest of them
 few_rising : (low : ℕ) (bs : List BatchEntry) → low ≤ 9999 → AllByRecursion (λ b. low < b.number) bs → list_all is_batch bs ≡ true → IsStrictlySortedBy batch_cmp bs → low + length bs ≤ 9999
 unfolding IsStrictlySortedBy
 few_rising low [] few above fine up = omega (arith, few)
@@ -262,8 +262,8 @@ papers_are_few s columns ward fine rounds up =
 
 -- ---- the contest
 
--- what a ward can have at most: seats from 1 on, and papers
-pub seats_and_papers_are_few : (s : OfficeState) (w : WardEntry) → all_in_range s ≡ true → all_keyed s ≡ true → MapsRise s → ward_at s w.number ≡ Some w
+-- the limits of a ward: at least one seat, and at most the limits of seats and papers
+pub seats_and_papers_are_few : (s : OfficeState) (w : WardEntry) → all_in_range s ≡ true → all_keyed s ≡ true → MapsAreSorted s → ward_at s w.number ≡ Some w
     → (1 ≤ w.seats) × (w.seats ≤ max_seats) × (length (election_of s w).ballots.papers ≤ max_papers)
 unfolding is_ward
 seats_and_papers_are_few s w first fourth rise there =
@@ -279,8 +279,8 @@ seats_and_papers_are_few s w first fourth rise there =
 candidates_are : (s : OfficeState) → all_in_range s ≡ true → list_all is_candidate s.candidates ≡ true
 candidates_are s first = (and_parts _ _ (and_parts _ _ first).1).0
 
--- What is in range, keyed as it has to be, and in the order of its keys, has contests that the rules speak of.
-pub contest_is_fair : (s : OfficeState) (w : WardEntry) → all_in_range s ≡ true → all_keyed s ≡ true → MapsRise s → ward_at s w.number ≡ Some w → is_contested w (candidates_of s w.number) ≡ true
+-- If numbers are in range, keyings are whole and entries are in key order, the contests are ones that the rules apply to.
+pub contest_is_fair : (s : OfficeState) (w : WardEntry) → all_in_range s ≡ true → all_keyed s ≡ true → MapsAreSorted s → ward_at s w.number ≡ Some w → is_contested w (candidates_of s w.number) ≡ true
     → IsContest (contest_of (election_of s w))
 contest_is_fair s w first fourth rise there contested =
     let cs = candidates_of s w.number in
@@ -298,6 +298,6 @@ contest_is_fair s w first fourth rise there contested =
     few.2
     (papers_are_fair columns (piles_of s w.number))
 
-pub fair_contest : (s : OfficeState) (w : WardEntry) → all_in_range s ≡ true → all_given_out s ≡ true → all_keyed s ≡ true → MapsRise s → ward_at s w.number ≡ Some w
+pub fair_contest : (s : OfficeState) (w : WardEntry) → all_in_range s ≡ true → all_given_out s ≡ true → all_keyed s ≡ true → MapsAreSorted s → ward_at s w.number ≡ Some w
     → is_contested w (candidates_of s w.number) ≡ true → IsContest (contest_of (election_of s w))
 fair_contest s w first third fourth rise there contested = contest_is_fair s w first fourth rise there contested

@@ -1,4 +1,4 @@
--- The commands about a count, where nothing stands against them, lead from a state to a state, and leave a receipt in range.
+-- Commands about a count without objections lead from a state to a state, and leave a receipt in range.
 use Rattle.std.proofs.Common.{◌≡◌, ℕ, zero, suc, ◌+◌, ◌≤◌, Bool, true, false, cond, not, ◌&&◌, ◌==◌, ◌++◌, nat_le, nat_lt, nat_eq, codes, List, length, filter, Option, Some, None, is_some}
 use Rattle.std.proofs.Common.{refl, sym, ap, subst, ◌∙◌, arith}
 use Rattle.std.specs.Fmt.{decimal}
@@ -32,7 +32,7 @@ use Rattle.register.specs.Nominations.{are_enough}
 use Rattle.register.specs.Marks.{columns_of}
 use Rattle.register.specs.Polls.{piles_of}
 use Rattle.register.specs.Elections.{ElectionEntry, election_of, has_count, contest_of, stages_of, due_of, is_finished, has_finished, is_among}
-use Rattle.register.specs.Items.{is_lot, IsState}
+use Rattle.register.specs.StateConditions.{is_lot, IsState}
 use Rattle.register.specs.Effects.{in_phase, at_stage, stage_counted, lot_drawn, with_effect, with_receipt}
 use Rattle.register.specs.Views.{HasStageMore, HasSameStages}
 use Rattle.register.specs.Tabulated.{bundles_in, figures_in, tabulation_of}
@@ -51,7 +51,7 @@ use Rattle.register.proofs.TabulationLemmas.{IsOfCount, bundles_of_count, figure
 use Rattle.register.proofs.ContestLemmas.{fair_contest, columns_are_set, papers_are_rankings}
 use Rattle.register.proofs.ToldLineLemmas.{columns_are_small, length_kept, listed_line, action_line, judgements_are_few, poll_line}
 
--- ---- what the receipts may be about
+-- ---- the subjects of receipts
 
 seal_about : (n : ℕ) → is_ward_number n ≡ true → is_office_subject (codes "seal " ++ decimal n) ≡ true
 unfolding is_office_subject
@@ -71,7 +71,7 @@ lot_about m n h k = rw (are_plain-from last_ward first_lot_stage last_lot_stage 
 
 -- ---- the ward of a count
 
--- a count in which the stage of an action is due: it is held, the stages done are there, and the ward comes to the next one
+-- a count in which the stage of an action is due: the count is held, the stages done exist, and the ward moves to the next one
 pub record IsStageDue (s : OfficeState) (n : ℕ) (w : WardEntry) (action : Action) : Type 0 where
   pub contested : has_count (election_of s w) ≡ true
   pub stages : length (stages_of (election_of s w)) ≡ w.done
@@ -90,7 +90,7 @@ module _ (s : OfficeState) (n : ℕ) (w : WardEntry) (is : IsState s) (found : w
       ap (λ (p : Phase). are_enough p w (candidates_of s w.number)) (sym phased)
       ∙ found_passes (ward_compared n) (λ x. has_enough x (candidates_of s x.number)) w s.wards (and_parts (are_placed s) (are_all has_enough s) is.nominated).1 found
 
-  -- the contest of a contested ward is one that the rules speak of
+  -- the contest of a contested ward is one that the rules apply to
   own_fair : has_count (election_of s w) ≡ true → IsContest (contest_of (election_of s w))
   own_fair contested = fair_contest s w is.in_range is.given_out is.keyed is.rise (ap (ward_at s) (sym number) ∙ found) contested
 
@@ -112,7 +112,7 @@ module _ (s : OfficeState) (n : ℕ) (w : WardEntry) (is : IsState s) (found : w
 
   -- ---- advanced
 
-  -- the stage that is due is one that a count has
+  -- the stage due is one that a count has
   few_done : (action : Action) → w.phase ≡ Sealed → due_of (election_of s w) ≡ Act action → w.done ≤ 30
   few_done action phased due =
       let e = election_of s w in
@@ -148,14 +148,14 @@ module _ (s : OfficeState) (n : ℕ) (w : WardEntry) (is : IsState s) (found : w
       let right = right_in e (in_count e phased h.contested) own_sound in
       record { contested = h.contested; stages = right.stages; next = acted (contest_of e) e.lots (stages_of e) action h.is; stage = ap next_stage found ∙ next_is (few_done action phased due) }
 
-  -- the ward, where it is changed
+  -- the ward is still found after a change
   changed_there : (change : WardEntry → WardEntry) → ((x : WardEntry) → (change x).number ≡ x.number) → entry_at (ward_compared n) (changed (ward_compared n) change s.wards) ≡ Some (change w)
   changed_there change kept =
       changed_at (ward_compared n) (ward_compared n) change (λ x. ap (nat_cmp n) (kept x)) s.wards
       ∙ ap (option_map (λ (x : WardEntry). cond (is_eq (ward_compared n x)) (change x) x)) found
       ∙ ap (λ (b : Bool). Some (cond b (change w) w)) (found_key (ward_compared n) w s.wards found)
 
-  -- the ward and its count with the stage that is due
+  -- the ward and its count with the stage due
   advanced_more : (action : Action) (r : ReceiptEntry) → w.phase ≡ Sealed → due_of (election_of s w) ≡ Act action
       → HasStageMore s (with_receipt r (with_effect (stage_counted n (next_stage (ward_at s n))) s)) n
   advanced_more action r phased due =
@@ -171,7 +171,7 @@ module _ (s : OfficeState) (n : ℕ) (w : WardEntry) (is : IsState s) (found : w
         added = stage_added (contest_of e) e.lots w.done action d.next;
       }
 
-  -- the ward declared, and its count as it was
+  -- the ward declared, and its count unchanged
   declared_same : (r : ReceiptEntry) → HasSameStages s (with_receipt r (with_effect (effect_of (Declare n) (part_of s 0 (Declare n))) s)) n
   declared_same r = record { before = w; found = found; after = in_phase Declared w; stays = changed_there (in_phase Declared) (λ x. refl); done = refl; same = refl }
 
@@ -212,7 +212,7 @@ module _ (s : OfficeState) (n : ℕ) (w : WardEntry) (is : IsState s) (found : w
 
 -- ---- what is due
 
--- an action is
+-- an action is due
 pub record IsAct (due : Due) : Type 0 where
   pub action : Action
   pub is : due ≡ Act action
@@ -222,7 +222,7 @@ acts (Act action) open_ none = record { action = action; is = refl }
 acts (lot_due stage kind tied) open_ none = absurd (cc)
 acts Finished open_ none = absurd (cc)
 
--- a lot at a stage is, among some of whom a candidate is one
+-- a lot is due at a stage, and a candidate is among those tied
 pub record IsLotAt (due : Due) (stage candidate : ℕ) : Type 0 where
   pub kind : TiedFor
   pub tied : List ℕ
@@ -269,7 +269,7 @@ drawn_stays s l w good found phased due is =
     there_too : (x : WardEntry) → (l.ward == x.number) ≡ false → is_sound (election_of s x) ≡ true → is_sound (election_of (with_effect (lot_drawn l) s) x) ≡ true
     there_too x other sound = ap is_sound (election_elsewhere s l.ward is x other (lot_drawn l) refl) ∙ sound
 
-    -- no lot of its ward and stage is there
+    -- there is no lot of its ward and stage
     new : entry_at (lot_cmp l) s.lots ≡ None
     new =
         sym (found_filter (lot_cmp l) (λ (x : LotEntry). x.ward == w.number) s.lots
@@ -280,7 +280,7 @@ drawn_stays s l w good found phased due is =
     maps lot_map = put_is_map lot_total l s.lots good new (maps_of is lot_map)
     maps m = maps_of is m
 
--- the count as it was, as far as it is done
+-- the count is unchanged as far as it is done
 drawn_same : (s : OfficeState) (l : LotEntry) (w : WardEntry) (r : ReceiptEntry) → ward_at s l.ward ≡ Some w → w.phase ≡ Sealed → IsLotAt (due_of (election_of s w)) l.stage l.candidate → IsState s
     → HasSameStages s (with_receipt r (with_effect (lot_drawn l) s)) l.ward
 drawn_same s l w r found phased due is =
@@ -289,7 +289,7 @@ drawn_same s l w r found phased due is =
     let still = stages_still (election_of s w) (lots_of s w.number) l due.kind due.tied refl phased due.is (own_sound s l.ward w is found) in
     record { before = w; found = found; after = w; stays = found; done = refl; same = ap (λ (ls : List LotEntry). stages_of (with_lots ls (election_of s w))) in_place ∙ still }
 
--- so the tabulation is as it was
+-- so the tabulation is unchanged
 drawn_tabulated : (s : OfficeState) (l : LotEntry) (w : WardEntry) → ward_at s l.ward ≡ Some w → w.phase ≡ Sealed → IsLotAt (due_of (election_of s w)) l.stage l.candidate → IsState s
     → tabulation_of (with_effect (lot_drawn l) s) ≡ tabulation_of s
 drawn_tabulated s l w found phased due is = same_tabulation s (with_effect (lot_drawn l) s) (alike bundles_in bundles_of_count) (alike figures_in figures_of_count)
@@ -308,7 +308,7 @@ drawn_tabulated s l w found phased due is = same_tabulation s (with_effect (lot_
 lot_stage_line : (stage : ℕ) → is_lot_stage stage ≡ true → IsLine 10 (decimal stage)
 lot_stage_line stage good = let high = upper first_lot_stage last_lot_stage stage good in line_decimal 10 stage (omega arith) (omega (arith, high)) (omega (arith, high))
 
--- an Advance that nothing stands against: its numbers, its ward in count, and the action that is due
+-- an Advance without objections: its numbers, its ward in count, and the action due
 record IsDue (s : OfficeState) (actor ward : ℕ) : Type 0 where
   office : is_office actor ≡ true
   number : is_ward_number ward ≡ true
@@ -331,7 +331,7 @@ is_due s actor ward none =
     let act = acts (due_of (election_of s found.ward)) open_ no_lot in
     record { office = range.0; number = range.1; own = found.ward; found = found.is; phased = found.phased; action = act.action; due = act.is }
 
--- the ward of an Advance that nothing stands against, and the action that is due in its count
+-- the ward of an Advance without objections, and the action due in its count
 pub record HasStageDue (s : OfficeState) (ward : ℕ) : Type 0 where
   pub own : WardEntry
   pub found : ward_at s ward ≡ Some own
@@ -346,7 +346,7 @@ pub advance_adds : (s : OfficeState) (actor ward : ℕ) (r : ReceiptEntry) → I
     → HasStageMore s (with_receipt r (with_effect (effect_of (Advance ward) (part_of s actor (Advance ward))) s)) ward
 advance_adds s actor ward r is none = let d = is_due s actor ward none in advanced_more s ward d.own is d.found d.action r d.phased d.due
 
--- a Lot that nothing stands against: its numbers, its ward in count, and the lot that is waited for
+-- a Lot without objections: its numbers, its ward in count, and the lot that the count waits for
 record IsWaited (s : OfficeState) (actor ward stage candidate : ℕ) : Type 0 where
   office : is_office actor ≡ true
   good : is_ward_number ward && (is_lot_stage stage && is_candidate_number candidate) ≡ true
@@ -371,14 +371,14 @@ is_waited s actor ward stage candidate none =
     in
     record { office = range.0; good = range.1; own = found.ward; found = found.is; phased = found.phased; due = waits (due_of (election_of s found.ward)) stage candidate waited among }
 
--- it leaves the stages done
+-- it leaves the stages done as they are
 pub lot_keeps : (s : OfficeState) (actor ward stage candidate : ℕ) (r : ReceiptEntry) → IsState s
     → first_reason (objections actor (Lot ward stage candidate) (part_of s actor (Lot ward stage candidate))) ≡ None
     → HasSameStages s (with_receipt r (with_effect (effect_of (Lot ward stage candidate) (part_of s actor (Lot ward stage candidate))) s)) ward
 lot_keeps s actor ward stage candidate r is none =
     let d = is_waited s actor ward stage candidate none in drawn_same s (record { ward = ward; stage = stage; candidate = candidate }) d.own r d.found d.phased d.due is
 
--- a Declare that nothing stands against: its numbers, its ward in count, where nothing is due any more
+-- a Declare without objections: its numbers, its ward in count, and nothing more due
 record IsOver (s : OfficeState) (actor ward : ℕ) : Type 0 where
   office : is_office actor ≡ true
   number : is_ward_number ward ≡ true
@@ -398,7 +398,7 @@ is_over s actor ward none =
     in
     record { office = range.0; number = range.1; own = found.ward; found = found.is; phased = found.phased; finished = finished }
 
--- it leaves the stages done
+-- it leaves the stages done as they are
 pub declare_keeps : (s : OfficeState) (actor ward : ℕ) (r : ReceiptEntry) → IsState s → first_reason (objections actor (Declare ward) (part_of s actor (Declare ward))) ≡ None
     → HasSameStages s (with_receipt r (with_effect (effect_of (Declare ward) (part_of s actor (Declare ward))) s)) ward
 declare_keeps s actor ward r is none = let d = is_over s actor ward none in declared_same s ward d.own is d.found r

@@ -1,4 +1,4 @@
--- A count is read back from what is tabulated of it, and at a state there is what it is read back from.
+-- A count is read back from its tabulation, and a state has the tabulation to read it back from.
 use Rattle.std.proofs.Common.{◌≡◌, ℕ, suc, ◌+◌, ◌<◌, ◌≤◌, not, ◌==◌, true, List, [], ◌∷◌, ◌++◌, length, map, fold, replicate, drop, get_or, reverse, Some, refl, sym, subst, ap, ◌∙◌}
 use Rattle.std.proofs.Common.{append_assoc, arith, length-append, drop-cons, add-one}
 use Rattle.std.specs.List.{AllByRecursion}
@@ -14,7 +14,7 @@ use Rattle.votes.specs.Units.{max_papers, one_vote}
 use Rattle.paper.specs.Columns.{max_candidates}
 use Rattle.count.specs.Books.{AreRankings}
 use Rattle.count.specs.Bundles.{Bundle, list_cmp, papers_of, with_papers, bundled, IsBundle, AreBundles}
-use Rattle.count.specs.Kept.{IsKeptOf, places_after}
+use Rattle.count.specs.StoredCounts.{IsStoredCountOf, places_after}
 use Rattle.count.specs.Law.Contest.{History}
 use Rattle.count.specs.Law.Right.{IsRightForSome}
 use Rattle.count.specs.Marks.{figures_at, all_figures}
@@ -29,16 +29,16 @@ use Rattle.register.specs.Offices.{WardEntry, OfficeState, ward_at, candidates_o
 use Rattle.register.specs.Marks.{columns_of}
 use Rattle.register.specs.Polls.{piles_of}
 use Rattle.register.specs.Elections.{ElectionEntry, election_of, has_count, contest_of, stages_of}
-use Rattle.register.specs.Items.{IsState}
+use Rattle.register.specs.StateConditions.{IsState}
 use Rattle.register.specs.Tabulated.{PlacedEntry, FigureEntry, AreOfCount, bundle_of, placed_of, shown_of, placed_after, bundles_in, figure_at, figures_to, figures_in, has_stages}
 use Rattle.register.proofs.MapLemmas.{each_weaker}
 use Rattle.register.proofs.ContestLemmas.{columns_are_set, papers_are_rankings, papers_have_some, contest_is_fair}
 
--- what is left of a list is its next entry, and what is left behind that
+-- the rest of a list is its next element, followed by the rest after that
 pub left_at : {X : Type 0} (xs : List X) (i : ℕ) (x : X) → i < length xs → x ≡ get_or xs i x → drop i xs ≡ x ∷ drop (i + 1) xs
 left_at xs i x within is = drop-cons xs i x within ∙ ap (λ y. y ∷ drop (suc i) xs) (sym is) ∙ ap (λ n. x ∷ drop n xs) (sym (add-one i))
 
--- ---- bundles that come in their order, one after the other
+-- ---- bundles in their order, one at a time
 
 at_end : (bs rest : List Bundle) (b : Bundle) → IsStrictlySortedBy list_cmp (keys_of (bs ++ b ∷ rest)) → with_papers bs b.0 b.1 ≡ bs ++ b ∷ []
 unfolding IsStrictlySortedBy
@@ -51,7 +51,7 @@ at_end (c ∷ bs) rest b up =
     below [] above = above.0
     below (d ∷ ds) above = below ds above.1
 
--- the next one of all bundles comes behind those before it
+-- the next of all bundles follows those before it
 pub next_bundle : (all bs new rest : List Bundle) (b : Bundle) → AreBundles all → all ≡ bs ++ b ∷ rest → new ≡ with_papers bs b.0 b.1 → all ≡ new ++ rest
 next_bundle all bs new rest b are left more =
     let up : IsStrictlySortedBy list_cmp (keys_of (bs ++ b ∷ rest)) = subst (λ (cs : List Bundle). IsStrictlySortedBy list_cmp (keys_of cs)) left are.rise in
@@ -70,7 +70,7 @@ pub next_fits : (all bs rest : List Bundle) (b : Bundle) → AreBundles all → 
 next_fits all bs rest b are few left =
     (each_behind bs rest b (subst (AllByRecursion IsBundle) left are.each), omega (arith, papers_behind bs rest b, few, ap (λ (cs : List Bundle). length (papers_of cs)) left))
 
--- ---- what is read back from what an election has
+-- ---- what is read back from the tabulation of an election
 
 bundled_again : (e : ElectionEntry) (bs : List Bundle) → map bundle_of (map (placed_after e (stages_of e)) bs) ≡ bs
 bundled_again e [] = refl
@@ -123,9 +123,9 @@ module _ (e : ElectionEntry) (candidates : List ℕ) (seats : ℕ) (bundles : Li
   pub right_so_far : IsRightForSome (contest_of e) (stages_of e)
   right_so_far = record { lots = e.lots; right = stages_right (contest_of e) e.lots e.ward.done }
 
-  -- what is read back is kept of the count
+  -- what is read back is what was stored of the count
   pub kept_again : (kept : List Bundle) (places : List Placed) (stages : List Stage) → kept ≡ map bundle_of bundles → places ≡ map placed_of bundles → stages ≡ reverse (stages_of e)
-      → IsKeptOf (contest_of e) (stages_of e) (record { candidates = candidates; seats = seats; bundles = kept; places = places; stages = stages })
+      → IsStoredCountOf (contest_of e) (stages_of e) (record { candidates = candidates; seats = seats; bundles = kept; places = places; stages = stages })
   kept_again kept places stages same lie done = record {
     fair = of.fair;
     right = right_so_far;
@@ -136,9 +136,9 @@ module _ (e : ElectionEntry) (candidates : List ℕ) (seats : ℕ) (bundles : Li
     stages_are = done;
   }
 
--- ---- at a state
+-- ---- in a state
 
--- the bundles of papers that have preferences, each once, are bundles
+-- the bundles of papers that each rank at least one candidate, without repetition, are bundles
 bundles_from : (bs : List Bundle) (papers : List (List ℕ)) → AreBundles bs → AllByRecursion (λ (paper : List ℕ). 1 ≤ length paper) papers → AreRankings papers
     → AreBundles (fold (λ cs paper. with_papers cs paper 1) bs papers)
 bundles_from bs [] are some ranked = are

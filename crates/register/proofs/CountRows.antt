@@ -16,19 +16,19 @@ use Rattle.register.specs.declared.refusal.Reason.TheVariants.{NumberOutOfRange,
 use Rattle.register.specs.Ranges.{is_id}
 use Rattle.register.specs.Texts.{listed}
 use Rattle.register.specs.Offices.{WardEntry, KeyedEntry, JudgedEntry, LotEntry, ReceiptEntry, OfficeState}
-use Rattle.register.specs.Papers.{same_marks}
+use Rattle.register.specs.Agreement.{same_marks}
 use Rattle.register.specs.Polls.{piles_of, judgements, poll_of}
 use Rattle.register.specs.Elections.{election_of, due_of}
-use Rattle.register.specs.Items.{all_agreed, all_counted}
+use Rattle.register.specs.StateConditions.{all_agreed, all_counted}
 use Rattle.register.specs.Counts as counts
 use Rattle.register.specs.Machine.{accepted, refused, step, decided}
 
 abbrev ward : Phase → ℕ → ℕ → WardEntry
 ward phase seats done = record { number = 7; seats = seats; phase = phase; done = done; name = codes "Harbour" }
 
--- ---- three candidates for two seats, and a batch of two papers, which both clerks keyed alike: the second one is doubtful
+-- ---- three candidates for two seats, and a batch of two papers on which both clerks' keyings agree: the second one is doubtful
 
--- the papers as a clerk keyed them
+-- the papers as keyed by a clerk
 abbrev keyed : ℕ → List KeyedEntry
 keyed clerk =
     record { batch = 12; round = 1; clerk = clerk; paper = 1; marks = codes "1,2," } ∷ record { batch = 12; round = 1; clerk = clerk; paper = 2; marks = codes "D" } ∷ []
@@ -93,7 +93,7 @@ sealed_void = refl
 
 -- ---- two candidates for one seat, without papers
 
--- so many stages are done
+-- with this number of stages done
 abbrev quiet : Phase → ℕ → List LotEntry → List ReceiptEntry → OfficeState
 quiet phase done lots receipts =
     record {
@@ -113,7 +113,7 @@ receipt subject reply = record { actor = 0; id = codes "c1"; subject = subject; 
 abbrev lot : ℕ → List LotEntry
 lot candidate = record { ward = 7; stage = 2; candidate = candidate } ∷ []
 
--- what the office asks
+-- a command of the office
 abbrev asked : CountCommand → Command
 asked command = commands.Count command
 
@@ -182,13 +182,13 @@ declared : step (quiet Sealed 2 (lot 1) []) 0 (codes "c1") (asked (Declare 7))
 unfolding step decided is_id counts.subject_of counts.reply_to stages_to listed digits
 declared = refl
 
--- ---- which are states
+-- ---- which of these are states
 
 counted : all_counted (quiet Sealed 2 (lot 1) []) ≡ true
 unfolding all_counted stages_to
 counted = refl
 
--- a stage for which the lot wasn't drawn
+-- a stage whose lot wasn't drawn
 counted_without_lot : all_counted (quiet Sealed 2 [] []) ≡ false
 unfolding all_counted stages_to
 counted_without_lot = refl

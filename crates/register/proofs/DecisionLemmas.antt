@@ -1,4 +1,4 @@
--- What an accepted request adds makes of the tabulation of a state that of the state after it.
+-- The tabulation of a state, and what an accepted request adds, make up the tabulation of the next state.
 use Rattle.std.proofs.Common.{◌≡◌, ℕ, ◌+◌, Bool, true, false, cond, List, Option, Some, None, Result, Ok, Err, option_map, string_bytes, refl, sym, ap, subst, ◌∙◌}
 use Rattle.std.specs.Result.{IfOk}
 use Rattle.std.specs.Str.{bytes_eq}
@@ -14,7 +14,7 @@ use Rattle.register.specs.declared.candidates.CandidateCommand.TheVariants.{With
 use Rattle.register.specs.declared.batches.BatchCommand.TheVariants.{Again}
 use Rattle.register.specs.declared.counts.CountCommand.TheVariants.{Advance}
 use Rattle.register.specs.declared.elections.Count.{Count as CountValue}
-use Rattle.register.specs.declared.tabulated.Addition.{Addition}
+use Rattle.register.specs.declared.tabulations.Addition.{Addition}
 use Rattle.register.specs.declared.decision.Change.{Change}
 use Rattle.register.specs.declared.decision.Decision.{Decision}
 use Rattle.register.specs.declared.decision.Decision.TheVariants.{Accepted, Kept, Refused}
@@ -22,11 +22,11 @@ use Rattle.register.specs.declared.view.View.{View}
 use Rattle.register.specs.Reasons.{first_reason}
 use Rattle.register.specs.Ranges.{is_id}
 use Rattle.register.specs.Offices.{WardEntry, ReceiptEntry, OfficeState, ward_at, receipt_at, receipt_entry}
-use Rattle.register.specs.Items.{IsState}
+use Rattle.register.specs.StateConditions.{IsState}
 use Rattle.register.specs.Effects.{EffectEntry, ChangeEntry, stage_counted, with_effect, with_receipt, with_change, change_entry}
 use Rattle.register.specs.Counts.{next_stage}
 use Rattle.register.specs.Elections.{election_of}
-use Rattle.register.specs.Parts.{part_entries}
+use Rattle.register.specs.CommandInputs.{input_entries}
 use Rattle.register.specs.Machine.{accepts, keeps, refuses, part_of, objections, subject_of, reply_to, effect_of, receipt_for, judged, answered, decided, ruling_at}
 use Rattle.register.specs.Tabulated.{AdditionEntries, no_addition, addition_entries, with_addition, tabulation_of, SameTabulation, IsCountFor, AddsWhatIsCounted}
 use Rattle.register.specs.Additions.{addition_at, addition_due, IsAddedBy, IsAddedFor, DecidesAddition, IsAddedAt, AddsNoMore}
@@ -36,7 +36,7 @@ use Rattle.register.proofs.CountLemmas.{HasStageDue, advance_due}
 use Rattle.register.proofs.AdditionLemmas.{stage_tabulated}
 use Rattle.register.proofs.MachineLemmas.{fits, ruling_on}
 
--- what two facts of a value say together
+-- two facts of a value, combined
 pub IfOk-both : {X Y : Type 0} (r : Result X Y) (P Q R : X → Type 0) → ((x : X) → P x → Q x → R x) → IfOk r P → IfOk r Q → IfOk r R
 IfOk-both (Ok x) P Q R both first second = both x first second
 IfOk-both (Err y) P Q R both first second = tt
@@ -46,12 +46,12 @@ of_receipt : (r : ReceiptEntry) (s : OfficeState) → tabulation_of (with_receip
 unfolding tabulation_of
 of_receipt r s = refl
 
--- nothing added, where the tabulation stays
+-- adding nothing, if the tabulation is unchanged
 nothing_added : (s t : OfficeState) (addition : AdditionEntries) → addition ≡ no_addition → tabulation_of t ≡ tabulation_of s
     → SameTabulation (with_addition addition (tabulation_of s)) (tabulation_of t)
 nothing_added s t addition none same = rw (none, same) (record { bundles = IsPermutation-refl _; figures = IsPermutation-refl _ })
 
--- rulings that accept are one only for one change
+-- two accepting rulings are equal only if their changes are
 same_change : (c d : ChangeEntry) (r t : List ℕ) → accepts c r ≡ accepts d t → c ≡ d
 same_change c d r t same = cc
 
@@ -59,7 +59,7 @@ module _ (s : OfficeState) (actor : ℕ) (id : List ℕ) (command : Command) whe
   abbrev own_change : ChangeEntry
   own_change = record { effect = effect_of actor command (part_of s actor command); receipt = receipt_for actor id command (part_of s actor command) }
 
-  -- a request is accepted: its id has no receipt, nothing stands against its command, and this is the change
+  -- a request is accepted: its id has no receipt, there is no objection to its command, and this is the change
   record IsAccepted (change : ChangeEntry) : Type 0 where
     new : receipt_at s actor id ≡ None
     free : first_reason (objections actor command (part_of s actor command)) ≡ None
@@ -90,14 +90,14 @@ module _ (s : OfficeState) (actor : ℕ) (is : IsState s) (receipt : ReceiptEntr
   abbrev IsTold : EffectEntry → Type 0
   IsTold effect = SameTabulation (with_addition (addition_entries addition) (tabulation_of s)) (tabulation_of (with_receipt receipt (with_effect effect s)))
 
-  -- a command that adds nothing, and leaves the tabulation
+  -- a command that adds nothing and leaves the tabulation as it is
   stays : (command : Command) → addition_entries addition ≡ no_addition → tabulation_of (with_effect (effect_of actor command (part_of s actor command)) s) ≡ tabulation_of s
       → IsTold (effect_of actor command (part_of s actor command))
   stays command none same =
       let later = with_effect (effect_of actor command (part_of s actor command)) s in
       nothing_added s (with_receipt receipt later) (addition_entries addition) none (of_receipt receipt later ∙ same)
 
-  -- an Advance adds the stage of the action that is due,
+  -- an Advance adds the stage of the action due,
   stage_alone : (ward : ℕ) → IsCountFor s (Count (Advance ward)) shown → IsAddedFor (Count (Advance ward)) shown addition → (due : HasStageDue s ward)
       → addition_entries addition ≡ addition_at (election_of s due.own) due.action
   stage_alone ward count adds due =
@@ -132,14 +132,14 @@ module _ (s : OfficeState) (actor : ℕ) (is : IsState s) (receipt : ReceiptEntr
 -- ---- a decision
 
 module _ (s : OfficeState) (view : View) (command : Command) where
-  -- a change that is decided on a view of the state is that of an accepted request
+  -- a change decided on a view of the state is that of an accepted request
   decided_there : (change : Change) (reply : String Global) → IsViewOf s command view → ruling_of (Accepted change reply) ≡ decided_on view command
       → IsAccepted s view.actor view.id.now command (change_entry change)
   decided_there change reply shows same =
       is_accepted s view.actor view.id.now command (change_entry change) (string_bytes reply)
-      (sym (same ∙ ruling_on s view.actor view.id.now command (option_map receipt_entry view.receipt) (part_entries view.part) shows.receipt shows.part))
+      (sym (same ∙ ruling_on s view.actor view.id.now command (option_map receipt_entry view.receipt) (input_entries view.part) shows.receipt shows.part))
 
-  -- what is decided on a view of a state adds to the tabulation what is counted,
+  -- a decision on a view of a state adds what is counted to the tabulation,
   pub adds_counted : (decision : Decision) → IsState s → IsViewOf s command view → ruling_of decision ≡ decided_on view command → DecidesAddition command view.part.count decision
       → AddsWhatIsCounted s decision
   adds_counted (Accepted change reply) is shows same adds =

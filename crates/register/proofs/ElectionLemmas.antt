@@ -1,4 +1,4 @@
--- Elections and their counts: what keeps what is done of a count right.
+-- Elections and their counts: what keeps a count right as far as it is done.
 use Rattle.std.proofs.Common.{◌≡◌, ℕ, suc, Bool, true, false, Some, cond, not, ◌&&◌, ◌||◌, ◌==◌, List, [], ◌∷◌, length, map, None, is_some, refl, ap, ◌∙◌, arith}
 use Rattle.std.specs.List.{list_all}
 use Rattle.std.proofs.lemmas.Bool.{and_parts, and_from, eqb-true}
@@ -8,20 +8,20 @@ use Rattle.register.specs.Marks.{columns_of}
 use Rattle.register.specs.Polls.{Pile, ballots_in}
 use Rattle.register.specs.Elections.{ElectionEntry, lot_pair, election_of, has_count, stages_of, is_counted, is_drawn_for, is_declared, is_right_so_far, is_in_count, is_uncounted, is_agreed}
 use Rattle.register.specs.Elections.{is_counted_right}
-use Rattle.register.specs.Items.{all_agreed, all_counted, IsState}
+use Rattle.register.specs.StateConditions.{all_agreed, all_counted, IsState}
 use Rattle.register.proofs.MapLemmas.{list_all_weaker, list_all_both, filter_none, found_passes}
 
 -- ---- the sixth and the seventh condition, for a ward
 
--- an election that has its batches settled where it is in count, and whose count is right
+-- an election whose batches are settled if it is in count, and whose count is right
 abbrev pub is_sound : ElectionEntry → Bool
 is_sound e = is_agreed e && is_counted_right e
 
--- each election of a state is
+-- every election of a state is sound
 abbrev pub are_sound : OfficeState → Bool
 are_sound s = list_all (λ w. is_sound (election_of s w)) s.wards
 
--- the lots of a state belong to wards that are there
+-- the lots of a state belong to existing wards
 abbrev pub are_lots_placed : OfficeState → Bool
 are_lots_placed s = list_all (λ l. is_some (ward_at s l.ward)) s.lots
 
@@ -43,7 +43,7 @@ pub counted_from : (s : OfficeState) → are_lots_placed s ≡ true → are_soun
 unfolding all_counted
 counted_from s placed sound = and_from _ _ placed (list_all_weaker (λ w. is_sound (election_of s w)) (λ w. is_counted_right (election_of s w)) s.wards (λ w both. (and_parts _ _ both).1) sound)
 
--- where there is no ward of a number, there are no lots of it
+-- if there is no ward with this number, it has no lots
 pub no_lots_of : (s : OfficeState) (n : ℕ) → are_lots_placed s ≡ true → ward_at s n ≡ None → lots_of s n ≡ []
 no_lots_of s n placed none =
     filter_none (λ (l : LotEntry). l.ward == n) s.lots (list_all_weaker (λ l. is_some (ward_at s l.ward)) (λ l. not (l.ward == n)) s.lots (λ l there. go l (l.ward == n) refl there) placed)
@@ -54,7 +54,7 @@ no_lots_of s n placed none =
         let lost : ward_at s l.ward ≡ None = ap (ward_at s) (eqb-true l.ward n same) ∙ none in
         absurd (let nowhere = rw lost at there in cc)
 
--- at a state each batch of a ward in count is settled
+-- in a state every batch of a ward in count is settled
 pub settled_in_count : (s : OfficeState) (w : WardEntry) → IsState s → ward_at s w.number ≡ Some w → is_in_count (election_of s w) ≡ true → (election_of s w).ballots.settled ≡ true
 unfolding all_agreed
 settled_in_count s w is there counted = go (is_in_count (election_of s w)) counted (found_passes (ward_compared w.number) (λ x. is_agreed (election_of s x)) w s.wards is.agreed there)
@@ -68,14 +68,14 @@ settled_in_count s w is there counted = go (is_in_count (election_of s w)) count
 abbrev pub election_with : WardEntry → List CandidateEntry → List Pile → List LotEntry → ElectionEntry
 election_with w candidates piles lots = record { ward = w; candidates = candidates; ballots = ballots_in (columns_of candidates) piles; lots = map lot_pair lots }
 
--- other candidates of its ward, or other piles, are all that can change an election
+-- only other candidates, other piles or other lots can change the election of a ward
 pub same_election : (w : WardEntry) (cs ds : List CandidateEntry) (ps qs : List Pile) (ks ls : List LotEntry) → cs ≡ ds → ps ≡ qs → ks ≡ ls → election_with w cs ps ks ≡ election_with w ds qs ls
 same_election w cs ds ps qs ks ls candidates piles lots =
     ap (λ (xs : List CandidateEntry). election_with w xs ps ks) candidates ∙ ap (λ (xs : List Pile). election_with w ds xs ks) piles ∙ ap (election_with w ds qs) lots
 
 -- ---- before a count
 
--- an election that isn't in count is sound just where nothing is done
+-- an election that isn't in count is sound if nothing is done
 pub sound_before : (e : ElectionEntry) → is_in_count e ≡ false → is_uncounted e ≡ true → is_sound e ≡ true
 sound_before e before none = rw before none
 
@@ -100,7 +100,7 @@ uncontested e none = go (is_counted e.ward.phase)
 
 -- ---- in a count
 
--- an election in count is sound just where its batches are settled, and what is done is right
+-- an election in count is sound if its batches are settled and what is done is right
 pub sound_in : (e : ElectionEntry) → is_in_count e ≡ true → e.ballots.settled ≡ true → is_right_so_far e ≡ true → is_sound e ≡ true
 sound_in e counted settled right = and_from (is_agreed e) (is_counted_right e) (agreed (is_in_count e) settled) (counting (is_in_count e) counted)
   where
@@ -112,7 +112,7 @@ sound_in e counted settled right = and_from (is_agreed e) (is_counted_right e) (
     counting true is = right
     counting false is = absurd (cc)
 
--- what is right so far, one by one
+-- the parts of being right so far
 pub record IsRightSoFar (e : ElectionEntry) : Type 0 where
   pub settled : e.ballots.settled ≡ true
   pub stages : length (stages_of e) ≡ e.ward.done
@@ -135,7 +135,7 @@ right_in e counted sound =
 
 -- ---- a ward sealed
 
--- with no stage done and no lot, what is done is right
+-- without stages done and lots, what is done is right
 pub right_at_start : (e : ElectionEntry) → is_uncounted e ≡ true → is_declared e.ward.phase ≡ false → is_right_so_far e ≡ true
 unfolding stages_to
 right_at_start e none open_ =

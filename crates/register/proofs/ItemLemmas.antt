@@ -1,4 +1,4 @@
--- What may be put into the maps of a state, so that there is a state again.
+-- What may be put into the maps of a state so that the result is a state.
 use Rattle.std.proofs.Common.{◌≡◌, ℕ, Bool, true, false, not, ◌&&◌, ◌||◌, ◌==◌, List, Option, Some, None, is_some, refl}
 use Rattle.std.specs.Str.{is_utf8}
 use Rattle.std.specs.List.{list_all}
@@ -11,8 +11,9 @@ use Rattle.register.specs.declared.phase.Phase.TheVariants.{Nominations}
 use Rattle.register.specs.Nominations.{are_enough}
 use Rattle.register.specs.Offices.{put, WardEntry, CandidateEntry, BatchEntry, ThirdEntry, KeyedEntry, JudgedEntry, LotEntry, ReceiptEntry, OfficeState, ward_cmp, candidate_cmp, batch_cmp}
 use Rattle.register.specs.Offices.{third_cmp, keyed_cmp, judged_cmp, lot_cmp, receipt_cmp, ward_compared, ward_at, candidates_of, receipt_at}
-use Rattle.register.specs.Keyed.{is_polled, is_given_out, is_round_of, are_rounds_to}
-use Rattle.register.specs.Items.{is_ward, is_candidate, is_batch, is_third, is_keyed_paper, is_judged_paper, is_lot, is_about, is_receipt, all_nominated, all_given_out, all_keyed, all_judged, IsState}
+use Rattle.register.specs.BatchConditions.{is_polled, is_given_out, is_round_of, are_rounds_to}
+use Rattle.register.specs.StateConditions.{is_ward, is_candidate, is_batch, is_third, is_keyed_paper, is_judged_paper, is_lot}
+use Rattle.register.specs.StateConditions.{is_about, is_receipt, all_nominated, all_given_out, all_keyed, all_judged, IsState}
 use Rattle.register.specs.Elections.{election_of, is_uncounted}
 use Rattle.register.specs.Effects.{EffectEntry, ward_added, with_effect, with_receipt}
 use Rattle.register.proofs.MapLemmas.{IsMap, list_all_weaker, put_all, put_is_map, found_put_too, found_put_still}
@@ -58,7 +59,7 @@ pub data MapName : Type 0 where
   lot_map : MapName
   receipt_map : MapName
 
--- what a state says of each of its maps
+-- the condition of a state on each of its maps
 abbrev pub Holds : MapName → OfficeState → Type 0
 Holds ward_map s = IsMap is_ward ward_cmp s.wards
 Holds candidate_map s = IsMap is_candidate candidate_cmp s.candidates
@@ -91,7 +92,7 @@ maps_of {s} is m =
     go wards candidates batches thirds keyings verdicts lots receipts lot_map = record { in_range = lots; rises = is.rise.lots }
     go wards candidates batches thirds keyings verdicts lots receipts receipt_map = record { in_range = receipts; rises = is.rise.receipts }
 
--- the conditions of a state beside those of each map alone
+-- the conditions of a state other than those on each map alone
 pub record AreJoined (s : OfficeState) : Type 0 where
   pub nominated : all_nominated s ≡ true
   pub given_out : all_given_out s ≡ true
@@ -125,26 +126,26 @@ state_from s maps joined = record {
       };
 }
 
--- the rounds of the batches are those of a state with the same batches, keyings and candidates
+-- the rounds of the batches are still right in a state with the same batches, keyings and candidates
 pub rounds_still : (s t : OfficeState) (bs : List BatchEntry) → ((b : BatchEntry) (m : ℕ) → is_round_of s b m ≡ true → is_round_of t b m ≡ true) → list_all (λ b. are_rounds_to s b b.round) bs ≡ true
     → list_all (λ b. are_rounds_to t b b.round) bs ≡ true
 rounds_still s t bs each all = list_all_weaker _ _ bs (λ b rounds. rounds_from s t b b b.round (each b) rounds) all
 
 -- ---- wards and their candidates
 
--- whether the candidates of a state belong to wards that are there
+-- whether the candidates of a state belong to existing wards
 abbrev pub are_placed : OfficeState → Bool
 are_placed s = list_all (λ c. is_some (ward_at s c.ward)) s.candidates
 
--- what a test of a ward and its candidates says of each ward
+-- a test of every ward and its candidates
 abbrev pub are_all : (WardEntry → List CandidateEntry → Bool) → OfficeState → Bool
 are_all test s = list_all (λ w. test w (candidates_of s w.number)) s.wards
 
--- whether a ward has the candidates that its phase asks for
+-- whether a ward has the candidates that its phase requires
 abbrev pub has_enough : WardEntry → List CandidateEntry → Bool
 has_enough w candidates = are_enough w.phase w candidates
 
--- a ward in range, in its nominations, of a number that is new
+-- a ward with a new number, in range and in its nominations
 pub ward_stays : (s : OfficeState) (w : WardEntry) → is_ward w ≡ true → w.phase ≡ Nominations → w.done ≡ 0 → ward_at s w.number ≡ None → IsState s → IsState (with_effect (ward_added w) s)
 ward_stays s w good phase done new is =
     let placed = and_parts (are_placed s) (are_all has_enough s) is.nominated in
@@ -182,7 +183,7 @@ ward_stays s w good phase done new is =
       candidates = refl;
     }
 
--- a receipt in range, of an actor and id that have none
+-- a receipt in range, of an actor and id without one
 pub receipt_stays : (s : OfficeState) (r : ReceiptEntry) → is_receipt r ≡ true → receipt_at s r.actor r.id ≡ None → IsState s → IsState (with_receipt r s)
 receipt_stays s r good new is =
     let parts = and_parts _ _ is.keyed in
@@ -202,8 +203,8 @@ receipt_stays s r good new is =
     maps receipt_map = put_is_map receipt_total r s.receipts good new (maps_of is receipt_map)
     maps m = maps_of is m
 
--- An effect that leads to a state again, of the same tabulation where it counts no stage, with a subject and a reply that its actor's
--- receipt may have: what each command comes to where nothing stands against it.
+-- An effect that leads to a state, with the same tabulation unless it counts a stage, and with a subject and a reply that its actor's receipt may have:
+-- the result of each command without objections.
 pub record IsFit (s : OfficeState) (actor : ℕ) (effect : EffectEntry) (subject reply : List ℕ) : Type 0 where
   pub state : IsState (with_effect effect s)
   pub tabulated : KeepsTabulation s effect
@@ -216,11 +217,11 @@ pub same_receipts : (effect : EffectEntry) (s : OfficeState) → (with_effect ef
 same_receipts (ward_added w) s = refl
 same_receipts effect s = refl
 
--- what a receipt of the office may be about
+-- the subjects of the office's receipts
 pub office_about : (actor : ℕ) (subject : List ℕ) → is_office actor ≡ true → is_office_subject subject ≡ true → is_about actor subject ≡ true
 office_about actor subject office about = rw (office, about) refl
 
--- what a receipt of a clerk may be about
+-- the subjects of a clerk's receipts
 pub clerk_about : (actor : ℕ) (subject : List ℕ) → is_clerk actor ≡ true → is_clerk_subject subject ≡ true → is_about actor subject ≡ true
 clerk_about actor subject clerk about = rw (clerk, about) (go (is_office actor && is_office_subject subject))
   where

@@ -1,19 +1,19 @@
--- What batches, keyings and verdicts rest on, and that they are those of a state still where this is as it was.
+-- What batches, keyings and verdicts depend on, and that they still meet the conditions on a state if that is unchanged.
 use Rattle.std.proofs.Common.{◌≡◌, ℕ, ◌+◌, ◌≤◌, zero, suc, Bool, true, false, ◌&&◌, ◌||◌, nat_le, List, [], ◌∷◌, ◌++◌, arith, Option, Some, None, refl, sym, ap, ◌∙◌}
 use Rattle.std.specs.List.{list_all, range_with_len}
 use Rattle.std.proofs.lemmas.List.Folds.{list_all-append}
 use Rattle.std.proofs.lemmas.Bool.{and_parts, and_from}
 use Rattle.register.specs.Offices.{WardEntry, CandidateEntry, BatchEntry, KeyedEntry, JudgedEntry, OfficeState, batch_compared, candidates_of, batch_at, third_at, verdicts_of}
 use Rattle.register.specs.Marks.{columns_of, is_readable}
-use Rattle.register.specs.Papers.{agreed, differ, has_doubtful, is_its_clerk, is_taken, keyings_in, keyings_now, taken_papers}
+use Rattle.register.specs.Agreement.{agreed, differ, has_doubtful, is_its_clerk, is_taken, keyings_in, keyings_now, taken_papers}
 use Rattle.register.specs.Polls.{Pile, pile_of}
-use Rattle.register.specs.Keyed.{is_given_out, is_keyed_for, is_whole, is_round_of, are_rounds_to, is_verdict_on, is_judged}
+use Rattle.register.specs.BatchConditions.{is_given_out, is_keyed_for, is_whole, is_round_of, are_rounds_to, is_verdict_on, is_judged}
 use Rattle.register.specs.Ranges.{is_clerk, is_ward_number, is_batch_number, is_paper_number, is_round}
-use Rattle.register.specs.Items.{is_batch, all_given_out, all_keyed, all_judged, IsState}
+use Rattle.register.specs.StateConditions.{is_batch, all_given_out, all_keyed, all_judged, IsState}
 use Rattle.register.proofs.ThreeKeyingsLemmas.{not_keyed}
 use Rattle.register.proofs.MapLemmas.{list_all_weaker, list_all_both, found_passes}
 
--- rounds that are those of a batch one by one are so together
+-- rounds that are right one by one are right together
 pub rounds_from : (s t : OfficeState) (b c : BatchEntry) (n : ℕ) → ((m : ℕ) → is_round_of s b m ≡ true → is_round_of t c m ≡ true) → are_rounds_to s b n ≡ true → are_rounds_to t c n ≡ true
 unfolding are_rounds_to
 rounds_from s t b c n each all = list_all_weaker (is_round_of s b) (is_round_of t c) (range_with_len 1 n) each all
@@ -81,27 +81,26 @@ no_verdicts s b untaken (v ∷ vs) judged = absurd (lost (taken_papers s b) (not
 
 -- ---- a batch's file
 
--- What a state has of a batch beside its entry is as it was in another one: the candidates of its ward, its keyings, and the verdicts
--- on its papers.
+-- What a state has of a batch apart from its entry is the same in another state: the candidates of its ward, its keyings, and the verdicts on its papers.
 pub record HasSameFile (s t : OfficeState) (b : BatchEntry) : Type 0 where
   pub candidates : candidates_of t b.ward ≡ candidates_of s b.ward
   pub keyings : (round : ℕ) → keyings_in t b round ≡ keyings_in s b round
   pub verdicts : verdicts_of t b.number ≡ verdicts_of s b.number
 
 module _ (s t : OfficeState) (b : BatchEntry) (same : HasSameFile s t b) where
-  -- so its pile is,
+  -- so its pile is the same,
   pub pile_kept : pile_of t b ≡ pile_of s b
   pile_kept = ap (λ (ks : List (List KeyedEntry)). pile_with ks (verdicts_of t b.number)) (same.keyings b.round) ∙ ap (pile_with (keyings_now s b)) same.verdicts
     where
       pile_with : List (List KeyedEntry) → List JudgedEntry → Pile
       pile_with keyings verdicts = record { keyings = keyings; verdicts = verdicts }
 
-  -- its rounds are those of a state,
+  -- its rounds still meet the conditions on a state,
   pub rounds_kept : are_rounds_to s b b.round ≡ true → are_rounds_to t b b.round ≡ true
   rounds_kept rounds =
       rounds_from s t b b b.round (λ m holds. ap (λ (ks : List (List KeyedEntry)). list_all (is_whole b.size) ks && (nat_le b.round m || differ ks)) (same.keyings m) ∙ holds) rounds
 
-  -- and so are its verdicts
+  -- and so do its verdicts
   pub judged_kept : is_judged s b (verdicts_of s b.number) ≡ true → is_judged t b (verdicts_of t b.number) ≡ true
   judged_kept judged =
       ap (λ (cs : List CandidateEntry). judged_by cs (keyings_now t b) (verdicts_of t b.number)) same.candidates
@@ -118,7 +117,7 @@ module _ (s t : OfficeState) (b : BatchEntry) (same : HasSameFile s t b) where
 abbrev pub with_nominations : List WardEntry → List CandidateEntry → OfficeState → OfficeState
 with_nominations wards candidates s = record s { wards = wards; candidates = candidates }
 
--- a batch is given out still, and its ward has the candidates that it had
+-- a batch is still given out, and its ward has the same candidates
 pub record IsStill (s t : OfficeState) (b : BatchEntry) : Type 0 where
   pub given_out : is_given_out t b ≡ true
   pub candidates : candidates_of t b.ward ≡ candidates_of s b.ward

@@ -1,4 +1,4 @@
--- The command of a clerk, where nothing stands against it, leads from a state to a state, and leaves a receipt in range.
+-- The clerks' command without objections leads from a state to a state, and leaves a receipt in range.
 use Rattle.std.proofs.Common.{rules, inl, inr, ◌≡◌, ◌⊎◌, ℕ, suc, ◌+◌, ◌<◌, ◌≤◌, Bool, true, false, not, ◌&&◌, ◌||◌, ◌==◌, ◌++◌, nat_le, codes, List, [], ◌∷◌, length, map, filter, Option}
 use Rattle.std.proofs.Common.{Some, None, Result, Ok, Err, string_bytes, refl, sym, ap, subst, ◌∙◌, arith}
 use Rattle.std.specs.Fmt.{decimal}
@@ -23,14 +23,14 @@ use Rattle.register.specs.declared.keyings.KeyingCommand.{KeyingCommand}
 use Rattle.register.specs.Reasons.{first_reason}
 use Rattle.register.specs.Subjects.{is_clerk_subject}
 use Rattle.register.specs.Batches.{ward_for, candidates_for, third_for}
-use Rattle.register.specs.Parts.{passes}
+use Rattle.register.specs.CommandInputs.{passes}
 use Rattle.register.specs.Verdicts.{is_rejection_code}
 use Rattle.register.specs.Marks.{columns_of, is_read, is_readable, is_valid, fault_told, marks_objection, first_bad_marks, or_reason}
 use Rattle.register.specs.Ranges.{last_batch, last_round, most_papers, is_clerk, is_batch_number, is_paper_number, is_round}
 use Rattle.register.specs.Offices.{BatchEntry, KeyedEntry, JudgedEntry, OfficeState, put, put_each, entry_at, keyed_cmp, batch_compared, batch_at, third_at, keying_of, verdicts_of}
-use Rattle.register.specs.Papers.{is_keyed, of_three, agreed, differ, has_doubtful, is_its_clerk, clerks_of, keyings_in, keyings_now, taken_papers}
-use Rattle.register.specs.Keyed.{columns_for, is_keyed_for, are_numbered, is_whole, is_round_of, are_rounds_to, is_verdict_for, is_judged}
-use Rattle.register.specs.Items.{is_keyed_paper, IsState}
+use Rattle.register.specs.Agreement.{is_keyed, of_three, agreed, differ, has_doubtful, is_its_clerk, clerks_of, keyings_in, keyings_now, taken_papers}
+use Rattle.register.specs.BatchConditions.{columns_for, is_keyed_for, are_numbered, is_whole, is_round_of, are_rounds_to, is_verdict_for, is_judged}
+use Rattle.register.specs.StateConditions.{is_keyed_paper, IsState}
 use Rattle.register.specs.Effects.{papers_keyed, with_effect}
 use Rattle.register.specs.Tabulated.{tabulation_of}
 use Rattle.register.specs.Keyings.{texts_of, part_of, is_in_range, objections, subject_of, reply_to, papers_from, effect_of}
@@ -52,7 +52,7 @@ use Rattle.register.proofs.BatchLemmas.{found_in_range}
 abbrev is_of : ℕ → ℕ → ℕ → KeyedEntry → Bool
 is_of batch round clerk k = (k.batch == batch) && ((k.round == round) && (k.clerk == clerk))
 
--- papers of a keying with numbers below one
+-- papers of a keying with numbers below this one
 abbrev AreBelow : ℕ → ℕ → ℕ → ℕ → List KeyedEntry → Type 0
 AreBelow batch round clerk paper ks = AllByRecursion (λ k. (is_of batch round clerk k ≡ true) × (k.paper < paper)) ks
 
@@ -63,13 +63,13 @@ module _ (batch round clerk : ℕ) where
   length-papers paper [] = refl
   length-papers paper (marks ∷ others) = ap suc (length-papers (paper + 1) others)
 
-  -- numbered one after the other,
+  -- numbered consecutively,
   pub numbered : (paper : ℕ) (texts : List (List ℕ)) → are_numbered paper (papers_from batch round clerk paper texts) ≡ true
   unfolding papers_from are_numbered
   numbered paper [] = refl
   numbered paper (marks ∷ others) = and_from _ _ (eq-eqb paper paper refl) (numbered (paper + 1) others)
 
-  -- each of them of it,
+  -- all belonging to it,
   each_of : (test : ℕ → ℕ → ℕ → Bool) → test batch round clerk ≡ true → (paper : ℕ) (texts : List (List ℕ))
       → list_all (λ k. test k.batch k.round k.clerk) (papers_from batch round clerk paper texts) ≡ true
   unfolding papers_from
@@ -87,7 +87,7 @@ module _ (batch round clerk : ℕ) where
       let number : is_paper_number paper ≡ true = and_from _ _ (le-leb 1 paper low) (le-leb paper most_papers (omega (arith, high))) in
       and_from _ _ (and_from _ _ a (and_from _ _ b (and_from _ _ c (and_from _ _ number text.0)))) (papers_in_range a b c (paper + 1) others (omega (arith, low)) (omega (arith, high)) text.1)
 
-  -- and with marks that are read, where none is told to be bad
+  -- and with marks that can be read, if none is found to be bad
   papers_read : (columns : List ℕ) (paper : ℕ) (texts : List (List ℕ)) → first_bad_marks columns paper texts ≡ None
       → list_all (λ k. is_readable columns k.marks) (papers_from batch round clerk paper texts) ≡ true
   unfolding papers_from first_bad_marks
@@ -106,7 +106,7 @@ module _ (batch round clerk : ℕ) where
 
   -- ---- put into the map
 
-  -- a paper behind those of its keying
+  -- a paper that follows those of its keying
   behind : (paper : ℕ) (marks : List ℕ) (k : KeyedEntry) → is_of batch round clerk k ≡ true → k.paper < paper
       → keyed_cmp (record { batch = batch; round = round; clerk = clerk; paper = paper; marks = marks }) k ≡ Greater
   behind paper marks k of below =
@@ -121,7 +121,7 @@ module _ (batch round clerk : ℕ) where
   more_below paper marks [] below = ((and_from _ _ (eq-eqb batch batch refl) (and_from _ _ (eq-eqb round round refl) (eq-eqb clerk clerk refl)), omega arith), tt)
   more_below paper marks (k ∷ ks) below = let low = (below.0).1 in (((below.0).0, omega (arith, low)), more_below paper marks ks below.1)
 
-  -- what has the key of a paper is of its keying
+  -- an entry with the key of a paper belongs to its keying
   own_of : (paper : ℕ) (marks : List ℕ) (k : KeyedEntry) → is_eq (keyed_cmp (record { batch = batch; round = round; clerk = clerk; paper = paper; marks = marks }) k) ≡ true
       → is_of batch round clerk k ≡ true
   own_of paper marks k tied =
@@ -131,12 +131,12 @@ module _ (batch round clerk : ℕ) where
       let equal = λ (m n : ℕ) (same : is_eq (nat_cmp m n) ≡ true). eq-eqb n m (sym (same_number m n same)) in
       and_from _ _ (equal batch k.batch first.0) (and_from _ _ (equal round k.round second.0) (equal clerk k.clerk third.0))
 
-  -- the map with the papers, which are all of their keying
+  -- the map with the papers, which all belong to their keying
   pub record IsPut (ys zs : List KeyedEntry) : Type 0 where
     pub map : IsMap is_keyed_paper keyed_cmp ys
     pub keying : filter (is_of batch round clerk) ys ≡ zs
 
-  -- a paper behind those of its keying that are there
+  -- a paper that follows the papers of its keying in the map
   put_paper : (paper : ℕ) (marks : List ℕ) (ys zs : List KeyedEntry) → is_keyed_paper (record { batch = batch; round = round; clerk = clerk; paper = paper; marks = marks }) ≡ true
       → AreBelow batch round clerk paper zs → IsPut ys zs
       → IsPut (put keyed_cmp (record { batch = batch; round = round; clerk = clerk; paper = paper; marks = marks }) ys)
@@ -157,7 +157,7 @@ module _ (batch round clerk : ℕ) where
             ∙ put_last keyed_cmp x zs last;
       }
 
-  -- papers behind those of their keying that are there
+  -- papers that follow those of their keying in the map
   pub put_papers : (paper : ℕ) (texts : List (List ℕ)) (ys zs : List KeyedEntry) → list_all is_keyed_paper (papers_from batch round clerk paper texts) ≡ true
       → AreBelow batch round clerk paper zs → IsPut ys zs
       → IsPut (put_each keyed_cmp (papers_from batch round clerk paper texts) ys) (zs ++ papers_from batch round clerk paper texts)
@@ -169,7 +169,7 @@ module _ (batch round clerk : ℕ) where
       let next = put_papers (paper + 1) others (put keyed_cmp x ys) (zs ++ (x ∷ [])) ranges.1 (more_below paper marks zs below) (put_paper paper marks ys zs ranges.0 below is) in
       record { map = next.map; keying = next.keying ∙ append_assoc zs (x ∷ []) (papers_from batch round clerk (paper + 1) others) }
 
-  -- those that pass a test stand among the others that pass as they stand among all
+  -- those that pass a test are among the passing entries in the same order as among all
   put_among : (test : KeyedEntry → Bool) (paper : ℕ) (texts : List (List ℕ)) (ys zs : List KeyedEntry) → list_all test (papers_from batch round clerk paper texts) ≡ true
       → list_all is_keyed_paper (papers_from batch round clerk paper texts) ≡ true
       → AreBelow batch round clerk paper zs → IsPut ys zs → filter test (put_each keyed_cmp (papers_from batch round clerk paper texts) ys)
@@ -184,7 +184,7 @@ module _ (batch round clerk : ℕ) where
       put_among test (paper + 1) others (put keyed_cmp x ys) (zs ++ (x ∷ [])) kept.1 ranges.1 (more_below paper marks zs below) (put_paper paper marks ys zs ranges.0 below is)
       ∙ ap (put_each keyed_cmp (papers_from batch round clerk (paper + 1) others)) (filter_put_in keyed_total test x ys kept.0 map.rises)
 
--- ---- a keying that is kept
+-- ---- a recorded keying
 
 -- the papers of a keying of a batch's current round
 abbrev papers_for : BatchEntry → ℕ → List (List ℕ) → List KeyedEntry
@@ -196,12 +196,12 @@ with_papers s b actor texts = with_effect (papers_keyed (papers_for b actor text
 
 module _ (s : OfficeState) (b : BatchEntry) (actor : ℕ) (texts : List (List ℕ)) (is : IsState s) (found : batch_at s b.number ≡ Some b) (its : is_its_clerk actor b (third_at s b.number) ≡ true)
     (unkeyed : keying_of s b.number b.round actor ≡ []) (size : b.size ≡ length texts) where
-  -- each other keying is as it was
+  -- every other keying is unchanged
   other_keying : (n m clerk : ℕ) → ((b.number == n) && ((b.round == m) && (actor == clerk))) ≡ false → keying_of (with_papers s b actor texts) n m clerk ≡ keying_of s n m clerk
   other_keying n m clerk other =
       filter_put_each keyed_cmp (is_of n m clerk) (papers_for b actor texts) s.keyings (each_of b.number b.round actor (λ x y z. not ((x == n) && ((y == m) && (z == clerk)))) (ap not other) 1 texts)
 
-  -- they are of the batch
+  -- they belong to the batch
   of_batch : IsOfBatch b.number (papers_keyed (papers_for b actor texts))
   of_batch = each_of b.number b.round actor (λ x y z. x == b.number) (eq-eqb b.number b.number refl) 1 texts
 
@@ -218,12 +218,12 @@ module _ (s : OfficeState) (b : BatchEntry) (actor : ℕ) (texts : List (List �
     put_there : IsPut b.number b.round actor (put_each keyed_cmp (papers_for b actor texts) s.keyings) (papers_for b actor texts)
     put_there = put_papers b.number b.round actor 1 texts s.keyings [] papers_good tt (record { map = maps_of is keyed_map; keying = unkeyed })
 
-    -- the clerk's own papers, put among his own
+    -- the clerk's papers, put among their own
     pub put_among_own : (test : KeyedEntry → Bool) → list_all test (papers_for b actor texts) ≡ true
         → filter test (put_each keyed_cmp (papers_for b actor texts) s.keyings) ≡ put_each keyed_cmp (papers_for b actor texts) (filter test s.keyings)
     put_among_own test passes = put_among b.number b.round actor test 1 texts s.keyings [] passes papers_good tt (record { map = maps_of is keyed_map; keying = unkeyed })
 
-    -- in its round a clerk's keying is as it was, or is this one, where there was none; it is whole
+    -- in its round a clerk's keying is unchanged, or is this one if there was none; it is whole
     now_or_own : (c : ℕ) (same : Bool) → (actor == c) ≡ same → Grows (keying_of s b.number b.round c) (keying_of (with_papers s b actor texts) b.number b.round c)
     now_or_own c false other = inl (other_keying b.number b.round c (and_right (b.number == b.number) _ (and_right (b.round == b.round) (actor == c) other)))
     now_or_own c true same = inr (ap (keying_of s b.number b.round) (sym (eqb-true actor c same)) ∙ unkeyed)
@@ -263,7 +263,7 @@ module _ (s : OfficeState) (b : BatchEntry) (actor : ℕ) (texts : List (List �
             in
             ap (λ (ks : List (List KeyedEntry)). list_all (is_whole b.size) ks && (nat_le b.round m || differ ks)) same ∙ holds
 
-    -- a doubtful paper that the batch is taken with stays one
+    -- a doubtful paper of those that the batch is taken with is still one
     doubtful_kept : list_all (is_whole b.size) (keyings_now s b) ≡ true → (paper : ℕ) → has_doubtful (taken_papers s b) paper ≡ true
         → has_doubtful (taken_papers (with_papers s b actor texts) b) paper ≡ true
     doubtful_kept whole paper was =
@@ -292,7 +292,7 @@ module _ (s : OfficeState) (b : BatchEntry) (actor : ℕ) (texts : List (List �
         grows_one None = inl refl
         grows_one (Some c) = grows c
 
-    -- the papers are keyed of a batch that is there, in its round, by its clerk, with marks that are read
+    -- the papers are keyed of an existing batch, in its round, by its clerk, with marks that can be read
     keyed_for_each : (paper : ℕ) (others : List (List ℕ)) → list_all (λ k. is_readable (columns_for s b) k.marks) (papers_from b.number b.round actor paper others) ≡ true
         → list_all (λ k. is_keyed_for s k (batch_at s k.batch)) (papers_from b.number b.round actor paper others) ≡ true
     unfolding papers_from
@@ -333,7 +333,7 @@ module _ (s : OfficeState) (b : BatchEntry) (actor : ℕ) (texts : List (List �
             let parts = found_in_range is b.number b found in
             (and_parts _ _ (round_at s b b.round (lower 1 last_round b.round parts.round) rounds)).0
 
-        -- a verdict is on one of them still
+        -- a verdict is still on one of them
         is_decided : JudgedEntry → Bool
         is_decided v = ((v.code == 0) && is_valid (columns_for s b) v.marks) || (is_rejection_code v.code && (length v.marks == 0))
 
@@ -360,12 +360,12 @@ all_written : (texts : List (String Global)) → list_all is_utf8 (map string_by
 all_written [] = refl
 all_written (text ∷ texts) = and_from _ _ (is_utf8-from_IsUtf8 (string_bytes text) (IsUtf8-string_bytes text)) (all_written texts)
 
--- what the receipt of a keying may be about
+-- the subjects of receipts for a keying
 key_about : (m n : ℕ) → is_batch_number m ≡ true → is_round n ≡ true → is_clerk_subject (codes "key " ++ (decimal m ++ (codes " " ++ decimal n))) ≡ true
 unfolding is_clerk_subject
 key_about m n h k = rw (are_plain-decimals last_batch last_round m n (omega arith) (omega arith) h k) refl
 
--- what the batch that is found passes
+-- a test that the found batch passes
 found_is : (s : OfficeState) (n : ℕ) (b : BatchEntry) → batch_at s n ≡ Some b → (test : BatchEntry → Bool) → passes test (batch_at s n) ≡ true → test b ≡ true
 found_is s n b found test passing = ap (passes test) (sym found) ∙ passing
 
@@ -373,7 +373,7 @@ under_same : (P : OfficeState → Type 0) (s : OfficeState) (b : BatchEntry) (ac
     → P (with_effect (papers_keyed (papers_from n round actor 1 texts)) s)
 under_same P s b actor texts n round number same is = rw (number, same) is
 
--- a keying that nothing stands against: its batch, which it is for, and the ward of that, in keying
+-- a keying without objections: its batch, whose clerk the actor is, and the batch's ward, in keying
 record IsKeying (s : OfficeState) (actor : ℕ) (command : KeyingCommand) : Type 0 where
   clerk : is_clerk actor ≡ true
   batch_number : is_batch_number command.batch ≡ true
@@ -428,7 +428,7 @@ among_same : (s : OfficeState) (b : BatchEntry) (actor : ℕ) (texts : List (Lis
     ≡ put_each keyed_cmp (papers_from n round actor 1 texts) (filter test s.keyings)
 among_same s b actor texts test n round number same own = rw (number, same) own
 
--- its papers stand among those that pass a test, as they do, as they stand among all
+-- its papers, if they pass a test, are among the passing entries in the same order as among all
 pub keyed_among : (s : OfficeState) (actor : ℕ) (command : KeyingCommand) (test : KeyedEntry → Bool) → IsState s → first_reason (objections actor command (part_of s actor command)) ≡ None
     → list_all test (papers_from command.batch command.round actor 1 (texts_of command)) ≡ true
     → filter test (put_each keyed_cmp (papers_from command.batch command.round actor 1 (texts_of command)) s.keyings)

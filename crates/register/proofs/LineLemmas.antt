@@ -1,4 +1,4 @@
--- Plain numbers and lines, as receipts have them.
+-- Plain numbers and lines, as in receipts.
 use Rattle.std.proofs.Common.{rules, ◌==◌, inl, inr, ◌≡◌, ℕ, ◌<◌, ◌≤◌, ◌+◌, ◌^◌, nat_le, nat_lt, ◌&&◌, true, false, not, List, [], ◌∷◌, ◌++◌, length, take, drop, ap, ◌∙◌, arith}
 use Rattle.std.proofs.Common.{length-append, get_or, refl}
 use Rattle.std.specs.List.{list_all, position_or_len}
@@ -19,7 +19,7 @@ use Rattle.register.specs.Subjects.{is_space, is_plain_number, are_plain_numbers
 own : IsNumeralModel (λ ds. all_ascii_digits ds ≡ true) (digits_value 10)
 own = numerals_by_value _ (search rules)
 
--- a number in a range lies above its lower end, and below its upper one
+-- a number in a range is between its ends
 pub lower : (low high n : ℕ) → is_between low high n ≡ true → low ≤ n
 lower low high n h = leb-true low n (and_parts (nat_le low n) (nat_le n high) h).0
 
@@ -32,7 +32,7 @@ small low high n below h = omega (arith, upper low high n h, below)
 pub not_equal : (a b : ℕ) → b < a → (a == b) ≡ false
 not_equal a b above = elim (eqb_tells a b) [ inl same ↦ absurd (omega (arith, same.1, above)) | inr other ↦ other.0 ]
 
--- a number in a range from 1 on, or from a higher one, is written plainly
+-- a number in a range of positive numbers is written plainly
 pub is_plain-from : (low high n : ℕ) → 1 ≤ low → high < 2 ^ 64 → is_between low high n ≡ true → is_plain_number low high (decimal n) ≡ true
 unfolding is_plain_number
 is_plain-from low high n some below h =
@@ -54,7 +54,7 @@ first_space (d ∷ ds) t h =
     let later = first_space ds t (and_parts (is_between 48 57 d) (all_ascii_digits ds) h).1 in
     rw (not_equal d 32 (omega (arith, low))) (omega (arith, later))
 
--- two numbers in such ranges, parted by a space, are written plainly
+-- two numbers in such ranges, separated by a space, are written plainly
 pub are_plain-from : (high least most m n : ℕ) → 1 ≤ least → high < 2 ^ 64 → most < 2 ^ 64 → is_between 1 high m ≡ true → is_between least most n ≡ true
     → are_plain_numbers 1 high least most (decimal m ++ (32 ∷ decimal n)) ≡ true
 are_plain-from high least most m n some below low first second =
@@ -69,7 +69,7 @@ are_plain-decimals high most m n below low first second = are_plain-from high 1 
 
 -- ---- lines
 
--- ASCII without a line end, of a length up to k
+-- ASCII without a line end, up to length k
 pub record IsLine (k : ℕ) (t : List ℕ) : Type 0 where
   pub ascii : IsAscii t
   pub short : length t ≤ k
@@ -79,7 +79,7 @@ pub record IsLine (k : ℕ) (t : List ℕ) : Type 0 where
 pub words : (t : List ℕ) → IsAscii t → list_all is_line_byte t ≡ true → IsLine (length t) t
 words t ascii plain = record { ascii = ascii; short = omega arith; plain = plain }
 
--- given words are a line, where each byte passes the test of one
+-- given words are a line if each byte passes the test
 pub given : (t : List ℕ) → list_all (λ b. nat_lt b 128 && is_line_byte b) t ≡ true → IsLine (length t) t
 given t good = words t (low t good) (list_all_parts t good)
   where
@@ -109,7 +109,7 @@ digits_plain (d ∷ ds) h =
     let low = lower 48 57 d (and_parts (is_between 48 57 d) (all_ascii_digits ds) h).0 in
     and_from _ _ (ap not (not_equal d 10 (omega (arith, low)))) (digits_plain ds (and_parts (is_between 48 57 d) (all_ascii_digits ds) h).1)
 
--- a number of at most so many digits
+-- a number of at most k digits
 pub line_decimal : (k n : ℕ) → 0 < k → n < 10 ^ k → n < 2 ^ 64 → IsLine k (decimal n)
 line_decimal k n some below fits = record { ascii = IsAscii-decimal n fits; short = length-decimal-le k n some below fits; plain = digits_plain (decimal n) (digits_decimal own n fits) }
 

@@ -1,4 +1,4 @@
--- Each step leads from a state to a state, and an accepted request that comes again is kept.
+-- Every step leads from a state to a state, and an accepted request, repeated, is kept.
 use Rattle.std.proofs.Common.{◌≡◌, ℕ, Bool, true, false, cond, List, [], ◌∷◌, Option, Some, None, string_bytes, refl, ap, ◌∙◌}
 use Rattle.std.specs.Ordering.{nat_cmp, ordering_then}
 use Rattle.std.specs.Cmp.Lexicographic.{slice_cmp}
@@ -14,11 +14,11 @@ use Rattle.register.specs.declared.counts.CountCommand.TheVariants.{Advance, Lot
 use Rattle.register.specs.Reasons.{first_reason}
 use Rattle.register.specs.Ranges.{is_id}
 use Rattle.register.specs.Offices.{OfficeState, ReceiptEntry, receipt_at, entry_at}
-use Rattle.register.specs.Items.{is_receipt, IsState}
+use Rattle.register.specs.StateConditions.{is_receipt, IsState}
 use Rattle.register.specs.Effects.{EffectEntry, with_effect, with_receipt}
-use Rattle.register.specs.Parts.{PartEntries}
+use Rattle.register.specs.CommandInputs.{CommandInputEntries}
 use Rattle.register.specs.Machine.{keeps, refuses, kept, refused, part_of, objections, subject_of, reply_to, effect_of, receipt_for, judged, answered, decided, ruling_at, outcome_at, step}
-use Rattle.register.specs.Machine.{state_after, after, after_one, IsKeptAgain}
+use Rattle.register.specs.Machine.{state_after, after, after_one, RepeatGetsSameReply}
 use Rattle.register.specs.Views.{IsToldAlike, IsAdvanced}
 use Rattle.register.proofs.MapLemmas.{found_put, found_put_new}
 use Rattle.register.proofs.ItemLemmas.{IsFit, receipt_total, receipt_stays, same_receipts}
@@ -40,23 +40,23 @@ fits s actor (Keying command) is none = keying_fits s actor command is none
 fits s actor (Verdict command) is none = verdict_fits s actor command is none
 fits s actor (Count command) is none = count_fits s actor command is none
 
--- ---- a request at a state
+-- ---- a request in a state
 
--- a receipt decides without the part
-alike : (actor : ℕ) (id : List ℕ) (command : Command) (receipt : Option ReceiptEntry) (part other : PartEntries) → (receipt ≡ None → part ≡ other)
+-- if there is a receipt, it decides without the part
+alike : (actor : ℕ) (id : List ℕ) (command : Command) (receipt : Option ReceiptEntry) (part other : CommandInputEntries) → (receipt ≡ None → part ≡ other)
     → decided actor id command receipt part ≡ decided actor id command receipt other
 unfolding decided
 alike actor id command None part other same = ap (decided actor id command None) (same refl)
 alike actor id command (Some receipt) part other same = refl
 
--- what is decided on a receipt that is that of a state, and where there is none on its part, is decided there,
-pub ruling_on : (s : OfficeState) (actor : ℕ) (id : List ℕ) (command : Command) (receipt : Option ReceiptEntry) (part : PartEntries) → receipt ≡ receipt_at s actor id
+-- the decision on the receipt of a state, and without one on the state's part, is the decision in that state,
+pub ruling_on : (s : OfficeState) (actor : ℕ) (id : List ℕ) (command : Command) (receipt : Option ReceiptEntry) (part : CommandInputEntries) → receipt ≡ receipt_at s actor id
     → (receipt_at s actor id ≡ None → part ≡ part_of s actor command)
     → decided actor id command receipt part ≡ ruling_at s actor id command
 ruling_on s actor id command receipt part same_receipt same_part = rw same_receipt (alike actor id command (receipt_at s actor id) part (part_of s actor command) same_part)
 
--- and is its step
-pub step_on : (s : OfficeState) (actor : ℕ) (id : List ℕ) (command : Command) (receipt : Option ReceiptEntry) (part : PartEntries) → receipt ≡ receipt_at s actor id
+-- and makes its step
+pub step_on : (s : OfficeState) (actor : ℕ) (id : List ℕ) (command : Command) (receipt : Option ReceiptEntry) (part : CommandInputEntries) → receipt ≡ receipt_at s actor id
     → (receipt_at s actor id ≡ None → part ≡ part_of s actor command)
     → outcome_at s (decided actor id command receipt part) ≡ step s actor id command
 unfolding step
@@ -106,7 +106,7 @@ module _ (s : OfficeState) (actor : ℕ) (id : List ℕ) (command : Command) whe
       receipt_stays (with_effect (effect_of actor command (part_of s actor command)) s) (receipt_for actor id command (part_of s actor command))
       (and_from _ _ fit.about (and_from _ _ fit.text (and_from _ _ good fit.line))) (still_new new) fit.state
 
-  -- after each step there is a state again
+  -- every step leads to a state
   pub step_stays : IsState s → IsState (state_after s (step s actor id command))
   unfolding step decided
   step_stays is = go (is_id id) refl (receipt_at s actor id) refl
@@ -117,7 +117,7 @@ module _ (s : OfficeState) (actor : ℕ) (id : List ℕ) (command : Command) whe
       go true good (Some r) found = elim (bytes_eq r.subject (subject_of command)) as (λ b. IsState (state_after s (outcome_at s (cond b (keeps r.reply) (refuses IdUsed))))) [ true ↦ is | false ↦ is ]
       go true good None found = judged_stays is good found (first_reason (objections actor command (part_of s actor command))) refl
 
-  judged_again : is_id id ≡ true → receipt_at s actor id ≡ None → (o : Option Reason) → IsKeptAgain actor id command (outcome_at s (judged actor id command (part_of s actor command) o))
+  judged_again : is_id id ≡ true → receipt_at s actor id ≡ None → (o : Option Reason) → RepeatGetsSameReply actor id command (outcome_at s (judged actor id command (part_of s actor command) o))
   unfolding step decided
   judged_again good new (Some why) = tt
   judged_again good new None = λ others.
@@ -129,22 +129,22 @@ module _ (s : OfficeState) (actor : ℕ) (id : List ℕ) (command : Command) whe
       let same : bytes_eq (subject_of command) (subject_of command) ≡ true = (bytes_eq-Decides (subject_of command) (subject_of command)).1 refl in
       rw good (rw found (rw same refl))
 
-  -- an accepted request that comes again gets the same reply
-  pub accepted_is_kept : IsKeptAgain actor id command (step s actor id command)
+  -- an accepted request, repeated, gets the same reply
+  pub accepted_is_kept : RepeatGetsSameReply actor id command (step s actor id command)
   unfolding step decided
   accepted_is_kept = go (is_id id) refl (receipt_at s actor id) refl
     where
       go : (b : Bool) → is_id id ≡ b → (o : Option ReceiptEntry) → receipt_at s actor id ≡ o
-          → IsKeptAgain actor id command (outcome_at s (cond b (answered actor id command o (part_of s actor command)) (refuses BadId)))
+          → RepeatGetsSameReply actor id command (outcome_at s (cond b (answered actor id command o (part_of s actor command)) (refuses BadId)))
       go false good o found = tt
       go true good (Some r) found =
-          elim (bytes_eq r.subject (subject_of command)) as (λ b. IsKeptAgain actor id command (outcome_at s (cond b (keeps r.reply) (refuses IdUsed)))) [ true ↦ tt | false ↦ tt ]
+          elim (bytes_eq r.subject (subject_of command)) as (λ b. RepeatGetsSameReply actor id command (outcome_at s (cond b (keeps r.reply) (refuses IdUsed)))) [ true ↦ tt | false ↦ tt ]
       go true good None found = judged_again good found (first_reason (objections actor command (part_of s actor command)))
 
 -- ---- the stages of a count
 
 module _ (s : OfficeState) (actor : ℕ) (id : List ℕ) where
-  -- what is kept or refused says nothing of them; so it is enough to look at what nothing stands against
+  -- kept and refused requests don't affect them, so only commands without objections matter
   advances_where : (command : Command) → ((reply : List ℕ) → IsAdvanced s command (kept reply)) → ((why : Reason) → IsAdvanced s command (refused why))
       → (first_reason (objections actor command (part_of s actor command)) ≡ None → IsAdvanced s command (outcome_at s (judged actor id command (part_of s actor command) None)))
       → IsAdvanced s command (step s actor id command)
@@ -164,7 +164,7 @@ module _ (s : OfficeState) (actor : ℕ) (id : List ℕ) where
   abbrev own_receipt : Command → ReceiptEntry
   own_receipt command = receipt_for actor id command (part_of s actor command)
 
-  -- an accepted Advance adds the stage that is due, an accepted Lot or Declare leaves those that are done
+  -- an accepted Advance adds the stage due, an accepted Lot or Declare leaves those done as they are
   pub advances : (command : Command) → IsState s → IsAdvanced s command (step s actor id command)
   advances (Count (Advance ward)) is = advances_where (Count (Advance ward)) (λ reply. tt) (λ why. tt) (λ none. advance_adds s actor ward (own_receipt (Count (Advance ward))) is none)
   advances (Count (Lot ward stage candidate)) is =
@@ -172,10 +172,10 @@ module _ (s : OfficeState) (actor : ℕ) (id : List ℕ) where
   advances (Count (Declare ward)) is = advances_where (Count (Declare ward)) (λ reply. tt) (λ why. tt) (λ none. declare_keeps s actor ward (own_receipt (Count (Declare ward))) is none)
   advances command is = tt
 
--- ---- what a clerk is told
+-- ---- replies to a clerk
 
--- the reply to an accepted keying is made of the command alone
-pub told_alike : (actor : ℕ) (id : List ℕ) (command : Command) (receipt : Option ReceiptEntry) (part : PartEntries) → IsToldAlike command (decided actor id command receipt part)
+-- the reply to an accepted keying is made from the command alone
+pub told_alike : (actor : ℕ) (id : List ℕ) (command : Command) (receipt : Option ReceiptEntry) (part : CommandInputEntries) → IsToldAlike command (decided actor id command receipt part)
 unfolding decided
 told_alike actor id (Keying command) receipt part = go (is_id id) receipt
   where

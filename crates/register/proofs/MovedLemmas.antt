@@ -17,7 +17,7 @@ use Rattle.register.specs.Tabulated.{PlacedEntry, placed_cmp, placed_at, moved_t
 use Rattle.register.specs.Additions.{is_same_place}
 use Rattle.register.specs.Walks.{moved_bundles}
 
--- the bundles of papers stand in the order of their lists
+-- the bundles of papers are in the order of their lists
 pub bundled-rise : (papers : List (List ℕ)) → IsStrictlySortedBy list_cmp (map (λ (b : Bundle). b.0) (bundled papers))
 unfolding IsStrictlySortedBy
 bundled-rise papers = go [] papers tt
@@ -27,7 +27,7 @@ bundled-rise papers = go [] papers tt
     go bs [] up = up
     go bs (paper ∷ rest) up = go (with_papers bs paper 1) rest (rise-with_papers paper 1 bs up)
 
--- ---- bundles moved, one after the other
+-- ---- bundles moved, one by one
 
 abbrev pub all_moved : List PlacedEntry → List PlacedEntry → List PlacedEntry
 all_moved bundles moved = fold (λ (bs : List PlacedEntry) (b : PlacedEntry). moved_to b bs) bundles moved
@@ -38,14 +38,14 @@ moved-append (m ∷ ms) xs ys =
     ap (λ (zs : List PlacedEntry). all_moved zs ms) (map-append (λ (x : PlacedEntry). cond (is_eq (placed_cmp m x)) m x) xs ys)
     ∙ moved-append ms (moved_to m xs) (moved_to m ys)
 
--- a bundle beside those that are moved stays
+-- a bundle that isn't among those moved stays
 beside : (x : PlacedEntry) (ms xs : List PlacedEntry) → list_all (λ m. not (is_eq (placed_cmp m x))) ms ≡ true → all_moved (x ∷ xs) ms ≡ x ∷ all_moved xs ms
 beside x [] xs apart = refl
 beside x (m ∷ ms) xs apart =
     let parts = and_parts (not (is_eq (placed_cmp m x))) (list_all (λ m. not (is_eq (placed_cmp m x))) ms) apart in
     rw (not-true (is_eq (placed_cmp m x)) parts.0) (beside x ms (moved_to m xs) parts.1)
 
--- two orders, one after the other, tell different things apart where one of them does
+-- two orders in sequence distinguish entries if the first does
 first_apart : (o p : Ordering) → is_eq o ≡ false → is_eq (ordering_then o p) ≡ false
 first_apart Less p apart = refl
 first_apart Equal p apart = absurd (cc)
@@ -63,11 +63,11 @@ then_equal Greater p is same = is
 
 -- ---- bundles of other wards
 
--- none of some bundles is of a ward
+-- none of these bundles belongs to the ward
 abbrev pub of_others : ℕ → List PlacedEntry → Bool
 of_others n xs = list_all (λ (x : PlacedEntry). not (n == x.ward)) xs
 
--- all of some bundles are of a ward
+-- all of these bundles belong to the ward
 abbrev pub of_ward : ℕ → List PlacedEntry → Bool
 of_ward n ms = list_all (λ (m : PlacedEntry). n == m.ward) ms
 
@@ -78,7 +78,7 @@ moved_none n m (x ∷ xs) own others =
     let other : is_eq (nat_cmp m.ward x.ward) ≡ false = unsigned_tied m.ward x.ward ∙ ap (λ k. k == x.ward) (sym own) ∙ not-true (n == x.ward) parts.0 in
     rw (first_apart (nat_cmp m.ward x.ward) (list_cmp m.list x.list) other) (ap (λ (ys : List PlacedEntry). x ∷ ys) (moved_none n m xs own parts.1))
 
--- bundles of one ward that are moved leave those of others
+-- moving bundles of one ward leaves those of others as they are
 pub others_stay : (n : ℕ) (ms xs : List PlacedEntry) → of_ward n ms ≡ true → of_others n xs ≡ true → all_moved xs ms ≡ xs
 others_stay n [] xs own others = refl
 others_stay n (m ∷ ms) xs own others =
@@ -88,7 +88,7 @@ others_stay n (m ∷ ms) xs own others =
 -- ---- the bundles of a ward
 
 module _ (n : ℕ) where
-  -- bundles of a ward at some places are of it,
+  -- bundles of a ward in some places belong to it,
   pub of_it : (at : List ℕ → Place) (bs : List Bundle) → of_ward n (map (λ (b : Bundle). placed_at n b (at b.0)) bs) ≡ true
   of_it at [] = refl
   of_it at (b ∷ bs) = and_from _ _ (sym (unsigned_tied n n) ∙ ap is_eq (tied_itself nat_cmp_total n)) (of_it at bs)
@@ -102,7 +102,7 @@ module _ (n : ℕ) where
     abbrev stays : Bundle → Bool
     stays b = is_same_place (before b.0) (after b.0)
 
-    -- where a place is the same, so is the bundle at it
+    -- if a place is the same, so is the bundle in it
     same_bundle : (b : Bundle) → stays b ≡ true → placed_at n b (before b.0) ≡ placed_at n b (after b.0)
     same_bundle b same =
         let parts = and_parts ((before b.0).holder == (after b.0).holder) ((before b.0).value == (after b.0).value) same in
@@ -111,7 +111,7 @@ module _ (n : ℕ) where
         made : ℕ → ℕ → PlacedEntry
         made holder value = record { ward = n; list = b.0; papers = b.1; holder = holder; value = value }
 
-    -- a bundle before others in the order of the lists is none of them
+    -- a bundle before others in the order of the lists isn't one of them
     apart_behind : (x : Bundle) (bs : List Bundle) → AllByRecursion (λ list. list_cmp x.0 list ≡ Less) (map (λ (b : Bundle). b.0) bs)
         → moved_to (placed_at n x (after x.0)) (map (λ (b : Bundle). placed_at n b (before b.0)) bs) ≡ map (λ (b : Bundle). placed_at n b (before b.0)) bs
     apart_behind x [] above = refl
@@ -128,7 +128,7 @@ module _ (n : ℕ) where
           | false ↦ and_from _ _ (ap not (then_apart (nat_cmp n n) (list_cmp b.0 x.0) (ap is_eq (nat_list_cmp_total.antisymm b.0 x.0 ∙ ap ordering_reverse above.0)))) (apart_before x at bs above.1)
         ]
 
-    -- Those that lie elsewhere than before, moved there, leave all where they lie now.
+    -- Moving the bundles whose place has changed puts every bundle in its new place.
     pub moved_there : (bs : List Bundle) → IsStrictlySortedBy list_cmp (map (λ (b : Bundle). b.0) bs)
         → all_moved (map (λ (b : Bundle). placed_at n b (before b.0)) bs) (map (λ (b : Bundle). placed_at n b (after b.0)) (filter (λ (b : Bundle). not (stays b)) bs))
         ≡ map (λ (b : Bundle). placed_at n b (after b.0)) bs
@@ -157,7 +157,7 @@ module _ (n : ℕ) where
             ∙ beside (placed_at n b (after b.0)) ms (map (λ (b : Bundle). placed_at n b (before b.0)) bs) (apart_before b (after b.0) bs up.0)
             ∙ ap (λ (ys : List PlacedEntry). placed_at n b (after b.0) ∷ ys) later
 
-    -- a walk over the places before and after finds those that lie elsewhere
+    -- a walk through the old and the new places finds those that have changed
     pub walked-moves : (bs : List Bundle) → moved_bundles n bs (map (λ (b : Bundle). placed (before b.0)) bs) (map (λ (b : Bundle). placed (after b.0)) bs)
         ≡ map (λ (b : Bundle). placed_at n b (after b.0)) (filter (λ (b : Bundle). not (stays b)) bs)
     walked-moves [] = refl

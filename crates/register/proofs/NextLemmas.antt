@@ -1,11 +1,11 @@
--- What a count that is shown comes to by the stage that is due, and what this adds to the tabulation.
+-- What the stage due results in for a count that is shown, and what it adds to the tabulation.
 use Rattle.std.proofs.Common.{◌≡◌, ℕ, suc, ◌+◌, ◌==◌, true, false, List, [], ◌∷◌, map, length, reverse, Option, Some, None, refl, ap, ◌∙◌, arith}
 use Rattle.std.specs.Prelude.{IsSome}
 use Rattle.std.proofs.lemmas.Bool.{both_ways, eqb-true, eq-eqb}
 use Rattle.std.proofs.lemmas.List.{reverse-reverse, length-reverse}
 use Rattle.count.specs.Books.{placed}
 use Rattle.count.specs.Bundles.{Bundle, bundled}
-use Rattle.count.specs.Kept.{CountKept, IsKeptOf, places_after}
+use Rattle.count.specs.StoredCounts.{StoredCountEntry, IsStoredCountOf, places_after}
 use Rattle.count.specs.Marks.{figures_at}
 use Rattle.count.specs.Law.Contest.{Contest, History}
 use Rattle.count.specs.Law.Count.{stage_of, with_stage, with_next}
@@ -21,17 +21,17 @@ use Rattle.register.specs.Additions.{moved_between, figures_added, addition_by, 
 use Rattle.register.specs.Walks.{moved_bundles, last_figures, all_added, moves_added}
 use Rattle.register.proofs.MovedLemmas.{walked-moves}
 
--- where an action is due, this is added, whichever it is
+-- if an action is due, this is added, whichever action it is
 pub some_due : (e : ElectionEntry) (due : Option Action) (added : AdditionEntries) → IsSome due → ((action : Action) → due ≡ Some action → added ≡ addition_at e action) → added ≡ addition_due e due
 some_due e None added some each = absurd (cc)
 some_due e (Some action) added some each = each action refl
 
--- what a stage more makes of what was kept: places and stages
-abbrev pub IsNext : Contest → List (ℕ × ℕ) → History → CountKept → List Placed → List Stage → Type 0
+-- how one more stage changes what was stored: places and stages
+abbrev pub IsNext : Contest → List (ℕ × ℕ) → History → StoredCountEntry → List Placed → List Stage → Type 0
 IsNext contest lots history kept places stages = (places ≡ places_after contest (with_next contest lots history) kept.bundles) × (stages ≡ reverse (with_next contest lots history))
 
-module _ (e : ElectionEntry) (action : Action) (ward : ℕ) (kept : CountKept) (lots : List (ℕ × ℕ)) (places : List Placed) (stages : List Stage)
-    (of : IsKeptOf (contest_of e) (stages_of e) kept) (drawn : lots ≡ e.lots) (own : ward ≡ e.ward.number)
+module _ (e : ElectionEntry) (action : Action) (ward : ℕ) (kept : StoredCountEntry) (lots : List (ℕ × ℕ)) (places : List Placed) (stages : List Stage)
+    (of : IsStoredCountOf (contest_of e) (stages_of e) kept) (drawn : lots ≡ e.lots) (own : ward ≡ e.ward.number)
     (due : next_action (contest_of e) e.lots (stages_of e) ≡ Some action) (next : IsNext (contest_of e) lots (stages_of e) kept places stages) where
   abbrev new : Stage
   new = stage_of (contest_of e) (stages_of e) action
@@ -53,11 +53,11 @@ module _ (e : ElectionEntry) (action : Action) (ward : ℕ) (kept : CountKept) (
       (ap (λ (k : ℕ). map (figure_at e.ward.number k) (figures_at (columns_of e.candidates) (reverse (reverse (new ∷ before))))) (length-reverse (new ∷ before) ∙ stage)
       ∙ ap (λ (h : History). map (figure_at e.ward.number (length before + 1)) (figures_at (columns_of e.candidates) h)) (reverse-reverse (new ∷ before)))
 
-  -- as many stages are kept as are done
+  -- as many stages are stored as are done
   as_many : length kept.stages ≡ length (stages_of e)
   as_many = ap (λ (ss : List Stage). length ss) of.stages_are ∙ length-reverse (stages_of e)
 
-  -- at the first stage all bundles are added, where they lie then,
+  -- at the first stage all bundles are added, in their places,
   pub first_added : (length kept.stages == 0) ≡ true → (added : AdditionEntries)
       → ((now : List ℕ → Place) → places ≡ map (λ (b : Bundle). placed (now b.0)) kept.bundles → added ≡ all_added ward kept.candidates kept.bundles now stages) → added ≡ addition_at e action
   first_added none added is = go (stages_of e) refl
@@ -69,7 +69,7 @@ module _ (e : ElectionEntry) (action : Action) (ward : ℕ) (kept : CountKept) (
           let more : length (stages_of e) ≡ suc (length before) = ap (λ (h : History). length h) same in
           absurd (let many = as_many in omega (arith, empty, more, many))
 
-  -- and at a later one those that lie elsewhere than before
+  -- and at a later one those whose place has changed
   pub later_added : (length kept.stages == 0) ≡ false → (added : AdditionEntries) → added ≡ moves_added ward kept.candidates kept.bundles kept.places places stages → added ≡ addition_at e action
   later_added some added is = is ∙ go (stages_of e) refl
     where

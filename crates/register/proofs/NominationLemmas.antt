@@ -1,4 +1,4 @@
--- What candidates and wards may change in a state, so that there is a state again.
+-- Changes to candidates and wards that lead from a state to a state.
 use Rattle.std.proofs.Common.{◌≡◌, ℕ, ◌==◌, not, Bool, true, false, cond, List, Option, Some, None, is_some, option_map, refl, sym, ap, ◌∙◌}
 use Rattle.std.specs.List.{list_all}
 use Rattle.std.specs.List.Sorted.{IsStrictlySortedBy}
@@ -11,8 +11,8 @@ use Rattle.register.specs.declared.phase.Phase.TheVariants.{Nominations}
 use Rattle.register.specs.Phases.{phase_number}
 use Rattle.register.specs.Offices.{changed, WardEntry, CandidateEntry, BatchEntry, OfficeState, ward_cmp, candidate_cmp, ward_compared, candidate_compared, ward_at, candidate_at, candidates_of}
 use Rattle.register.specs.Elections.{election_of, is_counted}
-use Rattle.register.specs.Keyed.{is_polled, is_given_out}
-use Rattle.register.specs.Items.{is_ward, is_candidate, IsState}
+use Rattle.register.specs.BatchConditions.{is_polled, is_given_out}
+use Rattle.register.specs.StateConditions.{is_ward, is_candidate, IsState}
 use Rattle.register.specs.Effects.{candidate_added, candidate_withdrawn, in_phase, at_stage, with_effect}
 use Rattle.register.proofs.MapLemmas.{Keeps, list_all_weaker, put_all, put_is_map, without_all, without_is_map, changed_is_map, changed_at, found_changed, found_key, all_but_number}
 use Rattle.register.proofs.KeyedLemmas.{with_nominations, IsStill, given_out_still, keyed_still, judged_still}
@@ -21,12 +21,12 @@ use Rattle.register.proofs.ElsewhereLemmas.{IsBeforeCount, candidates_elsewhere,
 use Rattle.register.proofs.ObjectionLemmas.{IsThere}
 use Rattle.register.proofs.ItemLemmas.{MapName, ward_map, candidate_map, Holds, maps_of, AreJoined, state_from, candidate_total, are_placed, are_all, has_enough}
 
--- what holds of the ward of a number, and of each ward of another number, holds of each ward
+-- what holds of the ward with a number, and of every ward with another number, holds of every ward
 wards_but_one : (s : OfficeState) (n : ℕ) (w : WardEntry) (p q : WardEntry → Bool) → IsStrictlySortedBy ward_cmp s.wards → ward_at s n ≡ Some w → (n ≡ w.number → q w ≡ true)
     → ((x : WardEntry) → (n == x.number) ≡ false → p x ≡ true → q x ≡ true) → list_all p s.wards ≡ true → list_all q s.wards ≡ true
 wards_but_one s n w p q up found good others all = all_but_number (λ (x : WardEntry). x.number) s.wards n w p q up found good others all
 
--- ---- other candidates in the ward of a number
+-- ---- other candidates in the ward with a number
 
 -- the state with other candidates
 abbrev with_candidates : List CandidateEntry → OfficeState → OfficeState
@@ -34,18 +34,18 @@ with_candidates later s = record s { candidates = later }
 
 module _ (s : OfficeState) (n : ℕ) (w : WardEntry) (later : List CandidateEntry) (found : ward_at s n ≡ Some w) (nominations : w.phase ≡ Nominations)
     (others : (m : ℕ) → (n == m) ≡ false → candidates_of (with_candidates later s) m ≡ candidates_of s m) where
-  -- what a test says of each ward it says still, if it does of this one
+  -- a test of every ward still holds if it holds of this one
   still : (test : WardEntry → List CandidateEntry → Bool) → IsStrictlySortedBy ward_cmp s.wards → test w (candidates_of (with_candidates later s) w.number) ≡ true → are_all test s ≡ true
       → are_all test (with_candidates later s) ≡ true
   still test up good all =
       wards_but_one s n w (λ x. test x (candidates_of s x.number)) (λ x. test x (candidates_of (with_candidates later s) x.number)) up found (λ same. good)
       (λ x other holds. ap (test x) (others x.number other) ∙ holds) all
 
-  -- the ward being in its nominations, each ward has enough candidates
+  -- if the ward is in its nominations, every ward has enough candidates
   enough_still : IsState s → are_all has_enough (with_candidates later s) ≡ true
   enough_still is = still has_enough is.rise.wards (rw nominations refl) (and_parts (are_placed s) (are_all has_enough s) is.nominated).1
 
-  -- no batch is given out of the ward, so those of each batch's ward are as they were
+  -- no batch of the ward is given out, so the candidates of each batch's ward are as they were
   elsewhere : (b : BatchEntry) → (same : Bool) → (n == b.ward) ≡ same → is_polled (ward_at s b.ward) (candidates_of s b.ward) ≡ true → (n == b.ward) ≡ false
   elsewhere b false is polled = is
   elsewhere b true is polled =
@@ -68,14 +68,14 @@ module _ (s : OfficeState) (n : ℕ) (w : WardEntry) (later : List CandidateEntr
     sound = sound;
   }
 
--- in a ward in its nominations, a candidate more or less is of no count
+-- in a ward in its nominations, adding or removing a candidate affects no count
 pub added_before : (s : OfficeState) (c : CandidateEntry) → IsThere Nominations (ward_at s c.ward) → IsBeforeCount s (candidate_added c)
 added_before s c own = record { number = c.ward; ward = own.ward; found = own.is; not_sealed = ap is_counted own.phased; own = refl; wards = refl; lots = refl }
 
 pub withdrawn_before : (s : OfficeState) (n candidate : ℕ) → IsThere Nominations (ward_at s n) → IsBeforeCount s (candidate_withdrawn n candidate)
 withdrawn_before s n candidate own = record { number = n; ward = own.ward; found = own.is; not_sealed = ap is_counted own.phased; own = refl; wards = refl; lots = refl }
 
--- a candidate in range, of a new number, in a ward that is in its nominations
+-- a candidate in range, with a new number, in a ward in its nominations
 pub candidate_stays : (s : OfficeState) (c : CandidateEntry) → is_candidate c ≡ true → candidate_at s c.ward c.number ≡ None → IsThere Nominations (ward_at s c.ward) → IsState s
     → IsState (with_effect (candidate_added c) s)
 candidate_stays s c good new own is =
@@ -89,7 +89,7 @@ candidate_stays s c good new own is =
     maps candidate_map = put_is_map candidate_total c s.candidates good new (maps_of is candidate_map)
     maps m = maps_of is m
 
--- a candidate less, in a ward that is in its nominations
+-- a candidate removed, in a ward in its nominations
 pub withdrawn_stays : (s : OfficeState) (n candidate : ℕ) → IsThere Nominations (ward_at s n) → IsState s → IsState (with_effect (candidate_withdrawn n candidate) s)
 withdrawn_stays s n candidate own is =
     let effect = candidate_withdrawn n candidate in
@@ -101,15 +101,15 @@ withdrawn_stays s n candidate own is =
     maps candidate_map = without_is_map (candidate_compared n candidate) s.candidates (maps_of is candidate_map)
     maps m = maps_of is m
 
--- ---- the ward of a number changed
+-- ---- the ward with a number changed
 
--- a change that keeps each ward's number, and lets it be polled where it was
+-- a change that preserves every ward's number, and keeps it polled if it was
 pub record KeepsWards (change : WardEntry → WardEntry) : Type 0 where
   pub map : Keeps is_ward ward_cmp change
   pub compared : (m : ℕ) (x : WardEntry) → ward_compared m (change x) ≡ ward_compared m x
   pub polled : (x : WardEntry) (cs : List CandidateEntry) → is_polled (Some x) cs ≡ true → is_polled (Some (change x)) cs ≡ true
 
--- in whichever phase past nominations, and with however many stages done
+-- to any phase past nominations, or to any number of stages done
 pub moved : (phase : Phase) → (phase_number phase == phase_number Nominations) ≡ false → KeepsWards (in_phase phase)
 unfolding is_ward
 moved phase beyond =
@@ -119,12 +119,12 @@ pub staged : (done : ℕ) → KeepsWards (at_stage done)
 unfolding is_ward
 staged done = record { map = record { passes = λ x h. h; before = λ x y. refl; behind = λ x y. refl }; compared = λ m x. refl; polled = λ x cs was. was }
 
--- the state with a change made in the ward of a number
+-- the state with the ward with a number changed
 abbrev pub with_ward : ℕ → (WardEntry → WardEntry) → OfficeState → OfficeState
 with_ward n change s = record s { wards = changed (ward_compared n) change s.wards }
 
 module _ (s : OfficeState) (n : ℕ) (w : WardEntry) (change : WardEntry → WardEntry) (found : ward_at s n ≡ Some w) (keeps : KeepsWards change) where
-  -- what holds of each ward, and of the changed one, holds of each
+  -- what holds of every ward, and of the changed one, still holds of every ward
   changed_still : (p : WardEntry → Bool) → IsStrictlySortedBy ward_cmp s.wards → p (change w) ≡ true → list_all p s.wards ≡ true → list_all p (changed (ward_compared n) change s.wards) ≡ true
   changed_still p up good all = list_all-map p next s.wards ∙ wards_but_one s n w p (λ x. p (next x)) up found (λ same. here) there all
     where
@@ -137,7 +137,7 @@ module _ (s : OfficeState) (n : ℕ) (w : WardEntry) (change : WardEntry → War
       there : (x : WardEntry) → (n == x.number) ≡ false → p x ≡ true → p (next x) ≡ true
       there x other holds = rw (unsigned_tied n x.number ∙ other) holds
 
-  -- a ward that was polled is still
+  -- a ward that was polled still is
   polled_still : (m : ℕ) (cs : List CandidateEntry) → is_polled (ward_at s m) cs ≡ true → is_polled (ward_at (with_ward n change s) m) cs ≡ true
   polled_still m cs polled = rw (changed_at (ward_compared n) (ward_compared m) change (keeps.compared m) s.wards) (go (ward_at s m) polled)
     where
@@ -153,7 +153,7 @@ module _ (s : OfficeState) (n : ℕ) (w : WardEntry) (change : WardEntry → War
       let parts = and_parts (not (b.first_clerk == b.second_clerk)) (is_polled (ward_at s b.ward) (candidates_of s b.ward)) out in
       record { given_out = and_from _ _ parts.0 (polled_still b.ward (candidates_of s b.ward) parts.1); candidates = refl }
 
-  -- a ward that is there comes to have enough candidates still, and its count is right
+  -- an existing ward, changed, still has enough candidates, and its count is right
   pub changed_stays : has_enough (change w) (candidates_of s (change w).number) ≡ true → is_sound (election_of s (change w)) ≡ true → IsState s → IsState (with_ward n change s)
   changed_stays enough sound is =
       let placed = and_parts (are_placed s) (are_all has_enough s) is.nominated in

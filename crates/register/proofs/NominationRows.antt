@@ -1,4 +1,4 @@
--- Nominations, computed: candidates stand and withdraw, and what is refused.
+-- Nominations, computed: candidates are added and withdrawn, and the refusals.
 use Rattle.std.proofs.Common.{ℕ, true, false, ◌≡◌, List, [], ◌∷◌, codes, refl, string_bytes}
 use Rattle.std.specs.Fmt.{digits}
 use Rattle.std.specs.declared.string.String.{String}
@@ -11,14 +11,14 @@ use Rattle.register.specs.declared.candidates.CandidateCommand.TheVariants.{Add,
 use Rattle.register.specs.declared.refusal.Reason.TheVariants.{NumberOutOfRange, BadName, NoSuchWard, WrongPhase, CandidateExists, NoSuchCandidate, NoCandidates}
 use Rattle.register.specs.Ranges.{is_id}
 use Rattle.register.specs.Offices.{CandidateEntry, ReceiptEntry, OfficeState, empty_office}
-use Rattle.register.specs.Items.{all_nominated, all_counted}
+use Rattle.register.specs.StateConditions.{all_nominated, all_counted}
 use Rattle.count.specs.Law.Count.{stages_to}
 use Rattle.register.specs.Wards as wards
 use Rattle.register.specs.Candidates as candidates
 use Rattle.register.specs.Machine.{accepted, kept, refused, step, decided}
 use Rattle.register.proofs.WorkedRows.{name_eve, nameless}
 
--- an office with the ward Quay of two seats, in this phase, with these candidates and receipts
+-- an office with the ward Quay with two seats, in this phase, with these candidates and receipts
 abbrev with_quay : Phase → List CandidateEntry → List ReceiptEntry → OfficeState
 with_quay phase candidates receipts = record empty_office { wards = record { number = 8; seats = 2; phase = phase; done = 0; name = codes "Quay" } ∷ []; candidates = candidates; receipts = receipts }
 
@@ -31,11 +31,11 @@ eve = record { ward = 8; number = 2; name = codes "Eve" }
 fay : CandidateEntry
 fay = record { ward = 8; number = 3; name = codes "Fay" }
 
--- what the office asked under an id, and what was replied
+-- the office's receipt with an id, a subject and a reply
 abbrev office_receipt : List ℕ → List ℕ → List ℕ → ReceiptEntry
 office_receipt id subject reply = record { actor = 0; id = id; subject = subject; reply = reply }
 
--- that Eve stands, under the id c2; and that she withdrew, under the id x1
+-- that Eve was added, with the id c2; and that Eve withdrew, with the id x1
 eve_stands : ReceiptEntry
 eve_stands = office_receipt (codes "c2") (codes "candidate 8 2") (codes "candidate 2 of ward 8 added")
 
@@ -80,7 +80,7 @@ too_late_to_withdraw : step (with_quay Sealed (dee ∷ []) []) 0 (codes "x1") (C
 unfolding step decided is_id candidates.subject_of candidates.reply_to digits dee
 too_late_to_withdraw = refl
 
--- ---- which are states
+-- ---- which of these are states
 
 contested_in_keying : all_nominated (with_quay Keying (dee ∷ eve ∷ fay ∷ []) []) ≡ true
 unfolding dee eve fay
@@ -109,7 +109,7 @@ declared_uncontested : all_counted (with_quay Declared (dee ∷ eve ∷ []) []) 
 unfolding all_counted dee eve
 declared_uncontested = refl
 
--- ---- names, each good or not
+-- ---- names, valid and invalid
 
 module _ (name : String Global) (is : string_bytes name ≡ codes "Eve") where
   past_thirty : step (with_quay Nominations (dee ∷ []) []) 0 (codes "c2") (Candidate (Add 8 31 name)) ≡ refused NumberOutOfRange
@@ -133,7 +133,7 @@ module _ (name : String Global) (is : string_bytes name ≡ codes "Eve") where
   unfolding step decided is_id candidates.subject_of candidates.reply_to digits dee eve eve_stands
   stands = simp (is, name_eve) refl
 
-  -- Eve withdraws, and her number is free; but her old id gets its old reply for ever, and only a new one makes her stand again
+  -- Eve withdraws, and the number becomes free; but her old id gets the old reply forever, and only a new id adds her again
   withdraws : step (with_quay Nominations (dee ∷ eve ∷ []) (eve_stands ∷ [])) 0 (codes "x1") (Candidate (Withdraw 8 2))
       ≡ accepted (with_quay Nominations (dee ∷ []) (eve_stands ∷ eve_withdrew ∷ [])) (codes "candidate 2 of ward 8 withdrawn")
   unfolding step decided is_id candidates.subject_of candidates.reply_to digits dee eve eve_stands eve_withdrew

@@ -1,4 +1,4 @@
--- An election whose nominations are closed, that is sealed, advanced, decided by a lot or declared, is right again.
+-- An election is still right after its nominations are closed, or after it is sealed, advanced, decided by a lot or declared.
 use Rattle.std.proofs.Common.{◌≡◌, ℕ, ◌+◌, ◌-◌, ◌<◌, Bool, true, false, cond, ◌==◌, nat_le, nat_eq, List, [], ◌∷◌, length, map, Option, Some, None, refl, sym, ap, ◌∙◌, arith}
 use Rattle.std.specs.List.{find, list_all, list_any}
 use Rattle.std.specs.Option.{option_map}
@@ -22,7 +22,7 @@ use Rattle.register.proofs.MapLemmas.{list_all_weaker, put_all, same_number, bot
 use Rattle.register.proofs.ElectionLemmas.{is_sound, sound_before, uncounted_before, unsealed, uncontested, sound_in, IsRightSoFar, right_in, right_at_start}
 use Rattle.register.proofs.StageLemmas.{acted, ended, IsWaitedFor, waited_for, stage_more, same_stages}
 
--- the election with its ward in another phase, with so many stages done, and with other lots
+-- the election with its ward in another phase, with this number of stages done, or with other lots
 abbrev pub in_phase_of : Phase → ElectionEntry → ElectionEntry
 in_phase_of phase e = record e { ward = in_phase phase e.ward }
 
@@ -34,7 +34,7 @@ with_lots ls e = record e { lots = map lot_pair ls }
 
 -- ---- nominations closed, and a ward sealed
 
--- a ward in its nominations comes to be keyed, or where it isn't contested is sealed at once
+-- a ward in its nominations moves to keying or, if it isn't contested, is sealed at once
 pub sound_closed : (e : ElectionEntry) (b : Bool) → e.ward.phase ≡ Nominations → has_count e ≡ b → is_sound e ≡ true → is_sound (in_phase_of (cond b Keying Sealed) e) ≡ true
 sound_closed e b phased contested sound = go b contested
   where
@@ -45,7 +45,7 @@ sound_closed e b phased contested sound = go b contested
     go true is = sound_before (in_phase_of Keying e) refl none
     go false is = sound_before (in_phase_of Sealed e) is none
 
--- a ward in keying is sealed, its batches being settled
+-- a ward in keying is sealed if its batches are settled
 pub sound_sealed : (e : ElectionEntry) → e.ward.phase ≡ Keying → e.ballots.settled ≡ true → is_sound e ≡ true → is_sound (in_phase_of Sealed e) ≡ true
 sound_sealed e phased settled sound = go (has_count e) refl
   where
@@ -63,7 +63,7 @@ pub record IsHeld (e : ElectionEntry) (due : Due) : Type 0 where
   pub contested : has_count e ≡ true
   pub is : due_by (contest_of e) e.lots (stages_of e) ≡ due
 
--- something is due only where a count is held
+-- something is due only if a count is held
 pub held : (e : ElectionEntry) (due : Due) → due_of e ≡ due → is_finished due ≡ false → IsHeld e due
 held e due is open_ = go (has_count e) refl is
   where
@@ -75,7 +75,7 @@ held e due is open_ = go (has_count e) refl is
 pub in_count : (e : ElectionEntry) → e.ward.phase ≡ Sealed → has_count e ≡ true → is_in_count e ≡ true
 in_count e phased contested = rw phased contested
 
--- a stage that is due is counted
+-- a stage due is counted
 pub sound_advanced : (e : ElectionEntry) (action : Action) → e.ward.phase ≡ Sealed → due_of e ≡ Act action → is_sound e ≡ true → is_sound (at_stage_of (e.ward.done + 1) e) ≡ true
 sound_advanced e action phased due sound =
     let is = held e (Act action) due refl in
@@ -92,7 +92,7 @@ sound_advanced e action phased due sound =
         let low = leb-true lot.0 (e.ward.done + 1) parts.0 in
         and_from _ _ (le-leb lot.0 (e.ward.done + 1 + 1) (omega (arith, low))) parts.1
 
--- a count that is finished is declared
+-- a finished count is declared
 pub sound_declared : (e : ElectionEntry) → e.ward.phase ≡ Sealed → is_finished (due_of e) ≡ true → is_sound e ≡ true → is_sound (in_phase_of Declared e) ≡ true
 sound_declared e phased finished sound = go (has_count e) refl finished
   where
@@ -105,7 +105,7 @@ sound_declared e phased finished sound = go (has_count e) refl finished
 
 -- ---- a lot
 
--- what is found passes the test by which it was looked for, and what all pass
+-- what is found passes the test of the search, and any test that all elements pass
 found_both : {X : Type 0} (p q : X → Bool) (x : X) (xs : List X) → list_all q xs ≡ true → find p xs ≡ Some x → (p x ≡ true) × (q x ≡ true)
 found_both p q x [] all found = absurd (cc)
 found_both {X} p q x (y ∷ ys) all found = go (p y) refl (λ later. found_both p q x ys (and_parts _ _ all).1 later) found
@@ -116,7 +116,7 @@ found_both {X} p q x (y ∷ ys) all found = go (p y) refl (λ later. found_both 
         (ap p (sym one) ∙ is, ap q (sym one) ∙ (and_parts _ _ all).0)
     go false is later same = later same
 
--- a lot of another stage than the one that is put in is found as before
+-- a lot for another stage than the inserted one is found as before
 lot_elsewhere : (l : LotEntry) (k : ℕ) → (l.stage == k) ≡ false → (ls : List LotEntry)
     → find (λ (lot : ℕ × ℕ). lot.0 == k) (map lot_pair (put lot_cmp l ls)) ≡ find (λ (lot : ℕ × ℕ). lot.0 == k) (map lot_pair ls)
 lot_elsewhere l k other [] = rw other refl
@@ -126,7 +126,7 @@ lot_elsewhere l k other (x ∷ ls) =
       | false ↦ ap (λ (o : Option (ℕ × ℕ)). cond (x.stage == k) (Some (lot_pair x)) o) (lot_elsewhere l k other ls)
     ]
 
--- where no lot of its stage is found, none has its key
+-- if no lot for its stage is found, none has its key
 pub lot_is_new : (l : LotEntry) (ls : List LotEntry) → find (λ (lot : ℕ × ℕ). lot.0 == l.stage) (map lot_pair ls) ≡ None → entry_at (lot_cmp l) ls ≡ None
 lot_is_new l [] none = refl
 lot_is_new l (x ∷ ls) none = go (x.stage == l.stage) refl (lot_is_new l ls) none
@@ -153,11 +153,11 @@ module _ (e : ElectionEntry) (ls : List LotEntry) (l : LotEntry) (kind : TiedFor
   waited : IsWaitedFor (contest_of e) e.lots (stages_of e) l.stage kind tied
   waited = let h = is_held in waited_for (contest_of e) e.lots (stages_of e) l.stage kind tied h.is
 
-  -- the lot is for the stage after those done
+  -- the lot is for the stage that follows those done
   next_stage : l.stage ≡ e.ward.done + 1
   next_stage = let w = waited in let r = so_far in stage-due (contest_of e) (stages_of e) l.stage kind tied w.due ∙ ap (λ n. n + 1) r.stages
 
-  -- no lot of its stage is recorded
+  -- no lot for its stage is recorded
   none_yet : (o : Option (ℕ × ℕ)) → find (λ (lot : ℕ × ℕ). lot.0 == l.stage) e.lots ≡ o → find (λ (lot : ℕ × ℕ). lot.0 == l.stage) e.lots ≡ None
   none_yet None is = is
   none_yet (Some lot) is =
@@ -182,11 +182,11 @@ module _ (e : ElectionEntry) (ls : List LotEntry) (l : LotEntry) (kind : TiedFor
   agree : (k : ℕ) → (l.stage == k) ≡ false → lot_for drawn_lots k ≡ lot_for e.lots k
   agree k other = ap (option_map (λ (x : ℕ × ℕ). x.1)) (lot_elsewhere l k other ls) ∙ ap (λ (ms : List (ℕ × ℕ)). lot_for ms k) (sym lots)
 
-  -- the stages before the one that waits for it are as they were
+  -- the stages before the one that waits for it are unchanged
   as_before : (k : ℕ) → k < l.stage → stages_to (contest_of e) drawn_lots k ≡ stages_to (contest_of e) e.lots k
   as_before k low = same_stages (contest_of e) e.lots drawn_lots l.stage agree k low
 
-  -- so are the stages that are done
+  -- so are the stages done
   pub stages_still : stages_of (with_lots (put lot_cmp l ls) e) ≡ stages_of e
   stages_still = let n = next_stage in as_before e.ward.done (omega (arith, n))
 
@@ -208,7 +208,7 @@ module _ (e : ElectionEntry) (ls : List LotEntry) (l : LotEntry) (kind : TiedFor
       in
       and_from _ _ (le-leb l.stage (e.ward.done + 1) (omega (arith, n))) own
 
-  -- a lot among those who are tied is recorded
+  -- a lot for one of those tied is recorded
   pub sound_drawn : list_any (nat_eq l.candidate) tied ≡ true → is_sound (with_lots (put lot_cmp l ls) e) ≡ true
   sound_drawn among =
       let h = is_held in

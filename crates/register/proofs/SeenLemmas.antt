@@ -1,4 +1,4 @@
--- A clerk is answered by what he sees alone, and his requests leave what any other clerk sees as it was.
+-- The decision for a clerk depends only on what the clerk sees, and their requests don't change what any other clerk sees.
 use Rattle.std.proofs.Common.{◌≡◌, ℕ, ◌+◌, Bool, true, false, cond, not, ◌&&◌, ◌==◌, List, [], ◌∷◌, map, filter, Option, Some, None, option_map, option_and_then, refl, sym, ap, ◌∙◌}
 use Rattle.std.specs.List.{list_all}
 use Rattle.std.specs.Ordering.{nat_cmp, is_eq, ordering_then}
@@ -20,25 +20,25 @@ use Rattle.register.specs.Ranges.{is_id, is_office}
 use Rattle.register.specs.Offices.{WardEntry, BatchEntry, KeyedEntry, ReceiptEntry, OfficeState, put, put_each, entry_at, keyed_cmp, receipt_cmp, ward_compared, ward_at, batch_at, third_at}
 use Rattle.register.specs.Offices.{keying_of, receipt_at}
 use Rattle.register.specs.Seen.{seen_by}
-use Rattle.register.specs.Items.{IsState}
+use Rattle.register.specs.StateConditions.{IsState}
 use Rattle.register.specs.Effects.{at_stage, with_change}
 use Rattle.register.specs.Batches.{ward_for}
 use Rattle.register.specs.Keyings as keyings
 use Rattle.register.specs.Keyings.{texts_of, papers_from}
-use Rattle.register.specs.Parts.{PartEntries, is_in_phase}
-use Rattle.register.specs.Papers.{is_keyed, is_its_clerk}
-use Rattle.register.specs.Standings.{BallotPaperEntry, WorkEntry, is_work, work_on, work_of, paper_of, paper_for, paper_at}
+use Rattle.register.specs.CommandInputs.{CommandInputEntries, is_in_phase}
+use Rattle.register.specs.Agreement.{is_keyed, is_its_clerk}
+use Rattle.register.specs.Status.{BallotPaperEntry, WorkEntry, is_work, work_on, work_of, paper_of, paper_for, paper_at}
 use Rattle.register.specs.Machine.{Ruling, keeps, refuses, part_of, objections, subject_of, receipt_for, judged, answered, decided, ruling_at, outcome_at, step, state_after}
 use Rattle.register.proofs.MapLemmas.{filter_put, filter_put_in, filter_put_each, found_filter, same_number, both_equal}
 use Rattle.register.proofs.ItemLemmas.{receipt_total}
 use Rattle.register.proofs.KeyingLemmas.{keyed_among}
 
--- ---- what is not a clerk's to ask
+-- ---- commands that a clerk may not send
 
--- commands other than a keying are refused to who isn't the office, whatever the state
+-- commands other than a keying are refused to anyone but the office, in any state
 data IsOwn : Command → Type 0 where
   key : (command : KeyingCommand) → IsOwn (Key command)
-  not_his : (command : Command) → ((part : PartEntries) (actor : ℕ) → is_office actor ≡ false → first_reason (objections actor command part) ≡ Some NumberOutOfRange) → IsOwn command
+  not_his : (command : Command) → ((part : CommandInputEntries) (actor : ℕ) → is_office actor ≡ false → first_reason (objections actor command part) ≡ Some NumberOutOfRange) → IsOwn command
 
 kind_of : (command : Command) → IsOwn command
 kind_of (Key command) = key command
@@ -48,9 +48,9 @@ kind_of (Batch (Again batch)) = not_his _ (λ part actor other. rw other refl)
 kind_of (Count (Seal ward)) = not_his _ (λ part actor other. rw other refl)
 kind_of command = not_his _ (λ part actor other. rw other refl)
 
--- ---- what he sees of what a request needs
+-- ---- what a clerk sees of what a request needs
 
--- of what passes a test, those that pass a stronger one
+-- the elements that pass a stronger test, among those that pass a weaker one
 filter_both : {X : Type 0} (p q : X → Bool) → ((x : X) → p x ≡ true → q x ≡ true) → (xs : List X) → filter p (filter q xs) ≡ filter p xs
 filter_both p q stronger [] = refl
 filter_both {X} p q stronger (x ∷ xs) = go (q x) refl (p x) refl (filter_both p q stronger xs)
@@ -78,7 +78,7 @@ module _ (s : OfficeState) (actor : ℕ) where
   own_seen batch round = filter_both (λ (k : KeyedEntry). (k.batch == batch) && ((k.round == round) && (k.clerk == actor))) (λ k. k.clerk == actor)
       (λ k passes. (and_parts (k.round == round) (k.clerk == actor) (and_parts (k.batch == batch) ((k.round == round) && (k.clerk == actor)) passes).1).1) s.keyings
 
-  -- the part of a keying, but for the stages done in its ward
+  -- the part of a keying, apart from the stages done in its ward
   part_seen : (command : KeyingCommand) → keyings.part_of (seen_by actor s) actor command
       ≡ record (keyings.part_of s actor command) { ward = option_map (at_stage 0) (ward_for s (batch_at s command.batch)) }
   part_seen command =
@@ -89,13 +89,13 @@ module _ (s : OfficeState) (actor : ℕ) where
       by_batch None = refl
       by_batch (Some b) = ward_seen b.ward
 
--- against a keying the stages done say nothing
-objections_alike : (actor : ℕ) (command : KeyingCommand) (part : PartEntries) (ward : Option WardEntry)
+-- the stages done don't affect the objections to a keying
+objections_alike : (actor : ℕ) (command : KeyingCommand) (part : CommandInputEntries) (ward : Option WardEntry)
     → keyings.objections actor command (record part { ward = option_map (at_stage 0) ward }) ≡ keyings.objections actor command (record part { ward = ward })
 objections_alike actor command part None = refl
 objections_alike actor command part (Some w) = refl
 
--- ---- what is decided
+-- ---- decisions
 
 judged_alike : (s : OfficeState) (actor : ℕ) (id : List ℕ) (command : Command) → is_office actor ≡ false
     → judged actor id command (part_of (seen_by actor s) actor command) (first_reason (objections actor command (part_of (seen_by actor s) actor command)))
@@ -107,10 +107,10 @@ judged_alike s actor id command other_actor = go command (kind_of command)
     go command (not_his _ refused) = rw (refused (part_of (seen_by actor s) actor command) actor other_actor) (rw (refused (part_of s actor command) actor other_actor) refl)
     go (Key command) (key _) =
         let part = keyings.part_of s actor command in
-        ap (λ (p : PartEntries). judged actor id (Key command) p (first_reason (keyings.objections actor command p))) (part_seen s actor command)
+        ap (λ (p : CommandInputEntries). judged actor id (Key command) p (first_reason (keyings.objections actor command p))) (part_seen s actor command)
         ∙ ap (λ (os : List (Option Reason)). judged actor id (Key command) part (first_reason os)) (objections_alike actor command part (ward_for s (batch_at s command.batch)))
 
--- what is decided for a clerk rests on what he sees alone
+-- the decision for a clerk depends only on what they see
 pub ruling_on_seen : (s : OfficeState) (actor : ℕ) (id : List ℕ) (command : Command) → is_office actor ≡ false → ruling_at (seen_by actor s) actor id command ≡ ruling_at s actor id command
 unfolding decided
 ruling_on_seen s actor id command other_actor =
@@ -123,9 +123,9 @@ ruling_on_seen s actor id command other_actor =
     go (Some r) = refl
     go None = judged_alike s actor id command other_actor
 
--- ---- what is left of what he sees
+-- ---- how requests change what a clerk sees
 
--- the papers of a keying are its clerk's
+-- the papers of a keying are by its clerk
 papers_own : (batch round clerk paper : ℕ) (texts : List (List ℕ)) → list_all (λ (k : KeyedEntry). k.clerk == clerk) (papers_from batch round clerk paper texts) ≡ true
 unfolding papers_from
 papers_own batch round clerk paper [] = refl
@@ -138,7 +138,7 @@ papers_other batch round clerk other paper [] apart = refl
 papers_other batch round clerk other paper (marks ∷ others) apart = and_from _ _ (ap not apart) (papers_other batch round clerk other (paper + 1) others apart)
 
 module _ (s : OfficeState) (actor : ℕ) (id : List ℕ) (other_actor : is_office actor ≡ false) where
-  -- an accepted keying leaves what another clerk sees
+  -- an accepted keying doesn't change what another clerk sees
   keyed_unseen : (other : ℕ) → (actor == other) ≡ false → (command : KeyingCommand) (r : ReceiptEntry) → r.actor ≡ actor
       → seen_by other (with_change (record { effect = keyings.effect_of actor command; receipt = r }) s) ≡ seen_by other s
   keyed_unseen other apart command r own =
@@ -157,7 +157,7 @@ module _ (s : OfficeState) (actor : ℕ) (id : List ℕ) (other_actor : is_offic
       go (Some why) = refl
       go None = keyed_unseen other apart command (receipt_for actor id (Key command) (keyings.part_of s actor command)) refl
 
-  -- a clerk's request leaves what any other sees as it was
+  -- a clerk's request doesn't change what any other clerk sees
   pub unseen_by : (command : Command) (other : ℕ) → (actor == other) ≡ false → seen_by other (state_after s (step s actor id command)) ≡ seen_by other s
   unfolding step decided
   unseen_by command other apart = go (is_id id) (receipt_at s actor id)
@@ -170,7 +170,7 @@ module _ (s : OfficeState) (actor : ℕ) (id : List ℕ) (other_actor : is_offic
       go true None = judged_unseen other apart command (kind_of command)
 
   module _ (is : IsState s) where
-    -- an accepted keying leaves of what its clerk sees what it would make of that alone
+    -- an accepted keying changes what its clerk sees as it would change that on its own
     keyed_alone : (command : KeyingCommand) (r : ReceiptEntry) → r.actor ≡ actor → first_reason (keyings.objections actor command (keyings.part_of s actor command)) ≡ None
         → seen_by actor (with_change (record { effect = keyings.effect_of actor command; receipt = r }) s)
         ≡ with_change (record { effect = keyings.effect_of actor command; receipt = r }) (seen_by actor s)
@@ -209,18 +209,18 @@ module _ (s : OfficeState) (actor : ℕ) (id : List ℕ) (other_actor : is_offic
             ≡ state_after (seen_by actor s) (outcome_at (seen_by actor s) (cond b (keeps r.reply) (refuses IdUsed)))) [ true ↦ refl | false ↦ refl ]
         go true None = judged_alone command (kind_of command)
 
-    -- a clerk's request leaves of what he sees what it would make of that alone
+    -- a clerk's request changes what they see as it would change that on its own
     pub stands_alone : (command : Command) → seen_by actor (state_after s (step s actor id command)) ≡ state_after (seen_by actor s) (step (seen_by actor s) actor id command)
     unfolding step
     stands_alone command = ruled_alone command ∙ ap (λ (ruling : Ruling). state_after (seen_by actor s) (outcome_at (seen_by actor s) ruling)) (sym (ruling_on_seen s actor id command other_actor))
 
--- ---- his work
+-- ---- a clerk's work
 
 in_keying_seen : (o : Option WardEntry) → is_in_phase Keying (option_map (at_stage 0) o) ≡ is_in_phase Keying o
 in_keying_seen None = refl
 in_keying_seen (Some w) = refl
 
--- his work rests on what he sees alone
+-- a clerk's work depends only on what they see
 pub work_seen : (s : OfficeState) (clerk : ℕ) → work_of (seen_by clerk s) clerk ≡ work_of s clerk
 work_seen s clerk = go s.batches
   where
@@ -243,9 +243,9 @@ work_seen s clerk = go s.batches
         here true later = both b _ _ later
         here false later = later
 
--- ---- what stands on the papers that he keys
+-- ---- the text of the papers to be keyed
 
--- it rests on what he sees alone: of a ward he sees all but how many stages are done
+-- it depends only on what the clerk sees: all of a ward but the number of stages done
 pub paper_seen : (s : OfficeState) (clerk batch : ℕ) → paper_at (seen_by clerk s) clerk batch ≡ paper_at s clerk batch
 paper_seen s clerk batch = go (batch_at s batch)
   where

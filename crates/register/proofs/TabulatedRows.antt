@@ -1,4 +1,4 @@
--- What is tabulated of a count that is worked by hand, computed.
+-- The tabulation of a count worked by hand, computed.
 use Rattle.std.proofs.Common.{refl}
 use Rattle.count.specs.Law.Count.{stages_to}
 use Rattle.register.specs.WorkedTabulation.{WorkedTabulation}

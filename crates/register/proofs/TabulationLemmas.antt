@@ -1,4 +1,4 @@
--- What leaves the counts of all wards as they are leaves the tabulation of a state as it is.
+-- What leaves the counts of all wards as they are also leaves the tabulation of a state as it is.
 use Rattle.std.proofs.Common.{◌≡◌, ℕ, true, false, cond, not, ◌==◌, List, [], ◌∷◌, ◌++◌, map, Some, refl, sym, ap, ◌∙◌}
 use Rattle.std.specs.Prelude.{⊤}
 use Rattle.std.specs.List.{flat_map}
@@ -12,7 +12,7 @@ use Rattle.register.specs.Offices.{WardEntry, LotEntry, OfficeState, ward_cmp, w
 use Rattle.register.specs.Marks.{columns_of}
 use Rattle.register.specs.Elections.{ElectionEntry, election_of, has_count, contest_of, stages_of, is_uncounted}
 use Rattle.register.specs.Effects.{EffectEntry, ward_added, ward_moved, stage_counted, in_phase, with_effect}
-use Rattle.register.specs.Items.{IsState}
+use Rattle.register.specs.StateConditions.{IsState}
 use Rattle.register.specs.Tabulated.{PlacedEntry, FigureEntry, TabulationEntries, has_stages, placed_at, bundles_in, figures_to, figures_in, tabulation_of}
 use Rattle.register.proofs.MapLemmas.{found_passes}
 use Rattle.register.proofs.SplitLemmas.{flat_put, flat_changed, are_others, IsSplit, split_at}
@@ -20,10 +20,9 @@ use Rattle.register.proofs.ElectionLemmas.{is_sound, sound_of, uncounted_before,
 use Rattle.register.proofs.ElsewhereLemmas.{IsBeforeCount, election_elsewhere}
 use Rattle.register.proofs.ProgressLemmas.{in_phase_of, with_lots}
 
--- ---- what is told of a count
+-- ---- entries for a count
 
--- What is told of an election's count: nothing before it has a stage; and its ward's phase, or lots that leave the stages done, change
--- nothing of it.
+-- Entries for an election's count: there are none before it has a stage; and its ward's phase, or lots that leave the stages done as they are, don't change them.
 pub record IsOfCount {X : Type 0} (told : ElectionEntry → List X) : Type 0 where
   pub none : (e : ElectionEntry) → has_stages e ≡ false → told e ≡ []
   pub of_phase : (e : ElectionEntry) (phase : Phase) → told (in_phase_of phase e) ≡ told e
@@ -47,7 +46,7 @@ figures_of_count = record {
 pub no_stages : (e : ElectionEntry) → is_uncounted e ≡ true → has_stages e ≡ false
 no_stages e none = and_right (has_count e) (not (e.ward.done == 0)) (not_from_true (e.ward.done == 0) (and_parts _ _ none).0)
 
--- ---- what is told of all wards
+-- ---- entries for all wards
 
 abbrev pub told_by : {X : Type 0} → (ElectionEntry → List X) → OfficeState → List X
 told_by told s = flat_map (λ (w : WardEntry). told (election_of s w)) s.wards
@@ -59,7 +58,7 @@ same_tabulation s t bundles figures = ap (λ (bs : List PlacedEntry). made bs (t
     made : List PlacedEntry → List FigureEntry → TabulationEntries
     made bs fs = record { bundles = bs; figures = fs }
 
--- of elections that are alike the same is told
+-- elections that are alike have the same entries
 told_alike : {X : Type 0} (told : ElectionEntry → List X) (s t : OfficeState) → ((w : WardEntry) → election_of t w ≡ election_of s w) → (ws : List WardEntry)
     → flat_map (λ (w : WardEntry). told (election_of t w)) ws ≡ flat_map (λ (w : WardEntry). told (election_of s w)) ws
 told_alike told s t alike [] = refl
@@ -73,7 +72,7 @@ tabulation_alike s t wards alike = same_tabulation s t (whole bundles_in) (whole
     whole told = ap (flat_map (λ (w : WardEntry). told (election_of t w))) wards ∙ told_alike told s t alike s.wards
 
 module _ {X : Type 0} (told : ElectionEntry → List X) (of : IsOfCount told) (s : OfficeState) where
-  -- a ward more, in which no stage is done
+  -- one more ward, in which no stage is done
   told_added : (w : WardEntry) → w.done ≡ 0 → told_by told (with_effect (ward_added w) s) ≡ told_by told s
   told_added w none = flat_put ward_cmp (λ (x : WardEntry). told (election_of s x)) w s.wards (of.none (election_of s w) (and_right (has_count (election_of s w)) (not (w.done == 0)) (rw none refl)))
 
@@ -81,7 +80,7 @@ module _ {X : Type 0} (told : ElectionEntry → List X) (of : IsOfCount told) (s
   told_moved : (n : ℕ) (phase : Phase) → told_by told (with_effect (ward_moved n phase) s) ≡ told_by told s
   told_moved n phase = flat_changed (ward_compared n) (in_phase phase) (λ (x : WardEntry). told (election_of s x)) s.wards (λ x. of.of_phase (election_of s x) phase)
 
-  -- elections that are alike but for that of one ward, of which the same is told
+  -- elections that are alike except in one ward, whose entries are the same
   pub told_but_one : (t : OfficeState) (n : ℕ) (w : WardEntry) → t.wards ≡ s.wards → IsSplit (λ (x : WardEntry). x.number) n w s.wards → told (election_of t w) ≡ told (election_of s w)
       → ((x : WardEntry) → (n == x.number) ≡ false → told (election_of t x) ≡ told (election_of s x)) → told_by told t ≡ told_by told s
   told_but_one t n w same split own others =
@@ -111,11 +110,11 @@ tabulation_added s w none = same_tabulation s (with_effect (ward_added w) s) (to
 pub tabulation_moved : (s : OfficeState) (n : ℕ) (phase : Phase) → tabulation_of (with_effect (ward_moved n phase) s) ≡ tabulation_of s
 tabulation_moved s n phase = same_tabulation s (with_effect (ward_moved n phase) s) (told_moved bundles_in bundles_of_count s n phase) (told_moved figures_in figures_of_count s n phase)
 
--- the wards of a state, split at one that is there
+-- the wards of a state, split at an existing one
 pub wards_split : (s : OfficeState) (n : ℕ) (w : WardEntry) → IsState s → ward_at s n ≡ Some w → IsSplit (λ (x : WardEntry). x.number) n w s.wards
 wards_split s n w is found = split_at (λ (x : WardEntry). x.number) n w s.wards is.rise.wards found
 
--- what an effect of a ward that hasn't been sealed leaves
+-- an effect concerning a ward that hasn't been sealed leaves the tabulation as it is
 pub tabulation_kept : (s : OfficeState) (effect : EffectEntry) → IsState s → IsBeforeCount s effect → tabulation_of (with_effect effect s) ≡ tabulation_of s
 tabulation_kept s effect is before = same_tabulation s (with_effect effect s) (alike bundles_in bundles_of_count) (alike figures_in figures_of_count)
   where
@@ -133,7 +132,7 @@ tabulation_kept s effect is before = same_tabulation s (with_effect effect s) (a
         (of.none (election_of (with_effect effect s) before.ward) still_none ∙ sym (of.none (election_of s before.ward) (no_stages (election_of s before.ward) none)))
         (λ x other. ap told (election_elsewhere s before.number is x other effect before.own))
 
--- What an effect leaves of the tabulation: all of it, where it doesn't count a stage.
+-- An effect leaves all of the tabulation as it is, unless it counts a stage.
 abbrev pub KeepsTabulation : OfficeState → EffectEntry → Type 0
 KeepsTabulation s (stage_counted ward done) = ⊤
 KeepsTabulation s effect = tabulation_of (with_effect effect s) ≡ tabulation_of s

@@ -1,4 +1,4 @@
--- What is told of a poll, an action and the elected is a line.
+-- The words for a poll, an action and the elected are a line.
 use Rattle.std.proofs.Common.{inl, inr, ◌≡◌, ℕ, suc, ◌+◌, ◌*◌, ◌/◌, ◌≤◌, Bool, true, false, cond, not, ◌==◌, nat_le, nat_lt, codes, List, [], ◌∷◌, length, map, filter, fold, Option, Some}
 use Rattle.std.proofs.Common.{refl, sym, ap, subst, ◌∙◌, arith, length-append}
 use Rattle.std.specs.Fmt.{decimal}
@@ -10,7 +10,7 @@ use Rattle.std.proofs.lemmas.List.Kept.{IsStrictlySortedBy-filter}
 use Rattle.std.proofs.lemmas.Str.Ascii.{IsAscii-cons}
 use Rattle.votes.specs.Text.{last_digit, fraction_text, votes_text}
 use Rattle.votes.specs.Units.{max_papers, quota_of}
-use Rattle.paper.specs.Columns.{IsColumn, IsColumnSet, with_column, max_candidates}
+use Rattle.paper.specs.Columns.{IsColumn, IsCandidateSet, with_column, max_candidates}
 use Rattle.count.specs.Law.Contest.{Contest, History}
 use Rattle.count.specs.Law.Due.{due_after, drawn}
 use Rattle.count.specs.declared.stages.Action.{Action}
@@ -24,11 +24,11 @@ use Rattle.count.specs.Actions.{action_text}
 use Rattle.register.specs.Texts.{behind, listed}
 use Rattle.register.specs.Offices.{CandidateEntry, OfficeState, batch_cmp, batch_at}
 use Rattle.register.specs.Marks.{and_column, columns_of}
-use Rattle.register.specs.Papers.{batches_of}
+use Rattle.register.specs.Agreement.{batches_of}
 use Rattle.register.specs.Polls.{Pile, piles_of, judgements, preferences_by, is_rejected, rejected_with, ballots_in, poll_of, all_rejected}
 use Rattle.register.specs.Counts.{poll_told}
-use Rattle.register.specs.Keyed.{is_keyed_for, are_rounds_to}
-use Rattle.register.specs.Items.{is_batch, IsState}
+use Rattle.register.specs.BatchConditions.{is_keyed_for, are_rounds_to}
+use Rattle.register.specs.StateConditions.{is_batch, IsState}
 use Rattle.register.proofs.LineLemmas.{IsLine, given, line_append, line_decimal, line_number, line_within, not_equal}
 use Rattle.register.proofs.MapLemmas.{kept_all}
 use Rattle.register.proofs.ItemLemmas.{batch_map, maps_of}
@@ -36,7 +36,7 @@ use Rattle.register.proofs.ContestLemmas.{few_among, few_batches}
 
 -- ---- numbers of candidates
 
--- some numbers are those of candidates
+-- all numbers are candidate numbers
 abbrev pub are_small : List ℕ → Bool
 are_small ns = list_all (λ n. nat_le n max_candidates) ns
 
@@ -52,7 +52,7 @@ columns_small columns (c ∷ cs) small = columns_small (and_column columns c) cs
         let above = kept_all (λ n. nat_le n max_candidates) (λ d. nat_lt c.number d) columns small in
         list_all-append (λ n. nat_le n max_candidates) (filter (λ d. nat_lt d c.number) columns) (c.number ∷ filter (λ d. nat_lt c.number d) columns) ∙ and_from _ _ below (and_from _ _ own.1 above)
 
--- the columns of a ward are
+-- so are the columns of a ward
 pub columns_are_small : (cs : List CandidateEntry) → are_small (columns_of cs) ≡ true
 columns_are_small cs = columns_small [] cs refl
 
@@ -90,8 +90,8 @@ exclusion_line contest stages c column true =
     line_within (line_append (given (codes "exclusion of ") refl) (line_append (candidate_line c column) (given (codes ", last vacancies") refl))) (omega arith)
 exclusion_line contest stages c column false = line_within (line_append (given (codes "exclusion of ") refl) (candidate_line c column)) (omega arith)
 
--- an action that comes next
-pub action_line : (contest : Contest) (stages : History) (lot : Option ℕ) (action : Action) → IsColumnSet contest.candidates → drawn contest stages lot (due_after contest stages) ≡ Some action
+-- the next action
+pub action_line : (contest : Contest) (stages : History) (lot : Option ℕ) (action : Action) → IsCandidateSet contest.candidates → drawn contest stages lot (due_after contest stages) ≡ Some action
     → IsLine 40 (action_text action)
 action_line contest [] lot action set next =
     subst (λ (a : Action). IsLine 40 (action_text a)) (sym (step-first contest lot action next)) (line_within (given (codes "first preferences") refl) (omega arith))
@@ -121,7 +121,7 @@ quota_line papers seats few =
     let whole : quota_of papers seats / 100000 ≤ papers + 1 = omega (arith, part) in
     line_append (line_decimal 10 (quota_of papers seats / 100000) (omega arith) (omega (arith, whole, few)) (omega (arith, whole, few))) (fraction_line (quota_of papers seats))
 
--- a ward has few papers
+-- the papers of a ward are within the limit
 pub judgements_are_few : {s : OfficeState} → IsState s → (columns : List ℕ) (ward : ℕ) → length (judgements columns (piles_of s ward)) ≤ max_papers
 judgements_are_few {s} is columns ward =
     let batches = maps_of is batch_map in
@@ -151,7 +151,7 @@ few_rejected js =
     let fifth = length_kept (is_rejected 5) js in
     omega (arith, first, second, third, fourth, fifth)
 
--- what is told of a poll of few papers
+-- the words for a poll whose papers are within the limit
 pub poll_line : (columns : List ℕ) (piles : List Pile) (seats : ℕ) → length (judgements columns piles) ≤ max_papers → IsLine 80 (poll_told (Some (poll_of seats (ballots_in columns piles))))
 poll_line columns piles seats few =
     let js = judgements columns piles in

@@ -1,4 +1,4 @@
--- The valid papers of a ward and the rejected ones are all its papers.
+-- The valid and the rejected papers of a ward together are all its papers.
 use Rattle.std.proofs.Common.{◌≡◌, ℕ, zero, suc, ◌+◌, ◌<◌, ◌==◌, ◌&&◌, ◌||◌, nat_le, Bool, true, false, not, cond, List, [], ◌∷◌, length, map, filter, find, Some, Result, Ok, Err, codes}
 use Rattle.std.proofs.Common.{refl, sym, ap, subst, ◌∙◌, arith, length-append}
 use Rattle.std.specs.Prelude.{sum_by}
@@ -25,9 +25,9 @@ use Rattle.register.specs.Ranges.{is_between}
 use Rattle.register.specs.Offices.{WardEntry, BatchEntry, KeyedEntry, JudgedEntry, OfficeState, batch_cmp, batch_compared, batch_at, candidates_of, third_at, keying_of, verdicts_of}
 use Rattle.register.specs.Marks.{columns_of, is_read, is_readable, is_judged_valid, is_valid}
 use Rattle.register.specs.Verdicts.{is_rejection_code}
-use Rattle.register.specs.Papers.{is_keyed, is_doubtful, has_verdict, is_open, is_its_clerk, has_doubtful, are_taken, clerks_of, keyings_now, taken_papers, batches_of}
-use Rattle.register.specs.Keyed.{columns_for, is_keyed_for, is_whole, are_rounds_to, is_verdict_on, is_judged}
-use Rattle.register.specs.Items.{is_batch, IsState}
+use Rattle.register.specs.Agreement.{is_keyed, is_doubtful, has_verdict, is_open, is_its_clerk, has_doubtful, are_taken, clerks_of, keyings_now, taken_papers, batches_of}
+use Rattle.register.specs.BatchConditions.{columns_for, is_keyed_for, is_whole, are_rounds_to, is_verdict_on, is_judged}
+use Rattle.register.specs.StateConditions.{is_batch, IsState}
 use Rattle.register.specs.Polls.{Pile, pile_of, piles_of, is_settled, by_rejection, by_reading, by_verdict, judgement_on, judgements_on, judgements_in, judgements, preferences_by}
 use Rattle.register.specs.Polls.{is_rejected, rejected_with, all_rejected}
 use Rattle.register.specs.Elections.{election_of}
@@ -38,13 +38,13 @@ use Rattle.register.proofs.ContestLemmas.{round_now, length_map}
 
 -- ---- judgements
 
--- the paper is valid, or rejected with a code 1 to 5
+-- the paper is valid, or rejected with a code of 1 to 5
 abbrev is_decided : Judgement → Bool
 is_decided (Valid prefs) = true
 is_decided (Rejected code) = is_between 1 5 code
 is_decided Open = false
 
--- how a judgement counts for a code
+-- how a judgement counts towards a code
 abbrev counts_for : Judgement → ℕ → ℕ
 counts_for j n = cond (is_rejected n j) 1 0
 
@@ -70,7 +70,7 @@ one_each (Valid prefs) decided = refl
 one_each (Rejected code) decided = omega (arith, one_code code decided)
 one_each Open decided = absurd (cc)
 
--- the valid papers and the rejected ones are as many as the judgements
+-- the numbers of valid and of rejected papers add up to the number of judgements
 each_counted_once : (js : List Judgement) → list_all is_decided js ≡ true
     → length (flat_map preferences_by js) + (rejected_with js 1 + (rejected_with js 2 + (rejected_with js 3 + (rejected_with js 4 + rejected_with js 5)))) ≡ length js
 each_counted_once [] decided = refl
@@ -88,7 +88,7 @@ each_counted_once (j ∷ js) decided =
       each_counted_once js parts.1,
     )
 
--- ---- each paper of a batch that is settled is decided
+-- ---- every paper of a settled batch is decided
 
 by_marking : (marking : Marking) → is_decided (by_rejection marking (rejection_of marking)) ≡ true
 by_marking marking = go (marked_with 1 marking)
@@ -98,13 +98,13 @@ by_marking marking = go (marked_with 1 marking)
     go (c ∷ []) = refl
     go (c ∷ d ∷ cs) = refl
 
--- by marks that are read
+-- by marks that can be read
 by_read : (doubtful : Judgement) (r : Result Keyed MarkFault) → is_read r ≡ true → (r ≡ Ok Doubtful → is_decided doubtful ≡ true) → is_decided (by_reading doubtful r) ≡ true
 by_read doubtful (Err fault) read decided = absurd (cc)
 by_read doubtful (Ok Doubtful) read decided = decided refl
 by_read doubtful (Ok (Marked marking)) read decided = by_marking marking
 
--- by marks by which a paper is valid
+-- by marks that make the paper valid
 by_valid : (r : Result Keyed MarkFault) → is_judged_valid r ≡ true → is_decided (by_reading Open r) ≡ true
 by_valid (Err fault) valid = absurd (cc)
 by_valid (Ok Doubtful) valid = absurd (cc)
@@ -146,7 +146,7 @@ by_one columns keying v on = go (v.code == 0) refl (and_parts (has_doubtful keyi
     go true none is = by_valid (reading columns v.marks) (either (is_valid columns v.marks) (is_rejection_code v.code) (length v.marks == 0) (ap is_rejection_code (eqb-true v.code 0 none)) is)
     go false some is = within (and_parts (is_rejection_code v.code) (length v.marks == 0) is).0
 
--- by the verdict that is found on it
+-- by the verdict found on it
 by_found : (columns : List ℕ) (keying : List KeyedEntry) (paper : ℕ) (vs : List JudgedEntry) → list_all (is_verdict_on columns keying) vs ≡ true → has_verdict vs paper ≡ true
     → is_decided (by_verdict columns (find (λ (v : JudgedEntry). v.paper == paper) vs)) ≡ true
 by_found columns keying paper [] all has = absurd (cc)
@@ -160,7 +160,7 @@ by_found columns keying paper (v ∷ vs) all has = go (v.paper == paper) has (by
     go true is later = by_one columns keying v parts.0
     go false is later = later is
 
--- what a batch's papers and verdicts have to be
+-- the conditions on a batch's papers and verdicts
 record Counts (s : OfficeState) (columns : List ℕ) (b : BatchEntry) : Type 0 where
   whole : list_all (is_whole b.size) (keyings_now s b) ≡ true
   readable : list_all (λ k. is_readable columns k.marks) (taken_papers s b) ≡ true
@@ -194,7 +194,7 @@ no_length : {X : Type 0} (xs : List X) → (length xs == 0) ≡ true → xs ≡ 
 no_length [] none = refl
 no_length (x ∷ xs) none = absurd (omega (arith, eqb-true (length (x ∷ xs)) 0 none))
 
--- a batch that is settled has a judgement on each of its papers
+-- a settled batch has a judgement on each of its papers
 record AllJudged (columns : List ℕ) (size : ℕ) (pile : Pile) : Type 0 where
   decided : list_all is_decided (judgements_in columns pile) ≡ true
   each : length (judgements_in columns pile) ≡ size
@@ -210,7 +210,7 @@ batch_judged s columns b is settled =
       each = length_map (judgement_on columns verdicts) papers ∙ eqb-true (length papers) b.size (and_parts (length papers == b.size) _ whole).0;
     }
 
--- and so have all batches that are
+-- and so have all settled batches
 each_judged : (s : OfficeState) (columns : List ℕ) (bs : List BatchEntry) → AllByRecursion (Counts s columns) bs → list_all is_settled (map (pile_of s) bs) ≡ true
     → (list_all is_decided (judgements columns (map (pile_of s) bs)) ≡ true) × (length (judgements columns (map (pile_of s) bs)) ≡ sum_by (λ (b : BatchEntry). b.size) bs)
 each_judged s columns [] each settled = (refl, refl)
@@ -222,9 +222,9 @@ each_judged s columns (b ∷ bs) each settled =
       omega (arith, length-append (judgements_in columns (pile_of s b)) (judgements columns (map (pile_of s) bs)), own.each, others.1, sum_by-cons (λ (c : BatchEntry). c.size) b bs),
     )
 
--- ---- the batches of a ward at a state
+-- ---- the batches of a ward in a state
 
--- each batch is found under its number
+-- each batch is found by its number
 found_each : (bs : List BatchEntry) → IsStrictlySortedBy batch_cmp bs → AllByRecursion (λ b. find (λ c. is_eq (batch_compared b.number c)) bs ≡ Some b) bs
 unfolding IsStrictlySortedBy
 found_each [] up = tt
@@ -238,7 +238,7 @@ found_each (b ∷ bs) up = (rw (unsigned_tied b.number b.number ∙ eq-eqb b.num
         let other : is_eq (nat_cmp c.number b.number) ≡ false = unsigned_tied c.number b.number ∙ ne_eqb c.number b.number (λ same. omega (arith, rank, same)) in
         (rw other found.0, behind cs less.1 found.1)
 
--- the marks of a clerk's keying of a batch are read
+-- the marks of a clerk's keying of a batch can be read
 all_readable : (s : OfficeState) (b : BatchEntry) (clerk : ℕ) (ks : List KeyedEntry) → batch_at s b.number ≡ Some b → list_all (λ k. is_keyed_for s k (batch_at s k.batch)) ks ≡ true
     → list_all (λ k. is_readable (columns_for s b) k.marks) (filter (λ (k : KeyedEntry). (k.batch == b.number) && ((k.round == b.round) && (k.clerk == clerk))) ks) ≡ true
 all_readable s b clerk [] there keyed = refl
@@ -301,7 +301,7 @@ ward_counts s is ward (b ∷ bs) there fine rounds judged = go (b.ward == ward) 
     go true of later = (subst (λ n. Counts s (columns_of (candidates_of s n)) b) (eqb-true b.ward ward of) (batch_counts s is b there.0 good.0 all.0 on.0), later)
     go false of later = later
 
--- at a state the valid papers of a ward whose batches are settled, and the rejected ones of each code, are all the papers of its batches
+-- in a state the valid papers of a ward whose batches are settled, and the papers rejected with each code, are all the papers of its batches
 pub polls_add_up : (s : OfficeState) (w : WardEntry) → IsState s → (election_of s w).ballots.settled ≡ true
     → length (election_of s w).ballots.papers + all_rejected (election_of s w).ballots.rejected ≡ sum_by (λ (b : BatchEntry). b.size) (batches_of s w.number)
 polls_add_up s w is settled =

@@ -1,5 +1,4 @@
--- The command about a doubtful paper, where nothing stands against it, leads from a state to a state, and leaves a receipt in
--- range.
+-- The command about a doubtful paper without objections leads from a state to a state, and leaves a receipt in range.
 use Rattle.std.proofs.Common.{rules, ◌≡◌, ℕ, Bool, true, false, ◌&&◌, ◌==◌, ◌++◌, codes, List, [], ◌∷◌, filter, Option, Some, None, is_some, string_bytes, refl, sym, ap, ◌∙◌, arith, cond}
 use Rattle.std.specs.Fmt.{decimal}
 use Rattle.std.specs.List.{list_all}
@@ -17,9 +16,9 @@ use Rattle.register.specs.Ranges.{last_batch, most_papers, is_office, is_batch_n
 use Rattle.register.specs.Subjects.{is_office_subject}
 use Rattle.register.specs.Offices.{BatchEntry, JudgedEntry, OfficeState, put, judged_cmp, batch_at, verdict_at}
 use Rattle.register.specs.Marks.{columns_of, is_valid}
-use Rattle.register.specs.Papers.{agreed, has_doubtful, taken_papers}
-use Rattle.register.specs.Keyed.{columns_for, is_verdict_for}
-use Rattle.register.specs.Items.{is_judged_paper, IsState}
+use Rattle.register.specs.Agreement.{agreed, has_doubtful, taken_papers}
+use Rattle.register.specs.BatchConditions.{columns_for, is_verdict_for}
+use Rattle.register.specs.StateConditions.{is_judged_paper, IsState}
 use Rattle.register.specs.Effects.{paper_judged, with_effect}
 use Rattle.register.specs.Batches.{ward_for, candidates_for, keyings_for}
 use Rattle.register.specs.Verdicts.{part_of, is_in_range, is_verdict, objections, subject_of, verdict_word, reply_to, judged_as, effect_of}
@@ -31,7 +30,7 @@ use Rattle.register.proofs.ElsewhereLemmas.{judged_elsewhere, IsBeforeCount, bat
 use Rattle.register.proofs.TabulationLemmas.{tabulation_kept}
 use Rattle.register.proofs.ItemLemmas.{MapName, judged_map, Holds, maps_of, state_from, rounds_still, judged_total, IsFit, office_about}
 
--- what passes a test of each that is left, and of the entry that is put in
+-- a test that every remaining entry passes, and the inserted one
 put_kept : {X : Type 0} (cmp : X → X → Ordering) (p q : X → Bool) (x : X) (ys : List X) → p x ≡ true → list_all p (filter q ys) ≡ true → list_all p (filter q (put cmp x ys)) ≡ true
 put_kept {X} cmp p q x [] good all = elim (q x) as (λ b. list_all p (cond b (x ∷ []) []) ≡ true) [ true ↦ and_from _ _ good refl | false ↦ refl ]
 put_kept {X} cmp p q x (y ∷ ys) good all = elim (is_lt (cmp x y)) as (λ b. list_all p (filter q (cond b (x ∷ y ∷ ys) (y ∷ put cmp x ys))) ≡ true) [
@@ -44,7 +43,7 @@ put_kept {X} cmp p q x (y ∷ ys) good all = elim (is_lt (cmp x y)) as (λ b. li
     go true later each = and_from _ _ (and_parts _ _ each).0 (later (and_parts _ _ each).1)
     go false later each = later each
 
--- a verdict in range on a doubtful paper of those that a batch is taken with, which has none
+-- a verdict in range on a doubtful paper, without one so far, of those that a batch is taken with
 judged_stays : (s : OfficeState) (v : JudgedEntry) (b : BatchEntry) → is_judged_paper v ≡ true → batch_at s v.batch ≡ Some b → is_verdict_for s b v ≡ true
     → verdict_at s v.batch v.paper ≡ None → IsBeforeCount s (paper_judged v) → IsState s → IsState (with_effect (paper_judged v) s)
 judged_stays s v b good found on new before is =
@@ -73,7 +72,7 @@ judged_stays s v b good found on new before is =
 
 -- ---- the command
 
--- a verdict as it is kept leads to a state
+-- a verdict as stored leads to a state
 verdict_stays : (s : OfficeState) (batch paper : ℕ) (verdict : Verdict) (b : BatchEntry) → is_batch_number batch ≡ true → is_paper_number paper ≡ true → batch_at s batch ≡ Some b
     → has_doubtful (taken_papers s b) paper ≡ true → is_verdict (columns_for s b) verdict ≡ true → verdict_at s batch paper ≡ None
     → IsBeforeCount s (paper_judged (judged_as batch paper verdict)) → IsState s
@@ -91,7 +90,7 @@ judged_batch : (batch paper : ℕ) (verdict : Verdict) → (judged_as batch pape
 judged_batch batch paper (Accept marks) = refl
 judged_batch batch paper (Reject code) = refl
 
--- what is told of a verdict is a line
+-- the word for a verdict is a line
 told : (columns : List ℕ) (verdict : Verdict) → is_verdict columns verdict ≡ true → IsLine 20 (verdict_word verdict)
 told columns (Accept marks) good = record { ascii = search rules; short = omega arith; plain = refl }
 told columns (Reject code) good =
@@ -99,7 +98,7 @@ told columns (Reject code) good =
     let high = upper 3 5 code good in
     line_append (words (codes " rejected ") (search rules) refl) (line_number 5 code (omega arith) (and_from _ _ (le-leb 1 code (omega (arith, low))) (le-leb code 5 high)))
 
--- what the receipt of a verdict may be about
+-- the subjects of receipts for a verdict
 judge_about : (m n : ℕ) → is_batch_number m ≡ true → is_paper_number n ≡ true → is_office_subject (codes "judge " ++ (decimal m ++ (codes " " ++ decimal n))) ≡ true
 unfolding is_office_subject
 judge_about m n h k = rw (are_plain-decimals last_batch most_papers m n (omega arith) (omega arith) h k) refl

@@ -1,4 +1,4 @@
--- The commands about wards, where nothing stands against them, lead from a state to a state, and leave a receipt in range.
+-- Commands about wards without objections lead from a state to a state, and leave a receipt in range.
 use Rattle.std.proofs.Common.{rules, ◌≡◌, ℕ, Bool, true, false, cond, ◌&&◌, ◌==◌, ◌++◌, codes, List, Some, None, string_bytes, refl, sym, ap, ◌∙◌, arith}
 use Rattle.std.specs.Fmt.{decimal}
 use Rattle.std.proofs.lemmas.Bool.{and_parts, and_from}
@@ -12,7 +12,7 @@ use Rattle.register.specs.Ranges.{last_ward, is_office, is_ward_number, is_seat_
 use Rattle.register.specs.Subjects.{is_office_subject}
 use Rattle.register.specs.Offices.{WardEntry, CandidateEntry, OfficeState, ward_compared, ward_at, candidates_of}
 use Rattle.register.specs.Nominations.{is_contested, is_stood_in}
-use Rattle.register.specs.Items.{is_ward, IsState}
+use Rattle.register.specs.StateConditions.{is_ward, IsState}
 use Rattle.register.specs.Effects.{in_phase, with_effect}
 use Rattle.register.specs.Wards.{part_of, is_in_range, objections, is_to_be_polled, closed_phase, subject_of, reply_to, effect_of}
 use Rattle.register.proofs.LineLemmas.{is_plain-decimal, IsLine, words, line_append, line_number, line_reply, line_text}
@@ -25,7 +25,7 @@ use Rattle.register.proofs.ProgressLemmas.{sound_closed}
 use Rattle.register.proofs.TabulationLemmas.{tabulation_added, tabulation_moved}
 use Rattle.register.specs.Elections.{election_of}
 
--- what the receipt of a ward's command may be about
+-- the subjects of receipts for the commands about a ward
 ward_about : (n : ℕ) → is_ward_number n ≡ true → is_office_subject (codes "ward " ++ decimal n) ≡ true
 unfolding is_office_subject
 ward_about n h = rw (is_plain-decimal last_ward n (omega arith) h) refl
@@ -36,12 +36,12 @@ close_about n h = rw (is_plain-decimal last_ward n (omega arith) h) refl
 
 -- ---- a ward closed
 
--- what is told is a line
+-- the word for it is a line
 told : (b : Bool) → IsLine 12 (cond b (codes " polled") (codes " uncontested"))
 told true = record { ascii = search rules; short = omega arith; plain = refl }
 told false = record { ascii = search rules; short = omega arith; plain = refl }
 
--- a ward that is contested or not comes to a phase for which it has enough candidates
+-- a ward, contested or not, moves to a phase for which it has enough candidates
 closed_enough : (w : WardEntry) (candidates : List CandidateEntry) → is_stood_in candidates ≡ true → (b : Bool) → is_contested w candidates ≡ b
     → has_enough (in_phase (cond b Keying Sealed) w) candidates ≡ true
 closed_enough w candidates stood true is = is

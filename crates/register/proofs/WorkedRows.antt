@@ -1,11 +1,11 @@
--- The office that is worked by hand, computed.
+-- The office worked by hand, computed.
 use Rattle.std.proofs.Common.{◌≡◌, true, false, codes, refl}
 use Rattle.std.specs.Fmt.{digits}
 use Rattle.std.specs.Char.{encode_utf8}
 use Rattle.std.specs.Str.{chars, is_utf8}
 use Rattle.register.specs.Ranges.{is_name, is_id}
 use Rattle.register.specs.Texts.{listed}
-use Rattle.register.specs.Papers.{same_marks}
+use Rattle.register.specs.Agreement.{same_marks}
 use Rattle.register.specs.Marks.{first_bad_marks}
 use Rattle.register.specs.Wards as wards
 use Rattle.register.specs.Candidates as candidates
@@ -14,8 +14,8 @@ use Rattle.register.specs.Keyings as keyings
 use Rattle.register.specs.Verdicts as verdicts
 use Rattle.register.specs.Counts as counts
 use Rattle.register.specs.Machine.{step, decided}
-use Rattle.register.specs.Keepings.{has_texts}
-use Rattle.register.specs.WorkedOffice.{WardRows, NominationRows, KeyedRows, ThirdRows, UncontestedRows, KeepingRows}
+use Rattle.register.specs.Repeats.{has_texts}
+use Rattle.register.specs.WorkedOffice.{WardRows, NominationRows, KeyedRows, ThirdRows, UncontestedRows, RepeatRows}
 
 -- ---- names
 
@@ -122,9 +122,9 @@ uncontested_rows =
       all_elected = refl;
     }
 
-pub keeping_rows : KeepingRows
+pub repeat_rows : RepeatRows
 unfolding has_texts candidates.subject_of digits
-keeping_rows =
+repeat_rows =
     record {
       same_ward = λ name is. simp is refl;
       other_seats = λ name is. refl;

@@ -1,4 +1,4 @@
--- The commands about candidates: what each needs of the state, what stands against it, what it is about, replies and does.
+-- The commands about candidates: for each the part of the state that it needs, the objections to it, its subject, its reply and its effect.
 use Rattle.std.specs.Prelude.{ℕ, Bool, not, ◌&&◌, List, [], ◌∷◌, ◌++◌, codes, string_bytes, Option, is_some, is_none}
 use Rattle.std.specs.Fmt.{decimal}
 use Rattle.register.specs.declared.phase.Phase.TheVariants.{Nominations}
@@ -10,20 +10,20 @@ use Rattle.register.specs.Reasons.{objection}
 use Rattle.register.specs.Ranges.{is_office, is_ward_number, is_candidate_number, is_name}
 use Rattle.register.specs.Offices.{OfficeState, ward_at, candidate_at}
 use Rattle.register.specs.Effects.{EffectEntry, candidate_added, candidate_withdrawn}
-use Rattle.register.specs.Parts.{PartEntries, empty_part, phase_objections}
+use Rattle.register.specs.CommandInputs.{CommandInputEntries, empty_input, phase_objections}
 
--- the part of the state that each needs
-abbrev pub part_of : OfficeState → ℕ → CandidateCommand → PartEntries
-part_of s actor (Add ward candidate name) = record empty_part { ward = ward_at s ward; candidate = candidate_at s ward candidate }
-part_of s actor (Withdraw ward candidate) = record empty_part { ward = ward_at s ward; candidate = candidate_at s ward candidate }
+-- the part of the state that each command needs
+abbrev pub part_of : OfficeState → ℕ → CandidateCommand → CommandInputEntries
+part_of s actor (Add ward candidate name) = record empty_input { ward = ward_at s ward; candidate = candidate_at s ward candidate }
+part_of s actor (Withdraw ward candidate) = record empty_input { ward = ward_at s ward; candidate = candidate_at s ward candidate }
 
--- the numbers are in range, and the actor is one who may send it
+-- the numbers are in range and the actor may send the command
 abbrev pub is_in_range : ℕ → CandidateCommand → Bool
 is_in_range actor (Add ward candidate name) = is_office actor && (is_ward_number ward && is_candidate_number candidate)
 is_in_range actor (Withdraw ward candidate) = is_office actor && (is_ward_number ward && is_candidate_number candidate)
 
--- what stands against each, in the order of the reasons' numbers
-abbrev pub objections : ℕ → CandidateCommand → PartEntries → List (Option Reason)
+-- the objections to each command, in the order of the reasons' numbers
+abbrev pub objections : ℕ → CandidateCommand → CommandInputEntries → List (Option Reason)
 objections actor (Add ward candidate name) part =
     objection (not (is_in_range actor (Add ward candidate name))) NumberOutOfRange
     ∷ objection (not (is_name (string_bytes name))) BadName
@@ -34,17 +34,17 @@ objections actor (Withdraw ward candidate) part =
     ∷ phase_objections Nominations part.ward
     ++ (objection (is_none part.candidate) NoSuchCandidate ∷ [])
 
--- what the receipt is about: by it a command that comes again under its id is known as the same
+-- the subject of the receipt, by which a command sent again under the same id is recognised
 unfoldable pub subject_of : CandidateCommand → List ℕ
 subject_of (Add ward candidate name) = codes "candidate " ++ (decimal ward ++ (codes " " ++ decimal candidate))
 subject_of (Withdraw ward candidate) = codes "withdraw " ++ (decimal ward ++ (codes " " ++ decimal candidate))
 
--- what is replied where it is accepted
-unfoldable pub reply_to : CandidateCommand → PartEntries → List ℕ
+-- the reply to an accepted command
+unfoldable pub reply_to : CandidateCommand → CommandInputEntries → List ℕ
 reply_to (Add ward candidate name) part = codes "candidate " ++ (decimal candidate ++ (codes " of ward " ++ (decimal ward ++ codes " added")))
 reply_to (Withdraw ward candidate) part = codes "candidate " ++ (decimal candidate ++ (codes " of ward " ++ (decimal ward ++ codes " withdrawn")))
 
--- what it does where it is accepted
-abbrev pub effect_of : CandidateCommand → PartEntries → EffectEntry
+-- the effect of an accepted command
+abbrev pub effect_of : CandidateCommand → CommandInputEntries → EffectEntry
 effect_of (Add ward candidate name) part = candidate_added (record { ward = ward; number = candidate; name = string_bytes name })
 effect_of (Withdraw ward candidate) part = candidate_withdrawn ward candidate

@@ -1,4 +1,4 @@
--- The commands about a ward's count: what each needs of the state, what stands against it, what it is about, replies and does.
+-- The commands about a ward's count: for each the part of the state that it needs, the objections to it, its subject, its reply and its effect.
 use Rattle.std.specs.Prelude.{ℕ, ◌+◌, Bool, false, not, ◌&&◌, ◌==◌, nat_le, if◌then◌else◌, List, [], ◌∷◌, ◌++◌, codes, Option, Some, None, is_none, option_map}
 use Rattle.std.specs.Fmt.{decimal}
 use Rattle.votes.specs.Text.{votes_text}
@@ -18,9 +18,9 @@ use Rattle.register.specs.Offices.{WardEntry, OfficeState, ward_at, candidate_at
 use Rattle.register.specs.Polls.{PollEntry, poll_of, all_rejected}
 use Rattle.register.specs.Elections.{election_of, due_of, elected_of, has_finished, is_among}
 use Rattle.register.specs.Effects.{EffectEntry, ward_moved, stage_counted, lot_drawn}
-use Rattle.register.specs.Parts.{PartEntries, empty_part, phase_objections}
+use Rattle.register.specs.CommandInputs.{CommandInputEntries, empty_input, phase_objections}
 
--- ---- what the state has for a ward that may be there
+-- ---- the part of the state that belongs to a ward, if there is one
 
 -- the poll of its papers
 abbrev pub poll_for : OfficeState → Option WardEntry → Option PollEntry
@@ -37,27 +37,27 @@ elected_for s (Some w) = elected_of (election_of s w)
 
 -- ---- the commands
 
--- the part of the state that each needs
-abbrev pub part_of : OfficeState → ℕ → CountCommand → PartEntries
-part_of s actor (Seal ward) = record empty_part { ward = ward_at s ward; poll = poll_for s (ward_at s ward) }
-part_of s actor (Advance ward) = record empty_part { ward = ward_at s ward; due = due_for s (ward_at s ward); elected = elected_for s (ward_at s ward) }
+-- the part of the state that each command needs
+abbrev pub part_of : OfficeState → ℕ → CountCommand → CommandInputEntries
+part_of s actor (Seal ward) = record empty_input { ward = ward_at s ward; poll = poll_for s (ward_at s ward) }
+part_of s actor (Advance ward) = record empty_input { ward = ward_at s ward; due = due_for s (ward_at s ward); elected = elected_for s (ward_at s ward) }
 part_of s actor (Lot ward stage candidate) =
-    record empty_part { ward = ward_at s ward; candidate = candidate_at s ward candidate; due = due_for s (ward_at s ward); elected = elected_for s (ward_at s ward) }
-part_of s actor (Declare ward) = record empty_part { ward = ward_at s ward; due = due_for s (ward_at s ward); elected = elected_for s (ward_at s ward) }
+    record empty_input { ward = ward_at s ward; candidate = candidate_at s ward candidate; due = due_for s (ward_at s ward); elected = elected_for s (ward_at s ward) }
+part_of s actor (Declare ward) = record empty_input { ward = ward_at s ward; due = due_for s (ward_at s ward); elected = elected_for s (ward_at s ward) }
 
--- the numbers are in range, and the actor is one who may send it
+-- the numbers are in range and the actor may send the command
 abbrev pub is_in_range : ℕ → CountCommand → Bool
 is_in_range actor (Seal ward) = is_office actor && is_ward_number ward
 is_in_range actor (Advance ward) = is_office actor && is_ward_number ward
 is_in_range actor (Lot ward stage candidate) = is_office actor && (is_ward_number ward && (is_lot_stage stage && is_candidate_number candidate))
 is_in_range actor (Declare ward) = is_office actor && is_ward_number ward
 
--- each batch is settled: taken, with a verdict on each doubtful paper
+-- every batch is settled: taken, with a verdict on each doubtful paper
 abbrev pub is_ready : Option PollEntry → Bool
 is_ready None = false
 is_ready (Some poll) = poll.settled
 
--- the reason where the count waits for a lot: the stage that it is for, and those who are tied
+-- the objection while the count waits for a lot, with the stage that the lot is for and the candidates tied
 abbrev pub lot_objection : Option Due → Option Reason
 lot_objection (Some (lot_due stage kind tied)) = Some (LotNeeded stage tied)
 lot_objection (Some (Act action)) = None
@@ -71,63 +71,63 @@ waits_at stage (Some (Act action)) = false
 waits_at stage (Some Finished) = false
 waits_at stage None = false
 
--- the phase in which the ward has to be
+-- the phase that the ward must be in
 abbrev pub phase_for : CountCommand → Phase
 phase_for (Seal ward) = Keying
 phase_for (Advance ward) = Sealed
 phase_for (Lot ward stage candidate) = Sealed
 phase_for (Declare ward) = Sealed
 
--- what stands against each beside its numbers and the ward
-abbrev pub own_objections : CountCommand → PartEntries → List (Option Reason)
+-- the objections to each command apart from those to its numbers and to the ward
+abbrev pub own_objections : CountCommand → CommandInputEntries → List (Option Reason)
 own_objections (Seal ward) part = objection (not (is_ready part.poll)) NotReady ∷ []
 own_objections (Advance ward) part = objection (has_finished part.due) CountFinished ∷ lot_objection part.due ∷ []
 own_objections (Lot ward stage candidate) part =
     objection (is_none part.candidate) NoSuchCandidate ∷ objection (not (waits_at stage part.due)) NoSuchLot ∷ objection (not (is_among candidate part.due)) NotAmong ∷ []
 own_objections (Declare ward) part = objection (not (has_finished part.due)) CountNotFinished ∷ []
 
--- what stands against each, in the order of the reasons' numbers
-abbrev pub objections : ℕ → CountCommand → PartEntries → List (Option Reason)
+-- the objections to each command, in the order of the reasons' numbers
+abbrev pub objections : ℕ → CountCommand → CommandInputEntries → List (Option Reason)
 objections actor command part =
     objection (not (is_in_range actor command)) NumberOutOfRange ∷ phase_objections (phase_for command) part.ward ++ own_objections command part
 
--- what the receipt is about: by it a command that comes again under its id is known as the same
+-- the subject of the receipt, by which a command sent again under the same id is recognised
 unfoldable pub subject_of : CountCommand → List ℕ
 subject_of (Seal ward) = codes "seal " ++ decimal ward
 subject_of (Advance ward) = codes "advance " ++ decimal ward
 subject_of (Lot ward stage candidate) = codes "lot " ++ (decimal ward ++ (codes " " ++ decimal stage))
 subject_of (Declare ward) = codes "declare " ++ decimal ward
 
--- the stage after so many that are done, at most the last that a count may have
+-- the number of the stage after this many, capped at the last that a count can have
 abbrev pub stage_after : ℕ → ℕ
 stage_after done = if nat_le last_lot_stage done then done else done + 1
 
--- the stage after those done in a ward
+-- the stage that follows those done in a ward
 abbrev pub next_stage : Option WardEntry → ℕ
 next_stage None = 1
 next_stage (Some w) = stage_after w.done
 
--- what a reply says of a poll: its valid papers, its rejected ones, and the quota
+-- the words of a reply for a poll: its valid papers, its rejected ones, and the quota
 abbrev pub poll_told : Option PollEntry → List ℕ
 poll_told None = []
 poll_told (Some poll) = codes " sealed: " ++ (decimal poll.valid ++ (codes " valid, " ++ (decimal (all_rejected poll.rejected) ++ (codes " rejected, quota " ++ votes_text poll.quota))))
 
--- what a reply says of an action that comes next
+-- the words of a reply for the next action
 abbrev pub action_told : Option Due → List ℕ
 action_told None = []
 action_told (Some (Act action)) = action_text action
 action_told (Some (lot_due stage kind tied)) = []
 action_told (Some Finished) = []
 
--- what is replied where it is accepted
-unfoldable pub reply_to : CountCommand → PartEntries → List ℕ
+-- the reply to an accepted command
+unfoldable pub reply_to : CountCommand → CommandInputEntries → List ℕ
 reply_to (Seal ward) part = codes "ward " ++ (decimal ward ++ poll_told part.poll)
 reply_to (Advance ward) part = codes "ward " ++ (decimal ward ++ (codes " stage " ++ (decimal (next_stage part.ward) ++ (codes " " ++ action_told part.due))))
 reply_to (Lot ward stage candidate) part = codes "lot at ward " ++ (decimal ward ++ (codes " stage " ++ (decimal stage ++ (codes ": candidate " ++ decimal candidate))))
 reply_to (Declare ward) part = codes "ward " ++ (decimal ward ++ (codes " declared: " ++ listed part.elected))
 
--- what it does where it is accepted
-abbrev pub effect_of : CountCommand → PartEntries → EffectEntry
+-- the effect of an accepted command
+abbrev pub effect_of : CountCommand → CommandInputEntries → EffectEntry
 effect_of (Seal ward) part = ward_moved ward Sealed
 effect_of (Advance ward) part = stage_counted ward (next_stage part.ward)
 effect_of (Lot ward stage candidate) part = lot_drawn (record { ward = ward; stage = stage; candidate = candidate })

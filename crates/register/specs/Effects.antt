@@ -9,8 +9,9 @@ use Rattle.register.specs.Offices.{WardEntry, CandidateEntry, BatchEntry, ThirdE
 use Rattle.register.specs.Offices.{candidate_cmp, batch_cmp, third_cmp, keyed_cmp, judged_cmp, lot_cmp, receipt_cmp, ward_compared, candidate_compared, batch_compared, ward_entry}
 use Rattle.register.specs.Offices.{candidate_entry, batch_entry, third_entry, keyed_entry, judged_entry, lot_entry, receipt_entry}
 
--- what a command does to the state, beside its receipt. A ward is new, or comes to a phase. A candidate of a ward stands, or stands no longer. A batch is new,
--- or is keyed in another round, or gets a third clerk. Papers are keyed; a paper is judged. So many stages of a ward's count are done; a lot is drawn.
+-- What a command does to the state, apart from its receipt. A ward is added, or enters a phase; a candidate is added, or withdrawn; a batch is added,
+-- reopened in another round, or assigned to a third clerk. Papers are keyed; a paper is judged; a number of stages of a ward's count is done; or a lot is
+-- drawn.
 pub data EffectEntry : Type 0 where
   ward_added : WardEntry → EffectEntry
   ward_moved : ℕ → Phase → EffectEntry
@@ -29,15 +30,15 @@ pub record ChangeEntry : Type 0 where
   pub effect : EffectEntry
   pub receipt : ReceiptEntry
 
--- the ward in this phase
+-- the ward, in this phase
 abbrev pub in_phase : Phase → WardEntry → WardEntry
 in_phase phase w = record w { phase = phase }
 
--- the ward with so many stages done
+-- the ward, with this number of stages done
 abbrev pub at_stage : ℕ → WardEntry → WardEntry
 at_stage done w = record w { done = done }
 
--- the batch in this round
+-- the batch, in this round
 abbrev pub in_round : ℕ → BatchEntry → BatchEntry
 in_round round b = record b { round = round }
 
@@ -55,7 +56,7 @@ with_effect (paper_judged v) s = record s { verdicts = put judged_cmp v s.verdic
 with_effect (stage_counted ward done) s = record s { wards = changed (ward_compared ward) (at_stage done) s.wards }
 with_effect (lot_drawn l) s = record s { lots = put lot_cmp l s.lots }
 
--- the state with a receipt more
+-- the state with one more receipt
 abbrev pub with_receipt : ReceiptEntry → OfficeState → OfficeState
 with_receipt r s = record s { receipts = put receipt_cmp r s.receipts }
 
@@ -63,7 +64,7 @@ with_receipt r s = record s { receipts = put receipt_cmp r s.receipts }
 abbrev pub with_change : ChangeEntry → OfficeState → OfficeState
 with_change change s = with_receipt change.receipt (with_effect change.effect s)
 
--- what an effect stands for
+-- the entry of an effect
 abbrev pub effect_entry : Effect → EffectEntry
 effect_entry (WardAdded w) = ward_added (ward_entry w)
 effect_entry (WardMoved ward phase) = ward_moved ward phase
@@ -77,6 +78,6 @@ effect_entry (PaperJudged v) = paper_judged (judged_entry v)
 effect_entry (StageCounted ward done) = stage_counted ward done
 effect_entry (LotDrawn l) = lot_drawn (lot_entry l)
 
--- what a change stands for
+-- the entry of a change
 abbrev pub change_entry : Change → ChangeEntry
 change_entry change = record { effect = effect_entry change.effect; receipt = receipt_entry change.receipt }

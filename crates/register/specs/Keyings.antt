@@ -1,4 +1,4 @@
--- The command of a clerk: what it needs of the state, what stands against it, what it is about, replies and does.
+-- The clerks' command: the part of the state that it needs, the objections to it, its subject, its reply and its effect.
 use Rattle.std.specs.Prelude.{ℕ, ◌+◌, ◌^◌, ◌<◌, Bool, not, ◌&&◌, ◌==◌, List, [], ◌∷◌, ◌++◌, length, map, codes, string_bytes, Option}
 use Rattle.std.specs.Fmt.{decimal}
 use Rattle.register.specs.declared.refusal.Reason.{Reason}
@@ -8,23 +8,23 @@ use Rattle.register.specs.Reasons.{objection}
 use Rattle.register.specs.Ranges.{is_clerk, is_batch_number, is_round}
 use Rattle.register.specs.Offices.{KeyedEntry, OfficeState, batch_at, keying_of}
 use Rattle.register.specs.Marks.{columns_of, first_bad_marks}
-use Rattle.register.specs.Papers.{is_keyed, is_its_clerk}
+use Rattle.register.specs.Agreement.{is_keyed, is_its_clerk}
 use Rattle.register.specs.Batches.{ward_for, candidates_for, third_for}
 use Rattle.register.specs.Effects.{EffectEntry, papers_keyed}
-use Rattle.register.specs.Parts.{PartEntries, empty_part, batch_objections, passes}
+use Rattle.register.specs.CommandInputs.{CommandInputEntries, empty_input, batch_objections, passes}
 
 -- the marks texts, in the order of the papers
 abbrev pub texts_of : KeyingCommand → List (List ℕ)
 texts_of command = map string_bytes command.papers.items
 
--- so few papers that a number of 32 bits numbers each: as many as a batch has, where nothing stands against the command
+-- the papers are few enough to be numbered in 32 bits, as they are if there is no objection to the command
 abbrev pub IsNumbered : KeyingCommand → Type 0
 IsNumbered command = length command.papers.items < 2 ^ 32
 
--- the part of the state that it needs: of the keyings only the actor's own
-abbrev pub part_of : OfficeState → ℕ → KeyingCommand → PartEntries
+-- the part of the state that it needs: among the keyings only the actor's own
+abbrev pub part_of : OfficeState → ℕ → KeyingCommand → CommandInputEntries
 part_of s actor command =
-    record empty_part {
+    record empty_input {
       ward = ward_for s (batch_at s command.batch);
       candidates = candidates_for s (batch_at s command.batch);
       batch = batch_at s command.batch;
@@ -32,12 +32,12 @@ part_of s actor command =
       own = keying_of s command.batch command.round actor;
     }
 
--- the numbers are in range, and the actor is one who may send it
+-- the numbers are in range and the actor may send the command
 abbrev pub is_in_range : ℕ → KeyingCommand → Bool
 is_in_range actor command = is_clerk actor && (is_batch_number command.batch && is_round command.round)
 
--- what stands against it, in the order of the reasons' numbers
-abbrev pub objections : ℕ → KeyingCommand → PartEntries → List (Option Reason)
+-- the objections to it, in the order of the reasons' numbers
+abbrev pub objections : ℕ → KeyingCommand → CommandInputEntries → List (Option Reason)
 objections actor command part =
     objection (not (is_in_range actor command)) NumberOutOfRange
     ∷ batch_objections part
@@ -50,20 +50,19 @@ objections actor command part =
     ∷ []
     )
 
--- what the receipt is about: by it a command that comes again under its id is known as the same
+-- the subject of the receipt, by which a command sent again under the same id is recognised
 unfoldable pub subject_of : KeyingCommand → List ℕ
 subject_of command = codes "key " ++ (decimal command.batch ++ (codes " " ++ decimal command.round))
 
--- What is replied where it is accepted: a function of the command alone, so that no clerk learns anything of another's
--- keying.
+-- The reply to an accepted command: a function of the command alone, so that no clerk learns anything of another's keying.
 unfoldable pub reply_to : KeyingCommand → List ℕ
 reply_to command = codes "batch " ++ (decimal command.batch ++ (codes " round " ++ (decimal command.round ++ codes " keyed")))
 
--- the papers that a clerk keyed of a batch in a round, numbered from a number on
+-- the papers that a clerk keyed of a batch in a round, numbered from this number
 unfoldable pub papers_from : ℕ → ℕ → ℕ → ℕ → List (List ℕ) → List KeyedEntry
 papers_from batch round clerk paper [] = []
 papers_from batch round clerk paper (marks ∷ others) = record { batch = batch; round = round; clerk = clerk; paper = paper; marks = marks } ∷ papers_from batch round clerk (paper + 1) others
 
--- what it does where it is accepted: the papers are numbered from 1 on
+-- the effect of an accepted command: the papers are numbered from 1
 abbrev pub effect_of : ℕ → KeyingCommand → EffectEntry
 effect_of actor command = papers_keyed (papers_from command.batch command.round actor 1 (texts_of command))

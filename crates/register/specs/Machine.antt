@@ -1,4 +1,4 @@
--- What each request makes of the state of an office.
+-- How each request changes the state of an office.
 use Rattle.std.specs.Prelude.{◌≡◌, ⊤, ℕ, Bool, true, false, if◌then◌else◌, List, [], ◌∷◌, fold, string_bytes, Option, Some, None}
 use Rattle.std.specs.Str.{bytes_eq}
 use Rattle.register.specs.declared.refusal.Reason.{Reason}
@@ -10,7 +10,7 @@ use Rattle.register.specs.Reasons.{first_reason}
 use Rattle.register.specs.Ranges.{is_id}
 use Rattle.register.specs.Offices.{ReceiptEntry, OfficeState, receipt_at}
 use Rattle.register.specs.Effects.{EffectEntry, ChangeEntry, with_change}
-use Rattle.register.specs.Parts.{PartEntries}
+use Rattle.register.specs.CommandInputs.{CommandInputEntries}
 use Rattle.register.specs.Wards as wards
 use Rattle.register.specs.Candidates as candidates
 use Rattle.register.specs.Batches as batches
@@ -21,7 +21,7 @@ use Rattle.register.specs.Counts as counts
 -- ---- the commands, by subject
 
 -- the part of the state that an actor's command needs
-abbrev pub part_of : OfficeState → ℕ → Command → PartEntries
+abbrev pub part_of : OfficeState → ℕ → Command → CommandInputEntries
 part_of s actor (Ward command) = wards.part_of s actor command
 part_of s actor (Candidate command) = candidates.part_of s actor command
 part_of s actor (Batch command) = batches.part_of s actor command
@@ -29,8 +29,8 @@ part_of s actor (Keying command) = keyings.part_of s actor command
 part_of s actor (Verdict command) = verdicts.part_of s actor command
 part_of s actor (Count command) = counts.part_of s actor command
 
--- what stands against it, in the order of the reasons' numbers
-abbrev pub objections : ℕ → Command → PartEntries → List (Option Reason)
+-- the objections to it, in the order of the reasons' numbers
+abbrev pub objections : ℕ → Command → CommandInputEntries → List (Option Reason)
 objections actor (Ward command) part = wards.objections actor command part
 objections actor (Candidate command) part = candidates.objections actor command part
 objections actor (Batch command) part = batches.objections actor command part
@@ -38,12 +38,12 @@ objections actor (Keying command) part = keyings.objections actor command part
 objections actor (Verdict command) part = verdicts.objections actor command part
 objections actor (Count command) part = counts.objections actor command part
 
--- the papers that it brings, if any, can be numbered
+-- the papers in it, if any, can be numbered
 abbrev pub IsNumbered : Command → Type 0
 IsNumbered (Keying command) = keyings.IsNumbered command
 IsNumbered command = ⊤
 
--- what its receipt is about
+-- the subject of its receipt
 abbrev pub subject_of : Command → List ℕ
 subject_of (Ward command) = wards.subject_of command
 subject_of (Candidate command) = candidates.subject_of command
@@ -52,8 +52,8 @@ subject_of (Keying command) = keyings.subject_of command
 subject_of (Verdict command) = verdicts.subject_of command
 subject_of (Count command) = counts.subject_of command
 
--- what is replied where it is accepted
-abbrev pub reply_to : Command → PartEntries → List ℕ
+-- the reply to it if it is accepted
+abbrev pub reply_to : Command → CommandInputEntries → List ℕ
 reply_to (Ward command) part = wards.reply_to command part
 reply_to (Candidate command) part = candidates.reply_to command part
 reply_to (Batch command) part = batches.reply_to command part
@@ -61,8 +61,8 @@ reply_to (Keying command) part = keyings.reply_to command
 reply_to (Verdict command) part = verdicts.reply_to command
 reply_to (Count command) part = counts.reply_to command part
 
--- what it does where it is accepted
-abbrev pub effect_of : ℕ → Command → PartEntries → EffectEntry
+-- the effect of it if it is accepted
+abbrev pub effect_of : ℕ → Command → CommandInputEntries → EffectEntry
 effect_of actor (Ward command) part = wards.effect_of command part
 effect_of actor (Candidate command) part = candidates.effect_of command part
 effect_of actor (Batch command) part = batches.effect_of command part
@@ -70,7 +70,7 @@ effect_of actor (Keying command) part = keyings.effect_of actor command
 effect_of actor (Verdict command) part = verdicts.effect_of command
 effect_of actor (Count command) part = counts.effect_of command part
 
--- ---- what is decided on a view: actor, id, command, receipt, and the part of the state
+-- ---- decisions on a view: actor, id, command, receipt, and the part of the state
 
 -- a change and a reply, the reply of a receipt, or a reason to refuse
 pub data Ruling : Type 0 where
@@ -79,46 +79,46 @@ pub data Ruling : Type 0 where
   refuses : Reason → Ruling
 
 -- the receipt of an accepted request
-abbrev pub receipt_for : ℕ → List ℕ → Command → PartEntries → ReceiptEntry
+abbrev pub receipt_for : ℕ → List ℕ → Command → CommandInputEntries → ReceiptEntry
 receipt_for actor id command part = record { actor = actor; id = id; subject = subject_of command; reply = reply_to command part }
 
--- a new request: refused for the first reason that stands against it, or accepted
-abbrev pub judged : ℕ → List ℕ → Command → PartEntries → Option Reason → Ruling
+-- a new request is refused for the first objection to it, or accepted
+abbrev pub judged : ℕ → List ℕ → Command → CommandInputEntries → Option Reason → Ruling
 judged actor id command part (Some why) = refuses why
 judged actor id command part None = accepts (record { effect = effect_of actor command part; receipt = receipt_for actor id command part }) (reply_to command part)
 
--- an id that has a receipt gets its reply, or is refused where that is about something else
-abbrev pub answered : ℕ → List ℕ → Command → Option ReceiptEntry → PartEntries → Ruling
+-- a request whose id has a receipt gets its reply, or is refused if that has another subject
+abbrev pub answered : ℕ → List ℕ → Command → Option ReceiptEntry → CommandInputEntries → Ruling
 answered actor id command (Some receipt) part = if bytes_eq receipt.subject (subject_of command) then keeps receipt.reply else refuses IdUsed
 answered actor id command None part = judged actor id command part (first_reason (objections actor command part))
 
--- a bad id is refused first
-unfoldable pub decided : ℕ → List ℕ → Command → Option ReceiptEntry → PartEntries → Ruling
+-- a request with a bad id is refused first
+unfoldable pub decided : ℕ → List ℕ → Command → Option ReceiptEntry → CommandInputEntries → Ruling
 decided actor id command receipt part = if is_id id then answered actor id command receipt part else refuses BadId
 
 -- ---- the step
 
--- what the machine answers: accepted, with the state after and a reply; kept, with the reply of the receipt; or refused
+-- what the machine returns: accepted, with the new state and a reply; kept, with the receipt's reply; or refused
 pub data Outcome : Type 0 where
   accepted : OfficeState → List ℕ → Outcome
   kept : List ℕ → Outcome
   refused : Reason → Outcome
 
--- the outcome of a ruling at a state
+-- the outcome of a ruling in a state
 abbrev pub outcome_at : OfficeState → Ruling → Outcome
 outcome_at s (accepts change reply) = accepted (with_change change s) reply
 outcome_at s (keeps reply) = kept reply
 outcome_at s (refuses why) = refused why
 
--- what is decided at a state: on the receipt of the actor and id, and on the part that the command needs, and on nothing else
+-- the ruling in a state, which depends on the receipt of the actor and id, on the part that the command needs, and on nothing else
 abbrev pub ruling_at : OfficeState → ℕ → List ℕ → Command → Ruling
 ruling_at s actor id command = decided actor id command (receipt_at s actor id) (part_of s actor command)
 
--- A step makes the change that is decided at the state.
+-- A step makes the change decided in the state.
 unfoldable pub step : OfficeState → ℕ → List ℕ → Command → Outcome
 step s actor id command = outcome_at s (ruling_at s actor id command)
 
--- the state after an outcome, from the one before it
+-- the state that an outcome leads to from this one
 abbrev pub state_after : OfficeState → Outcome → OfficeState
 state_after s (accepted next reply) = next
 state_after s (kept reply) = s
@@ -126,7 +126,7 @@ state_after s (refused why) = s
 
 -- ---- lists of requests
 
--- whether the request was accepted
+-- the request was accepted
 abbrev pub is_accepted : Outcome → Bool
 is_accepted (accepted next reply) = true
 is_accepted (kept reply) = false
@@ -140,17 +140,17 @@ step_of s r = step s r.actor (string_bytes r.id) r.command
 abbrev pub after_one : OfficeState → Request → OfficeState
 after_one s r = state_after s (step_of s r)
 
--- the state after some requests, from the first on
+-- the state after a list of requests, in order
 abbrev pub after : OfficeState → List Request → OfficeState
 after = fold after_one
 
--- an accepted request that comes again, whatever others came between, gets the same reply, and changes nothing more
-abbrev pub IsKeptAgain : ℕ → List ℕ → Command → Outcome → Type 0
-IsKeptAgain actor id command (accepted next reply) = (others : List Request) → step (after next others) actor id command ≡ kept reply
-IsKeptAgain actor id command (kept reply) = ⊤
-IsKeptAgain actor id command (refused why) = ⊤
+-- an accepted request, repeated after any other requests, gets the same reply and changes nothing more
+abbrev pub RepeatGetsSameReply : ℕ → List ℕ → Command → Outcome → Type 0
+RepeatGetsSameReply actor id command (accepted next reply) = (others : List Request) → step (after next others) actor id command ≡ kept reply
+RepeatGetsSameReply actor id command (kept reply) = ⊤
+RepeatGetsSameReply actor id command (refused why) = ⊤
 
--- those of the requests that are accepted, each where its turn comes
+-- the requests of a list that are accepted, each in the state that those before it lead to
 abbrev pub accepted_of : OfficeState → List Request → List Request
 accepted_of s [] = []
 accepted_of s (r ∷ rs) = (if is_accepted (step_of s r) then r ∷ accepted_of (after_one s r) rs else accepted_of (after_one s r) rs)

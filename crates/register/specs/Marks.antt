@@ -1,4 +1,4 @@
--- Marks texts by the columns of a ward: their faults, and whether they are valid.
+-- Marks texts read by the columns of a ward: their faults, and whether they are valid.
 use Rattle.std.specs.Prelude.{ℕ, ◌+◌, Bool, true, false, if◌then◌else◌, List, [], ◌∷◌, fold, Option, Some, None, is_none, Result, Ok, Err}
 use Rattle.paper.specs.declared.marks.MarkFault.{MarkFault}
 use Rattle.paper.specs.declared.marked.Keyed.{Keyed}
@@ -12,7 +12,7 @@ use Rattle.register.specs.declared.refusal.Reason.TheVariants.{BadMarks}
 use Rattle.register.specs.Ranges.{is_candidate_number}
 use Rattle.register.specs.Offices.{CandidateEntry}
 
--- a column more, where the candidate's number is in range
+-- columns, with this candidate's number added if it is in range
 abbrev pub and_column : List ℕ → CandidateEntry → List ℕ
 and_column columns c = if is_candidate_number c.number then with_column columns c.number else columns
 
@@ -20,40 +20,40 @@ and_column columns c = if is_candidate_number c.number then with_column columns 
 abbrev pub columns_of : List CandidateEntry → List ℕ
 columns_of candidates = fold and_column [] candidates
 
--- a reading without a fault
+-- the reading has no fault
 abbrev pub is_read : Result Keyed MarkFault → Bool
 is_read (Ok keyed) = true
 is_read (Err fault) = false
 
--- marks that are read by some columns
+-- the marks can be read by these columns
 abbrev pub is_readable : List ℕ → List ℕ → Bool
 is_readable columns marks = is_read (reading columns marks)
 
--- a reading of marks by which a paper isn't rejected; of a doubtful paper nothing is read
+-- the reading doesn't reject the paper; a doubtful paper isn't judged valid
 abbrev pub is_judged_valid : Result Keyed MarkFault → Bool
 is_judged_valid (Err fault) = false
 is_judged_valid (Ok Doubtful) = false
 is_judged_valid (Ok (Marked marking)) = is_none (rejection_of marking)
 
--- marks that are read by some columns, and by which the paper is valid
+-- the marks can be read by these columns and make the paper valid
 abbrev pub is_valid : List ℕ → List ℕ → Bool
 is_valid columns marks = is_judged_valid (reading columns marks)
 
--- the reason that a reading of the marks on a paper gives: its fault
+-- the objection that follows from reading the marks on a paper: their fault
 abbrev pub fault_told : ℕ → Result Keyed MarkFault → Option Reason
 fault_told paper (Ok keyed) = None
 fault_told paper (Err fault) = Some (BadMarks paper (fault_number fault))
 
--- the reason that the marks on a paper give
+-- the objection to the marks on a paper
 abbrev pub marks_objection : List ℕ → ℕ → List ℕ → Option Reason
 marks_objection columns paper marks = fault_told paper (reading columns marks)
 
--- a reason, or else another one
+-- a reason, or if there is none, the other one
 abbrev pub or_reason : Option Reason → Option Reason → Option Reason
 or_reason (Some why) other = Some why
 or_reason None other = other
 
--- the reason that the marks of some papers give, by the first faulty paper; the papers are numbered from some number on
+-- the objection to the marks of papers numbered from this number: that to the first faulty one
 unfoldable pub first_bad_marks : List ℕ → ℕ → List (List ℕ) → Option Reason
 first_bad_marks columns paper [] = None
 first_bad_marks columns paper (marks ∷ others) = or_reason (marks_objection columns paper marks) (first_bad_marks columns (paper + 1) others)

@@ -1,10 +1,10 @@
--- What nominations leave of a ward: whether its election is contested, and which candidates each phase asks for.
+-- What nominations result in for a ward: whether its election is contested, and which candidates each phase requires.
 use Rattle.std.specs.Prelude.{Bool, true, not, ◌==◌, nat_lt, List, length}
 use Rattle.register.specs.declared.phase.Phase.{Phase}
 use Rattle.register.specs.declared.phase.Phase.TheVariants.{Nominations, Keying, Sealed, Declared}
 use Rattle.register.specs.Offices.{WardEntry, CandidateEntry}
 
--- an election is contested where there are more candidates than seats; else all of them are elected, without a poll
+-- an election is contested if there are more candidates than seats; otherwise all of them are elected, without a poll
 abbrev pub is_contested : WardEntry → List CandidateEntry → Bool
 is_contested w candidates = nat_lt w.seats (length candidates)
 
@@ -12,7 +12,7 @@ is_contested w candidates = nat_lt w.seats (length candidates)
 abbrev pub is_stood_in : List CandidateEntry → Bool
 is_stood_in candidates = not (length candidates == 0)
 
--- what each phase asks of a ward's candidates: more than seats where papers are keyed, one at least where it is sealed
+-- what each phase requires of a ward's candidates: more than seats while papers are keyed, at least one once the ward is sealed
 abbrev pub are_enough : Phase → WardEntry → List CandidateEntry → Bool
 are_enough Nominations w candidates = true
 are_enough Keying w candidates = is_contested w candidates

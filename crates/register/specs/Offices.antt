@@ -17,7 +17,7 @@ use Rattle.register.specs.declared.receipt.Receipt.{Receipt}
 
 -- ---- entries
 
--- a ward: its number, its seats, how far its election has come, how many stages of its count are done, its name
+-- a ward: its number, its seats, the phase of its election, the number of stages done in its count, its name
 pub record WardEntry : Type 0 where
   pub number : ℕ
   pub seats : ℕ
@@ -25,13 +25,13 @@ pub record WardEntry : Type 0 where
   pub done : ℕ
   pub name : List ℕ
 
--- a candidate: of which ward, its number there, its name
+-- a candidate: the ward, the candidate's number in it, the name
 pub record CandidateEntry : Type 0 where
   pub ward : ℕ
   pub number : ℕ
   pub name : List ℕ
 
--- a batch of ballot papers: its number, its ward, how many papers it has, the two clerks who first key it, and its current round
+-- a batch of ballot papers: its number, its ward, its number of papers, the two clerks assigned to it first, and its current round
 pub record BatchEntry : Type 0 where
   pub number : ℕ
   pub ward : ℕ
@@ -40,12 +40,12 @@ pub record BatchEntry : Type 0 where
   pub second_clerk : ℕ
   pub round : ℕ
 
--- a third clerk who keys a batch, since its two clerks keyed it unequally: the batch, and his number
+-- a third clerk, assigned to a batch because its two clerks' keyings differed: the batch, and the clerk's number
 pub record ThirdEntry : Type 0 where
   pub batch : ℕ
   pub clerk : ℕ
 
--- a ballot paper as a clerk keyed it: its batch, the round, the clerk, its number in the batch, and its marks text
+-- a ballot paper as keyed by a clerk: its batch, the round, the clerk, its number in the batch, and its marks text
 pub record KeyedEntry : Type 0 where
   pub batch : ℕ
   pub round : ℕ
@@ -53,7 +53,7 @@ pub record KeyedEntry : Type 0 where
   pub paper : ℕ
   pub marks : List ℕ
 
--- a doubtful ballot paper as the returning officer judged it: its batch, its number there, and 0 with the marks that it was accepted with, or the code of its rejection
+-- a doubtful ballot paper as judged by the returning officer: its batch, its number there, and 0 with the marks that it is accepted with, or the code of its rejection
 pub record JudgedEntry : Type 0 where
   pub batch : ℕ
   pub paper : ℕ
@@ -66,73 +66,72 @@ pub record LotEntry : Type 0 where
   pub stage : ℕ
   pub candidate : ℕ
 
--- what an accepted request left: who sent it under which id, what it was about, and what was replied
+-- the record of an accepted request: its actor, its id, its subject, and the reply
 pub record ReceiptEntry : Type 0 where
   pub actor : ℕ
   pub id : List ℕ
   pub subject : List ℕ
   pub reply : List ℕ
 
--- the entry that a ward stands for
+-- the entry of a ward
 abbrev pub ward_entry : Ward → WardEntry
 ward_entry w = record { number = w.number; seats = w.seats; phase = w.phase; done = w.done; name = string_bytes w.name }
 
--- the entry that a candidate stands for
+-- the entry of a candidate
 abbrev pub candidate_entry : Candidate → CandidateEntry
 candidate_entry c = record { ward = c.ward; number = c.number; name = string_bytes c.name }
 
--- the entry that a batch stands for
+-- the entry of a batch
 abbrev pub batch_entry : Batch → BatchEntry
 batch_entry b = record { number = b.number; ward = b.ward; size = b.size; first_clerk = b.first_clerk; second_clerk = b.second_clerk; round = b.round }
 
--- the entry that a third clerk stands for
+-- the entry of a third clerk
 abbrev pub third_entry : ThirdClerk → ThirdEntry
 third_entry t = record { batch = t.batch; clerk = t.clerk }
 
--- the entry that a keyed paper stands for
+-- the entry of a keyed paper
 abbrev pub keyed_entry : KeyedPaper → KeyedEntry
 keyed_entry k = record { batch = k.batch; round = k.round; clerk = k.clerk; paper = k.paper; marks = string_bytes k.marks }
 
--- the entry that a judged paper stands for
+-- the entry of a judged paper
 abbrev pub judged_entry : JudgedPaper → JudgedEntry
 judged_entry v = record { batch = v.batch; paper = v.paper; code = v.code; marks = string_bytes v.marks }
 
--- the entry that a lot stands for
+-- the entry of a lot
 abbrev pub lot_entry : DrawnLot → LotEntry
 lot_entry l = record { ward = l.ward; stage = l.stage; candidate = l.candidate }
 
--- the entry that a receipt stands for
+-- the entry of a receipt
 abbrev pub receipt_entry : Receipt → ReceiptEntry
 receipt_entry r = record { actor = r.actor; id = string_bytes r.id; subject = string_bytes r.subject; reply = string_bytes r.reply }
 
--- ---- maps, over any entries
+-- ---- maps of entries of any type
 
--- an entry put among others in the order of their keys
+-- an entry inserted into others in the order of their keys
 abbrev pub put : {X : Type 0} → (X → X → Ordering) → X → List X → List X
 put cmp x [] = x ∷ []
 put cmp x (y ∷ ys) = if is_lt (cmp x y) then x ∷ y ∷ ys else y ∷ put cmp x ys
 
--- some entries put among others, one after the other
+-- entries inserted into others, one after another
 abbrev pub put_each : {X : Type 0} → (X → X → Ordering) → List X → List X → List X
 put_each cmp xs ys = fold (λ zs x. put cmp x zs) ys xs
 
--- the entry whose key is the one that is compared with
+-- the entry whose key compares as equal
 abbrev pub entry_at : {X : Type 0} → (X → Ordering) → List X → Option X
 entry_at compared xs = find (λ x. is_eq (compared x)) xs
 
--- the entries without the one whose key is the one that is compared with
+-- the entries without the one whose key compares as equal
 abbrev pub without : {X : Type 0} → (X → Ordering) → List X → List X
 without compared xs = filter (λ x. not (is_eq (compared x))) xs
 
--- the entries, with a change in the one whose key compares as equal
+-- the entries, with the one whose key compares as equal changed
 abbrev pub changed : {X : Type 0} → (X → Ordering) → (X → X) → List X → List X
 changed compared change xs = map (λ x. if is_eq (compared x) then change x else x) xs
 
 -- ---- the state
 
--- The state of an office, in maps. Wards are found by number, and candidates by ward and number. Batches are found by number, third clerks by batch,
--- keyed papers by batch, round, clerk and number, and judged papers by batch and number. Lots are found by ward and stage, and receipts by actor and
--- id.
+-- The state of an office, as maps. Wards are keyed by number, candidates by ward and number. Batches are keyed by number, third clerks by batch, keyed
+-- papers by batch, round, clerk and number, and judged papers by batch and number. Lots are keyed by ward and stage, receipts by actor and id.
 pub record OfficeState : Type 0 where
   pub wards : List WardEntry
   pub candidates : List CandidateEntry
@@ -143,7 +142,7 @@ pub record OfficeState : Type 0 where
   pub lots : List LotEntry
   pub receipts : List ReceiptEntry
 
--- an office where nothing has happened yet
+-- the office before any request
 abbrev pub empty_office : OfficeState
 empty_office = record { wards = []; candidates = []; batches = []; thirds = []; keyings = []; verdicts = []; lots = []; receipts = [] }
 
@@ -213,11 +212,11 @@ batch_at s number = entry_at (batch_compared number) s.batches
 abbrev pub third_compared : ℕ → ThirdEntry → Ordering
 third_compared batch t = nat_cmp batch t.batch
 
--- the third clerk of this batch, if one is set
+-- the third clerk of this batch, if one is assigned
 abbrev pub third_at : OfficeState → ℕ → Option ThirdEntry
 third_at s batch = entry_at (third_compared batch) s.thirds
 
--- the papers that a clerk keyed of a batch in a round: his keying, in the order of the papers
+-- a clerk's keying of a batch in a round: the papers, in order
 abbrev pub keying_of : OfficeState → ℕ → ℕ → ℕ → List KeyedEntry
 keying_of s batch round clerk = filter (λ (k : KeyedEntry). (k.batch == batch) && ((k.round == round) && (k.clerk == clerk))) s.keyings
 
@@ -225,7 +224,7 @@ keying_of s batch round clerk = filter (λ (k : KeyedEntry). (k.batch == batch) 
 abbrev pub judged_compared : ℕ → ℕ → JudgedEntry → Ordering
 judged_compared batch paper v = ordering_then (nat_cmp batch v.batch) (nat_cmp paper v.paper)
 
--- the verdict on the paper of this number in this batch
+-- the verdict on the paper with this number in this batch
 abbrev pub verdict_at : OfficeState → ℕ → ℕ → Option JudgedEntry
 verdict_at s batch paper = entry_at (judged_compared batch paper) s.verdicts
 
@@ -241,8 +240,8 @@ lots_of s ward = filter (λ (l : LotEntry). l.ward == ward) s.lots
 abbrev pub receipt_at : OfficeState → ℕ → List ℕ → Option ReceiptEntry
 receipt_at s actor id = entry_at (λ r. ordering_then (nat_cmp actor r.actor) (slice_cmp nat_cmp id r.id)) s.receipts
 
--- each map in the order of its keys, no key twice
-pub record MapsRise (s : OfficeState) : Type 0 where
+-- every map is in the order of its keys, without duplicates
+pub record MapsAreSorted (s : OfficeState) : Type 0 where
   pub wards : IsStrictlySortedBy ward_cmp s.wards
   pub candidates : IsStrictlySortedBy candidate_cmp s.candidates
   pub batches : IsStrictlySortedBy batch_cmp s.batches

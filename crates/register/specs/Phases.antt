@@ -3,7 +3,7 @@ use Rattle.std.specs.Prelude.{ℕ}
 use Rattle.register.specs.declared.phase.Phase.{Phase}
 use Rattle.register.specs.declared.phase.Phase.TheVariants.{Nominations, Keying, Sealed, Declared}
 
--- the number under which a phase is kept
+-- the number that represents a phase
 abbrev pub phase_number : Phase → ℕ
 phase_number Nominations = 1
 phase_number Keying = 2

@@ -18,7 +18,7 @@ use Rattle.register.specs.declared.polls.Judgement.TheVariants.{Valid, Rejected,
 use Rattle.register.specs.declared.polls.Ballots.{Ballots}
 use Rattle.register.specs.declared.polls.PollTally.{PollTally}
 use Rattle.register.specs.Offices.{BatchEntry, ThirdEntry, KeyedEntry, JudgedEntry, OfficeState, third_at, keying_of, verdicts_of}
-use Rattle.register.specs.Papers.{agreed, are_taken, is_open, keyings_now, taken_papers, batches_of}
+use Rattle.register.specs.Agreement.{agreed, are_taken, is_open, keyings_now, taken_papers, batches_of}
 
 -- ---- the papers of a batch
 
@@ -34,29 +34,29 @@ pile_of s b = record { keyings = keyings_now s b; verdicts = verdicts_of s b.num
 abbrev pub piles_of : OfficeState → ℕ → List Pile
 piles_of s ward = map (pile_of s) (batches_of s ward)
 
--- two keyings agree, and each doubtful paper has a verdict
+-- two keyings agree, and every doubtful paper has a verdict
 abbrev pub is_settled : Pile → Bool
 is_settled pile = are_taken pile.keyings && (length (filter (is_open pile.verdicts) (agreed pile.keyings)) == 0)
 
 -- ---- the judgement on a paper
 
--- by its marks a paper is valid, with its preferences, if the number 1 stands beside exactly one candidate; else it is rejected
+-- a paper is valid by its marks, with its preferences, if the number 1 appears next to exactly one candidate; otherwise it is rejected
 abbrev pub by_rejection : Marking → Option Rejection → Judgement
 by_rejection marking None = Valid (preferences marking)
 by_rejection marking (Some rejection) = Rejected (rejection_code rejection)
 
--- the judgement by a reading of the marks; where they are doubtful, another one
+-- the judgement by a reading of the marks; if they are doubtful, another judgement
 abbrev pub by_reading : Judgement → Result Keyed MarkFault → Judgement
 by_reading doubtful (Err fault) = Open
 by_reading doubtful (Ok Doubtful) = doubtful
 by_reading doubtful (Ok (Marked marking)) = by_rejection marking (rejection_of marking)
 
--- the judgement by a verdict: on the marks that the paper is accepted with, or the code of its rejection
+-- the judgement by a verdict: by the marks that the paper is accepted with, or the code of its rejection
 abbrev pub by_verdict : List ℕ → Option JudgedEntry → Judgement
 by_verdict columns None = Open
 by_verdict columns (Some v) = if v.code == 0 then by_reading Open (reading columns v.marks) else Rejected v.code
 
--- the judgement on a keyed paper: by its marks, or if it is doubtful by its verdict
+-- the judgement on a keyed paper: by its marks or, if it is doubtful, by its verdict
 abbrev pub judgement_on : List ℕ → List JudgedEntry → KeyedEntry → Judgement
 judgement_on columns verdicts k = by_reading (by_verdict columns (find (λ (v : JudgedEntry). v.paper == k.paper) verdicts)) (reading columns k.marks)
 
@@ -64,7 +64,7 @@ judgement_on columns verdicts k = by_reading (by_verdict columns (find (λ (v : 
 abbrev pub judgements_on : List ℕ → List JudgedEntry → List KeyedEntry → List Judgement
 judgements_on columns verdicts keying = map (judgement_on columns verdicts) keying
 
--- the judgements on the papers that a batch is taken with; none where it isn't taken
+-- the judgements on the papers that a batch is taken with; none if it isn't taken
 abbrev pub judgements_in : List ℕ → Pile → List Judgement
 judgements_in columns pile = judgements_on columns pile.verdicts (agreed pile.keyings)
 
@@ -74,12 +74,11 @@ judgements columns piles = flat_map (judgements_in columns) piles
 
 -- ---- batches that are settled, whose papers are read one by one
 
--- of a batch's two clerks the one with the lower number
+-- the lower-numbered of a batch's two clerks
 abbrev pub lower_clerk : BatchEntry → ℕ
 lower_clerk b = if is_lt (nat_cmp b.first_clerk b.second_clerk) then b.first_clerk else b.second_clerk
 
--- the papers of a settled batch: two clerks keyed it alike, so that those of the lower number are its papers; where a third is
--- set, those that it is taken with
+-- the papers of a settled batch: without a third clerk those of the lower-numbered clerk, since the two keyings are equal; with a third clerk those that it is taken with
 abbrev pub settled_with : OfficeState → BatchEntry → Option ThirdEntry → List KeyedEntry
 settled_with s b None = keying_of s b.number b.round (lower_clerk b)
 settled_with s b (Some t) = taken_papers s b
@@ -87,11 +86,11 @@ settled_with s b (Some t) = taken_papers s b
 abbrev pub settled_papers : OfficeState → BatchEntry → List KeyedEntry
 settled_papers s b = settled_with s b (third_at s b.number)
 
--- the judgements on them, batch after batch
+-- the judgements on the papers of settled batches, batch by batch
 abbrev pub settled_judgements : OfficeState → List ℕ → List BatchEntry → List Judgement
 settled_judgements s columns batches = flat_map (λ (b : BatchEntry). judgements_on columns (verdicts_of s b.number) (settled_papers s b)) batches
 
--- ---- what they come to
+-- ---- totals
 
 -- the preferences of a paper that is valid
 abbrev pub preferences_by : Judgement → List (List ℕ)
@@ -99,24 +98,23 @@ preferences_by (Valid prefs) = prefs ∷ []
 preferences_by (Rejected code) = []
 preferences_by Open = []
 
--- a paper that is rejected counts for its code
+-- a rejected paper counts towards its code
 abbrev pub is_rejected : ℕ → Judgement → Bool
 is_rejected n (Valid prefs) = false
 is_rejected n (Rejected code) = code == n
 is_rejected n Open = false
 
--- how many papers are rejected with a code
+-- the number of papers rejected with a code
 abbrev pub rejected_with : List Judgement → ℕ → ℕ
 rejected_with js n = length (filter (is_rejected n) js)
 
--- the preferences of each valid paper, in the order of batch and number; how many papers are rejected, by code 1 to 5; and
--- whether each batch is settled
+-- the preferences of each valid paper, in the order of batch and number; the number of papers rejected, by code 1 to 5; and whether every batch is settled
 pub record BallotsEntry : Type 0 where
   pub papers : List (List ℕ)
   pub rejected : List ℕ
   pub settled : Bool
 
--- what some batches' papers come to
+-- the ballots of some batches
 abbrev pub ballots_in : List ℕ → List Pile → BallotsEntry
 ballots_in columns piles =
     let js = judgements columns piles in
@@ -126,7 +124,7 @@ ballots_in columns piles =
       settled = list_all is_settled piles;
     }
 
--- what some judgements come to, where each batch is settled
+-- the ballots that some judgements result in if every batch is settled
 abbrev pub ballots_by : List Judgement → BallotsEntry
 ballots_by js =
     record {
@@ -135,7 +133,7 @@ ballots_by js =
       settled = true;
     }
 
--- what a ward's papers come to: how many are valid, how many rejected by each code, the quota, and whether each batch is settled
+-- the totals of a ward's papers: the number of valid ones, of those rejected with each code, the quota, and whether every batch is settled
 pub record PollEntry : Type 0 where
   pub valid : ℕ
   pub rejected : List ℕ
@@ -146,24 +144,24 @@ pub record PollEntry : Type 0 where
 abbrev pub poll_of : ℕ → BallotsEntry → PollEntry
 poll_of seats ballots = record { valid = length ballots.papers; rejected = ballots.rejected; quota = quota_of (length ballots.papers) seats; settled = ballots.settled }
 
--- how many papers are rejected, by all five codes
+-- the number of papers rejected, with all five codes together
 abbrev pub all_rejected : List ℕ → ℕ
 all_rejected rejected = slice_index rejected 0 + (slice_index rejected 1 + (slice_index rejected 2 + (slice_index rejected 3 + slice_index rejected 4)))
 
--- a list holds these papers, each for itself
+-- a list holds these papers separately
 abbrev pub are_listed : Vec (List ℕ) → List (List ℕ) → Type 0
 are_listed kept papers = kept.items ≡ papers
 
--- bundles hold these papers, which came one after the other
+-- bundles hold these papers, which were added in this order
 abbrev pub are_bundled : List Bundle → List (List ℕ) → Type 0
 are_bundled bundles papers = bundles ≡ bundled papers
 
--- ballots stand for these: `holds` says which papers they have, and the rest is the same
+-- ballots represent this entry: `holds` says which papers they have, and the rest is the same
 pub record StandFor {P : Type 0} (holds : P → List (List ℕ) → Type 0) (ballots : Ballots P) (entry : BallotsEntry) : Type 0 where
   pub papers_held : holds ballots.papers entry.papers
   pub rejected_are : ballots.rejected ≡ entry.rejected
   pub settled_is : ballots.settled ≡ entry.settled
 
--- what a poll stands for
+-- the entry of a poll
 abbrev pub poll_entry : PollTally → PollEntry
 poll_entry poll = record { valid = poll.valid; rejected = poll.rejected; quota = poll.quota; settled = poll.settled }

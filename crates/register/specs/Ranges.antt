@@ -1,4 +1,4 @@
--- Which numbers, names, ids and replies are in range.
+-- The ranges of numbers, names, ids and replies.
 use Rattle.std.specs.Prelude.{ℕ, Bool, not, ◌&&◌, ◌||◌, ◌==◌, nat_le, List, length}
 use Rattle.std.specs.List.{list_all}
 use Rattle.std.specs.Str.{is_utf8}
@@ -11,27 +11,27 @@ is_between low high n = nat_le low n && nat_le n high
 
 -- ---- limits
 
--- the highest number of a clerk
+-- the highest clerk number
 abbrev pub last_clerk : ℕ
 last_clerk = 999
 
--- the highest number of a ward
+-- the highest ward number
 abbrev pub last_ward : ℕ
 last_ward = 99
 
--- the highest number of a batch, over all wards
+-- the highest batch number, across all wards
 abbrev pub last_batch : ℕ
 last_batch = 9999
 
--- the most papers in a batch
+-- the most papers that a batch can have
 abbrev pub most_papers : ℕ
 most_papers = 500
 
--- the highest round in which a batch is keyed
+-- the highest round of keying
 abbrev pub last_round : ℕ
 last_round = 99
 
--- the first stage of a count at which a lot may be drawn, and the last one
+-- the first stage of a count for which a lot may be drawn, and the last
 abbrev pub first_lot_stage : ℕ
 first_lot_stage = 2
 
@@ -72,13 +72,13 @@ is_paper_number = is_between 1 most_papers
 abbrev pub is_lot_stage : ℕ → Bool
 is_lot_stage = is_between first_lot_stage last_lot_stage
 
--- the round in which a batch is keyed
+-- a round of keying
 abbrev pub is_round : ℕ → Bool
 is_round = is_between 1 last_round
 
 -- ---- texts
 
--- a byte of no control character: not below a space, and not DEL
+-- a byte of no control character: neither below a space nor DEL
 abbrev pub is_name_byte : ℕ → Bool
 is_name_byte b = nat_le 32 b && not (b == 127)
 

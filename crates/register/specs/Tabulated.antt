@@ -1,4 +1,4 @@
--- What an office tabulates of its counts: where each bundle of equal ballot papers lies, and every figure of every stage.
+-- What an office tabulates of its counts: the place of each bundle of equal ballot papers, and every figure of every stage.
 use Rattle.std.specs.Prelude.{◌≡◌, ⊤, ℕ, ◌+◌, Bool, true, false, not, ◌&&◌, ◌==◌, if◌then◌else◌, List, [], ◌∷◌, ◌++◌, map, fold, length, Option, Some, None}
 use Rattle.std.specs.List.{flat_map}
 use Rattle.std.specs.List.Sorted.{IsStrictlySortedBy, IsPermutation}
@@ -6,7 +6,7 @@ use Rattle.std.specs.Ordering.{nat_cmp, on, then_cmp, is_eq}
 use Rattle.std.specs.Cmp.Lexicographic.{slice_cmp}
 use Rattle.std.specs.declared.cmp.Ordering.{Ordering}
 use Rattle.count.specs.Bundles.{Bundle, bundled, AreBundles}
-use Rattle.count.specs.Kept.{IsKeptOf}
+use Rattle.count.specs.StoredCounts.{IsStoredCountOf}
 use Rattle.count.specs.Marks.{figures_at}
 use Rattle.count.specs.Law.Contest.{History, IsContest}
 use Rattle.count.specs.Law.Places.{Place, place}
@@ -18,10 +18,10 @@ use Rattle.register.specs.declared.counts.CountCommand.TheVariants.{Advance}
 use Rattle.register.specs.declared.decision.Decision.{Decision}
 use Rattle.register.specs.declared.decision.Decision.TheVariants.{Accepted, Kept, Refused}
 use Rattle.register.specs.declared.decision.Change.{Change}
-use Rattle.register.specs.declared.tabulated.PlacedBundle.{PlacedBundle}
-use Rattle.register.specs.declared.tabulated.StageFigure.{StageFigure}
-use Rattle.register.specs.declared.tabulated.Tabulation.{Tabulation}
-use Rattle.register.specs.declared.tabulated.Addition.{Addition}
+use Rattle.register.specs.declared.tabulations.PlacedBundle.{PlacedBundle}
+use Rattle.register.specs.declared.tabulations.StageFigure.{StageFigure}
+use Rattle.register.specs.declared.tabulations.Tabulation.{Tabulation}
+use Rattle.register.specs.declared.tabulations.Addition.{Addition}
 use Rattle.register.specs.declared.elections.Count.{Count as CountValue}
 use Rattle.register.specs.declared.elections.CountedWard.{CountedWard}
 use Rattle.register.specs.declared.elections.WardSheet.{WardSheet}
@@ -32,7 +32,7 @@ use Rattle.register.specs.Elections.{ElectionEntry, election_of, has_count, is_i
 
 -- ---- entries
 
--- a bundle of equal ballot papers of a ward: their list of preferences, how many they are, who holds them (0 for no one), and the value in units at which each was received
+-- a bundle of equal ballot papers of a ward: their list of preferences, their number, their holder (0 for none), and the value in units at which the holder received each
 pub record PlacedEntry : Type 0 where
   pub ward : ℕ
   pub list : List ℕ
@@ -48,7 +48,7 @@ pub record FigureEntry : Type 0 where
   pub units : ℕ
   pub mark : ℕ
 
--- all of them
+-- all bundles and figures
 pub record TabulationEntries : Type 0 where
   pub bundles : List PlacedEntry
   pub figures : List FigureEntry
@@ -61,17 +61,17 @@ placed_cmp = then_cmp (on (λ (b : PlacedEntry). b.ward) nat_cmp) (on (λ (b : P
 abbrev pub figure_cmp : FigureEntry → FigureEntry → Ordering
 figure_cmp = then_cmp (on (λ (f : FigureEntry). f.ward) nat_cmp) (then_cmp (on (λ (f : FigureEntry). f.stage) nat_cmp) (on (λ (f : FigureEntry). f.candidate) nat_cmp))
 
--- ---- what a state has of them
+-- ---- the tabulation of a state
 
--- an election whose count has a stage at least
+-- an election whose count has at least one stage
 abbrev pub has_stages : ElectionEntry → Bool
 has_stages e = has_count e && not (e.ward.done == 0)
 
--- a bundle of a ward at a place
+-- a bundle of a ward in a place
 abbrev pub placed_at : ℕ → Bundle → Place → PlacedEntry
 placed_at ward b at = record { ward = ward; list = b.0; papers = b.1; holder = at.holder; value = at.value }
 
--- a bundle of a ward where its papers lie after some stages
+-- a bundle of a ward in its place after some stages
 abbrev pub placed_after : ElectionEntry → History → Bundle → PlacedEntry
 placed_after e stages b = placed_at e.ward.number b (place (contest_of e) stages b.0)
 
@@ -83,7 +83,7 @@ bundles_in e = if has_stages e then map (placed_after e (stages_of e)) (bundled 
 abbrev pub figure_at : ℕ → ℕ → Figure → FigureEntry
 figure_at ward stage f = record { ward = ward; stage = stage; candidate = f.candidate; units = f.units; mark = f.mark }
 
--- the figures of all stages of a ward's count, from the first on
+-- the figures of all stages of a ward's count, from the first
 abbrev pub figures_to : ℕ → List ℕ → History → List FigureEntry
 figures_to ward candidates [] = []
 figures_to ward candidates (s ∷ before) = figures_to ward candidates before ++ map (figure_at ward (length before + 1)) (figures_at candidates (s ∷ before))
@@ -96,28 +96,28 @@ figures_in e = if has_stages e then figures_to e.ward.number (columns_of e.candi
 unfoldable pub tabulation_of : OfficeState → TabulationEntries
 tabulation_of s = record { bundles = flat_map (λ (w : WardEntry). bundles_in (election_of s w)) s.wards; figures = flat_map (λ (w : WardEntry). figures_in (election_of s w)) s.wards }
 
--- bundles and figures in the order of their keys, no key twice
+-- bundles and figures are in the order of their keys, without duplicates
 pub record TabulationRises (t : TabulationEntries) : Type 0 where
   pub bundles : IsStrictlySortedBy placed_cmp t.bundles
   pub figures : IsStrictlySortedBy figure_cmp t.figures
 
--- the eighth condition: what is tabulated is the tabulation of the state
+-- the eighth condition: the entries are the tabulation of the state
 abbrev pub IsTabulationOf : TabulationEntries → OfficeState → Type 0
 IsTabulationOf t s = t ≡ tabulation_of s
 
--- ---- what a request adds to it
+-- ---- what a request adds to the tabulation
 
--- bundles that come into it, bundles that lie elsewhere than before, and the figures of a stage more
+-- new bundles, bundles whose place has changed, and the figures of one more stage
 pub record AdditionEntries : Type 0 where
   pub placed : List PlacedEntry
   pub moved : List PlacedEntry
   pub figures : List FigureEntry
 
--- nothing
+-- the empty addition
 abbrev pub no_addition : AdditionEntries
 no_addition = record { placed = []; moved = []; figures = [] }
 
--- the bundles, with this one where it lies now
+-- the bundles, with this one in its new place
 abbrev pub moved_to : PlacedEntry → List PlacedEntry → List PlacedEntry
 moved_to b bundles = map (λ x. if is_eq (placed_cmp b x) then b else x) bundles
 
@@ -130,7 +130,7 @@ pub record SameTabulation (t u : TabulationEntries) : Type 0 where
   pub bundles : IsPermutation t.bundles u.bundles
   pub figures : IsPermutation t.figures u.figures
 
--- ---- what values stand for
+-- ---- the entries of the program's values
 
 abbrev pub placed_entry : PlacedBundle → PlacedEntry
 placed_entry b = record { ward = b.ward; list = b.list.items; papers = b.papers; holder = b.holder; value = b.value }
@@ -144,7 +144,7 @@ tabulation_entries t = record { bundles = map placed_entry t.bundles.items; figu
 abbrev pub addition_entries : Addition → AdditionEntries
 addition_entries a = record { placed = map placed_entry a.placed.items; moved = map placed_entry a.moved.items; figures = map figure_entry a.figures.items }
 
--- a bundle as it is tabulated, where its papers lie, and a figure, as the count has them
+-- the bundle and the place of a tabulated bundle, and a tabulated figure, in the count's own form
 abbrev pub bundle_of : PlacedEntry → Bundle
 bundle_of b = (b.list, b.papers)
 
@@ -154,19 +154,19 @@ placed_of b = record { holder = b.holder; value = b.value }
 abbrev pub shown_of : FigureEntry → Figure
 shown_of f = record { candidate = f.candidate; units = f.units; mark = f.mark }
 
--- the addition of a change makes of the tabulation before it the one after it
+-- the old tabulation and the addition of a change make up the new tabulation
 abbrev pub IsTabulated : OfficeState → Change → Type 0
 IsTabulated s change = SameTabulation (with_addition (addition_entries change.addition) (tabulation_of s)) (tabulation_of (with_change (change_entry change) s))
 
--- and so does the addition of an accepted request
+-- so do the old tabulation and the addition of an accepted request
 abbrev pub AddsWhatIsCounted : OfficeState → Decision → Type 0
 AddsWhatIsCounted s (Accepted change reply) = IsTabulated s change
 AddsWhatIsCounted s (Kept reply) = ⊤
 AddsWhatIsCounted s (Refused why) = ⊤
 
--- ---- the count that is read back
+-- ---- reading a count back
 
--- these are the candidates, the seats, the bundles and the figures of an election whose count has a stage
+-- these are the candidates, the seats, the bundles and the figures of an election whose count has at least one stage
 pub record AreOfCount (e : ElectionEntry) (candidates : List ℕ) (seats : ℕ) (bundles : List PlacedEntry) (figures : List FigureEntry) : Type 0 where
   pub begun : has_stages e ≡ true
   pub fair : IsContest (contest_of e)
@@ -178,32 +178,32 @@ pub record AreOfCount (e : ElectionEntry) (candidates : List ℕ) (seats : ℕ) 
 
 -- ---- the count that a view shows
 
--- this is kept of the count of an election, with its lots
+-- this is the stored count of an election, with its lots
 pub record IsCountOf (e : ElectionEntry) (count : CountValue) : Type 0 where
-  pub kept_is : IsKeptOf (contest_of e) (stages_of e) count.kept
+  pub kept_is : IsStoredCountOf (contest_of e) (stages_of e) count.kept
   pub lots_are : count.lots.items ≡ e.lots
 
--- it was found
+-- the count was found
 abbrev pub IsCount : ElectionEntry → Option CountValue → Type 0
 IsCount e found = (count : CountValue) × (found ≡ Some count) × IsCountOf e count
 
--- the count of an election that is in count, and else none
+-- this is the count of an election if it is in count, otherwise none
 abbrev pub IsCountIn : ElectionEntry → Option CountValue → Type 0
 IsCountIn e None = is_in_count e ≡ false
 IsCountIn e (Some count) = (is_in_count e ≡ true) × IsCountOf e count
 
--- the ward and the candidates of an election and, where it is in count, its count
+-- the ward and the candidates of an election and, if it is in count, its count
 pub record IsCountedWard (e : ElectionEntry) (found : CountedWard) : Type 0 where
   pub ward_is : ward_entry found.ward ≡ e.ward
   pub candidates_are : map candidate_entry found.candidates.items ≡ e.candidates
   pub count_is : IsCountIn e found.count
 
--- the same, and how many of its papers are rejected
+-- the same, and the number of its papers rejected
 pub record IsSheetOf (e : ElectionEntry) (sheet : WardSheet) : Type 0 where
   pub counted_is : IsCountedWard e sheet.counted
   pub rejected_are : is_in_count e ≡ true → sheet.rejected ≡ e.ballots.rejected
 
--- where a stage is to be counted in a contested ward, its count is shown
+-- if a stage is to be counted in a contested ward, its count is shown
 abbrev pub IsCountFor : OfficeState → Command → Option CountValue → Type 0
 IsCountFor s (Count (Advance ward)) shown = (w : WardEntry) → ward_at s ward ≡ Some w → has_count (election_of s w) ≡ true → IsCount (election_of s w) shown
 IsCountFor s command shown = ⊤

@@ -3,11 +3,11 @@ use Rattle.std.specs.Prelude.{ℕ, List, [], ◌∷◌, ◌++◌, codes}
 use Rattle.std.specs.List.{flat_map}
 use Rattle.std.specs.Fmt.{decimal}
 
--- a number behind another one: `, 3`
+-- a number after another: `, 3`
 abbrev pub behind : ℕ → List ℕ
 behind n = codes ", " ++ decimal n
 
--- numbers, parted by a comma and a space: `1, 3`
+-- numbers separated by a comma and a space: `1, 3`
 unfoldable pub listed : List ℕ → List ℕ
 listed [] = []
 listed (n ∷ ns) = decimal n ++ flat_map behind ns

@@ -1,4 +1,4 @@
--- The command about a doubtful paper: what it needs of the state, what stands against it, what it is about, replies and does.
+-- The command about a doubtful paper: the part of the state that it needs, the objections to it, its subject, its reply and its effect.
 use Rattle.std.specs.Prelude.{ℕ, Bool, not, ◌&&◌, List, [], ◌∷◌, ◌++◌, codes, string_bytes, Option, None, is_some}
 use Rattle.std.specs.Fmt.{decimal}
 use Rattle.register.specs.declared.refusal.Reason.{Reason}
@@ -10,15 +10,15 @@ use Rattle.register.specs.Reasons.{objection}
 use Rattle.register.specs.Ranges.{is_between, is_office, is_batch_number, is_paper_number}
 use Rattle.register.specs.Offices.{JudgedEntry, OfficeState, batch_at, verdict_at}
 use Rattle.register.specs.Marks.{columns_of, marks_objection, is_valid}
-use Rattle.register.specs.Papers.{agreed, are_taken, has_doubtful}
+use Rattle.register.specs.Agreement.{agreed, are_taken, has_doubtful}
 use Rattle.register.specs.Batches.{ward_for, candidates_for, keyings_for}
 use Rattle.register.specs.Effects.{EffectEntry, paper_judged}
-use Rattle.register.specs.Parts.{PartEntries, empty_part, batch_objections}
+use Rattle.register.specs.CommandInputs.{CommandInputEntries, empty_input, batch_objections}
 
 -- the part of the state that it needs
-abbrev pub part_of : OfficeState → ℕ → VerdictCommand → PartEntries
+abbrev pub part_of : OfficeState → ℕ → VerdictCommand → CommandInputEntries
 part_of s actor command =
-    record empty_part {
+    record empty_input {
       ward = ward_for s (batch_at s command.batch);
       candidates = candidates_for s (batch_at s command.batch);
       batch = batch_at s command.batch;
@@ -26,26 +26,26 @@ part_of s actor command =
       verdict = verdict_at s command.batch command.paper;
     }
 
--- the numbers are in range, and the actor is one who may send it
+-- the numbers are in range and the actor may send the command
 abbrev pub is_in_range : ℕ → VerdictCommand → Bool
 is_in_range actor command = is_office actor && (is_batch_number command.batch && is_paper_number command.paper)
 
--- the code of a rejection that the returning officer gives: no official mark, voter identifiable, void for uncertainty
+-- a code with which the returning officer may reject a paper: no official mark, voter identifiable, void for uncertainty
 abbrev pub is_rejection_code : ℕ → Bool
 is_rejection_code = is_between 3 5
 
--- the reason that the marks of an accepting verdict give
+-- the objection to the marks of an accepting verdict
 abbrev pub verdict_objection : List ℕ → ℕ → Verdict → Option Reason
 verdict_objection columns paper (Accept marks) = marks_objection columns paper (string_bytes marks)
 verdict_objection columns paper (Reject code) = None
 
--- an accepted paper is valid by its marks, and a rejection has a code that may be given
+-- a paper to be accepted is valid by its marks, and a rejection has a permitted code
 abbrev pub is_verdict : List ℕ → Verdict → Bool
 is_verdict columns (Accept marks) = is_valid columns (string_bytes marks)
 is_verdict columns (Reject code) = is_rejection_code code
 
--- what stands against it, in the order of the reasons' numbers
-abbrev pub objections : ℕ → VerdictCommand → PartEntries → List (Option Reason)
+-- the objections to it, in the order of the reasons' numbers
+abbrev pub objections : ℕ → VerdictCommand → CommandInputEntries → List (Option Reason)
 objections actor command part =
     objection (not (is_in_range actor command)) NumberOutOfRange
     ∷ batch_objections part
@@ -58,24 +58,24 @@ objections actor command part =
     ∷ []
     )
 
--- what the receipt is about: by it a command that comes again under its id is known as the same
+-- the subject of the receipt, by which a command sent again under the same id is recognised
 unfoldable pub subject_of : VerdictCommand → List ℕ
 subject_of command = codes "judge " ++ (decimal command.batch ++ (codes " " ++ decimal command.paper))
 
--- what a reply says of a verdict
+-- the word of a reply for a verdict
 abbrev pub verdict_word : Verdict → List ℕ
 verdict_word (Accept marks) = codes " accepted"
 verdict_word (Reject code) = codes " rejected " ++ decimal code
 
--- what is replied where it is accepted
+-- the reply to an accepted command
 unfoldable pub reply_to : VerdictCommand → List ℕ
 reply_to command = codes "batch " ++ (decimal command.batch ++ (codes " paper " ++ (decimal command.paper ++ verdict_word command.verdict)))
 
--- the verdict as it is kept: 0 with the marks of an accepted paper, or the code of a rejection without marks
+-- the verdict as stored: 0 with the marks of an accepted paper, or the code of a rejection without marks
 abbrev pub judged_as : ℕ → ℕ → Verdict → JudgedEntry
 judged_as batch paper (Accept marks) = record { batch = batch; paper = paper; code = 0; marks = string_bytes marks }
 judged_as batch paper (Reject code) = record { batch = batch; paper = paper; code = code; marks = [] }
 
--- what it does where it is accepted
+-- the effect of an accepted command
 abbrev pub effect_of : VerdictCommand → EffectEntry
 effect_of command = paper_judged (judged_as command.batch command.paper command.verdict)

@@ -1,4 +1,4 @@
--- The commands about wards: what each needs of the state, what stands against it, what it is about, replies and does.
+-- The commands about wards: for each the part of the state that it needs, the objections to it, its subject, its reply and its effect.
 use Rattle.std.specs.Prelude.{ℕ, Bool, false, not, ◌&&◌, if◌then◌else◌, List, [], ◌∷◌, ◌++◌, codes, string_bytes, Option, Some, None, is_some}
 use Rattle.std.specs.Fmt.{decimal}
 use Rattle.register.specs.declared.phase.Phase.{Phase}
@@ -12,49 +12,49 @@ use Rattle.register.specs.Ranges.{is_office, is_ward_number, is_seat_number, is_
 use Rattle.register.specs.Offices.{WardEntry, CandidateEntry, OfficeState, ward_at, candidates_of}
 use Rattle.register.specs.Nominations.{is_contested, is_stood_in}
 use Rattle.register.specs.Effects.{EffectEntry, ward_added, ward_moved}
-use Rattle.register.specs.Parts.{PartEntries, empty_part, phase_objections}
+use Rattle.register.specs.CommandInputs.{CommandInputEntries, empty_input, phase_objections}
 
--- the part of the state that each needs
-abbrev pub part_of : OfficeState → ℕ → WardCommand → PartEntries
-part_of s actor (Add ward seats name) = record empty_part { ward = ward_at s ward }
-part_of s actor (Close ward) = record empty_part { ward = ward_at s ward; candidates = candidates_of s ward }
+-- the part of the state that each command needs
+abbrev pub part_of : OfficeState → ℕ → WardCommand → CommandInputEntries
+part_of s actor (Add ward seats name) = record empty_input { ward = ward_at s ward }
+part_of s actor (Close ward) = record empty_input { ward = ward_at s ward; candidates = candidates_of s ward }
 
--- the numbers are in range, and the actor is one who may send it
+-- the numbers are in range and the actor may send the command
 abbrev pub is_in_range : ℕ → WardCommand → Bool
 is_in_range actor (Add ward seats name) = is_office actor && (is_ward_number ward && is_seat_number seats)
 is_in_range actor (Close ward) = is_office actor && is_ward_number ward
 
--- what stands against each, in the order of the reasons' numbers
-abbrev pub objections : ℕ → WardCommand → PartEntries → List (Option Reason)
+-- the objections to each command, in the order of the reasons' numbers
+abbrev pub objections : ℕ → WardCommand → CommandInputEntries → List (Option Reason)
 objections actor (Add ward seats name) part =
     objection (not (is_in_range actor (Add ward seats name))) NumberOutOfRange ∷ objection (not (is_name (string_bytes name))) BadName ∷ objection (is_some part.ward) WardExists ∷ []
 objections actor (Close ward) part =
     objection (not (is_in_range actor (Close ward))) NumberOutOfRange ∷ phase_objections Nominations part.ward ++ (objection (not (is_stood_in part.candidates)) NoCandidates ∷ [])
 
--- the ward is to be polled: it is there, and contested
+-- the ward is to be polled: it exists and is contested
 abbrev pub is_to_be_polled : Option WardEntry → List CandidateEntry → Bool
 is_to_be_polled None candidates = false
 is_to_be_polled (Some w) candidates = is_contested w candidates
 
--- the phase that closed nominations lead to
-abbrev pub closed_phase : PartEntries → Phase
+-- the phase after nominations are closed
+abbrev pub closed_phase : CommandInputEntries → Phase
 closed_phase part = if is_to_be_polled part.ward part.candidates then Keying else Sealed
 
--- what a reply says of a ward whose nominations are closed
-abbrev pub closed_word : PartEntries → List ℕ
+-- the word of a reply for a ward whose nominations are closed
+abbrev pub closed_word : CommandInputEntries → List ℕ
 closed_word part = if is_to_be_polled part.ward part.candidates then codes " polled" else codes " uncontested"
 
--- what the receipt is about: by it a command that comes again under its id is known as the same
+-- the subject of the receipt, by which a command sent again under the same id is recognised
 unfoldable pub subject_of : WardCommand → List ℕ
 subject_of (Add ward seats name) = codes "ward " ++ decimal ward
 subject_of (Close ward) = codes "close " ++ decimal ward
 
--- what is replied where it is accepted (texts are grouped to the right, as they are written)
-unfoldable pub reply_to : WardCommand → PartEntries → List ℕ
+-- the reply to an accepted command (appended texts are grouped to the right, as they are written)
+unfoldable pub reply_to : WardCommand → CommandInputEntries → List ℕ
 reply_to (Add ward seats name) part = codes "ward " ++ (decimal ward ++ codes " added")
 reply_to (Close ward) part = codes "ward " ++ (decimal ward ++ closed_word part)
 
--- what it does where it is accepted
-abbrev pub effect_of : WardCommand → PartEntries → EffectEntry
+-- the effect of an accepted command
+abbrev pub effect_of : WardCommand → CommandInputEntries → EffectEntry
 effect_of (Add ward seats name) part = ward_added (record { number = ward; seats = seats; phase = Nominations; done = 0; name = string_bytes name })
 effect_of (Close ward) part = ward_moved ward (closed_phase part)

@@ -1,4 +1,4 @@
-//! What the stage that is due adds to what is tabulated of the counts.
+//! What the next stage adds to the tabulation of the counts.
 
 ghost use Rattle.std.specs.Prelude.{◌≡◌, ℕ, List, map, IfOk};
 ghost use Rattle.count.specs.Books.{placed};
@@ -9,12 +9,14 @@ ghost use Rattle.register.specs.Additions.{IsAddedTo};
 ghost use Rattle.register.specs.Walks.{moved_bundles, last_figures, all_added, moves_added};
 
 use crate::elections::Count;
-use crate::tabulated::{Addition, PlacedBundle, StageFigure, Tabulation, add_stage, placed_bundle};
-use count::{Bundles, KeptCount, NextStage, Placed, Stage, figures_of};
+use crate::tabulations::{
+    Addition, PlacedBundle, StageFigure, Tabulation, add_stage_figures, placed_bundle,
+};
+use count::{Bundles, NextStage, Placed, Stage, StoredCount, figures_of};
 use paper::Columns;
 use std::alloc::{AllocError, Global};
 
-/// The bundles of a ward that lie elsewhere than before, where they lie now. An error is want of memory.
+/// Returns the bundles of a ward whose place has changed, with their new places. `AllocError` if an allocation fails.
 fn moved_bundles(
     alloc: Global,
     ward: u32,
@@ -42,7 +44,7 @@ fn moved_bundles(
     Ok(moved)
 }
 
-/// The figures of the last of a ward's stages. An error is want of memory.
+/// Returns the figures of the latest of a ward's stages. `AllocError` if an allocation fails.
 fn last_figures(
     alloc: Global,
     ward: u32,
@@ -51,21 +53,21 @@ fn last_figures(
 ) -> Result<Vec<StageFigure>, AllocError>
     ensures { IfOk result (λ figures. map figure_entry figures.items ≡ last_figures ward candidates.now stages.now) }
 {
-    // no memory holds more stages than such a number can count
+    // more stages than a `u32` can count don't fit into memory
     let Ok(stage) = u32::try_from(stages.len()) else {
         return Err(AllocError);
     };
     let shown = figures_of(alloc, candidates, stages)?;
     let mut figures = Vec::new(alloc);
-    add_stage(&mut figures, ward, stage, &shown)?;
+    add_stage_figures(&mut figures, ward, stage, &shown)?;
     Ok(figures)
 }
 
-/// What the first stage of a ward's count adds: all that is tabulated of it. An error is want of memory.
+/// Returns what the first stage of a ward's count adds: all of its tabulation. `AllocError` if an allocation fails.
 fn first_addition(
     alloc: Global,
     ward: u32,
-    kept: &KeptCount,
+    kept: &StoredCount,
     next: &NextStage,
 ) -> Result<Addition, AllocError>
     ensures { IfOk result (λ addition. (now : List ℕ → Place) → next.now.places.items ≡ map (λ (b : Bundle). placed (now b.0)) kept.now.bundles
@@ -87,12 +89,12 @@ fn first_addition(
     })
 }
 
-/// What a later stage of a ward's count adds: the bundles that lie elsewhere than before, and its figures. An
-/// error is want of memory.
+/// Returns what a later stage of a ward's count adds: the bundles whose place has changed, and the stage's figures.
+/// `AllocError` if an allocation fails.
 fn later_addition(
     alloc: Global,
     ward: u32,
-    kept: &KeptCount,
+    kept: &StoredCount,
     next: &NextStage,
 ) -> Result<Addition, AllocError>
     ensures { IfOk result (λ addition. addition_entries addition ≡ moves_added ward kept.now.candidates kept.now.bundles kept.now.places next.now.places.items next.now.stages.items) }
@@ -104,8 +106,8 @@ fn later_addition(
     })
 }
 
-/// What the stage that is due adds to a ward's count: at the first stage all bundles, at a later one those that
-/// lie elsewhere than before, and its figures. Nothing where no action is due. An error is want of memory.
+/// Returns what the next stage adds to a ward's count: at the first stage all bundles, at a later one those whose place has
+/// changed, and the stage's figures. Nothing if no action is due. `AllocError` if an allocation fails.
 pub(crate) fn addition_of(alloc: Global, ward: u32, count: &Count) -> Result<Addition, AllocError>
     ensures { IfOk result (λ addition. IsAddedTo ward count.now addition) }
 {

@@ -1,26 +1,26 @@
-//! Batches of ballot papers, and the commands about them.
+//! Batches of ballot papers, and the commands that concern them.
 
 ghost use Rattle.std.specs.Prelude.{◌≡◌, IfOk, option_map, string_bytes};
 ghost use Rattle.register.specs.Reasons.{first_reason};
 ghost use Rattle.register.specs.Offices.{batch_entry};
-ghost use Rattle.register.specs.Parts.{part_entries, passes};
+ghost use Rattle.register.specs.CommandInputs.{input_entries, passes};
 ghost use Rattle.register.specs.Effects.{effect_entry};
 ghost use Rattle.register.specs.Batches.{is_in_last_round, is_in_range, next_round, third_objections, objections, subject_of, reply_to, effect_of};
 
+use crate::agreement::differ;
 use crate::decision::Effect;
 use crate::keyings::is_its_clerk;
-use crate::papers::differ;
 use crate::phase::Phase;
 use crate::ranges::{
     LAST_ROUND, is_batch_number, is_clerk, is_office, is_paper_number, is_ward_number,
 };
 use crate::refusal::Reason;
-use crate::view::Part;
+use crate::view::CommandInput;
 use crate::wards::is_in_phase;
 use std::alloc::{AllocError, Global};
 
-/// A batch of ballot papers. It has its number (1 to 9999, over all wards), its ward (1 to 99), how many papers it has (1 to
-/// 500), its current round (1 to 99), and the two clerks who first key it (1 to 999).
+/// A batch of ballot papers: its number (1 to 9999, unique across all wards), its ward (1 to 99), and its number of papers
+/// (1 to 500). It also has its current round (1 to 99), and the two clerks (1 to 999) assigned to key it.
 #[derive(PartialEq, Drop)]
 pub struct Batch {
     pub number: u32,
@@ -31,17 +31,17 @@ pub struct Batch {
     pub round: u32,
 }
 
-/// A third clerk (1 to 999) who keys a batch (1 to 9999) in its current and its later rounds.
+/// A third clerk (1 to 999) who keys a batch (1 to 9999) in its current round and in later ones.
 #[derive(PartialEq, Drop)]
 pub struct ThirdClerk {
     pub batch: u32,
     pub clerk: u32,
 }
 
-/// What the office asks about a batch.
+/// The office's commands for batches.
 #[derive(Debug, Drop)]
 pub enum BatchCommand {
-    /// A batch of this ward, with so many papers, is given out to two clerks, in its first round.
+    /// Assigns a batch of `size` papers of this ward to two clerks, in its first round.
     Add {
         batch: u32,
         ward: u32,
@@ -49,25 +49,25 @@ pub enum BatchCommand {
         first_clerk: u32,
         second_clerk: u32,
     },
-    /// The batch, whose keyings differ, is keyed again in one more round.
+    /// Opens one more round of a batch whose keyings differ.
     Again {
         batch: u32,
     },
-    /// The batch, whose keyings differ, is given to a third clerk too: it is taken as soon as any two agree.
+    /// Assigns a batch whose keyings differ to a third clerk as well; it is taken as soon as any two keyings agree.
     Third {
         batch: u32,
         clerk: u32,
     },
 }
 
-/// Whether a batch is in the last round.
+/// Returns whether a batch is in the last round.
 fn is_in_last_round(batch: &Batch) -> bool
     ensures { result ≡ is_in_last_round (batch_entry batch.now) }
 {
     LAST_ROUND <= batch.round
 }
 
-/// Whether a batch is there, in the last round.
+/// Returns whether a batch exists and is in the last round.
 fn is_last(batch: &Option<Batch>) -> bool
     ensures { result ≡ passes is_in_last_round (option_map batch_entry batch.now) }
 {
@@ -77,10 +77,9 @@ fn is_last(batch: &Option<Batch>) -> bool
     }
 }
 
-/// Whether the command's numbers are in range, and the actor is one who may send it. A batch in the last
-/// round can't be keyed again.
-fn is_in_range(actor: u32, command: &BatchCommand, part: &Part) -> bool
-    ensures { result ≡ is_in_range actor command.now (part_entries part.now) }
+/// Returns whether the command's numbers are in range and the actor may send it. A batch in the last round can't be keyed again.
+fn is_in_range(actor: u32, command: &BatchCommand, part: &CommandInput) -> bool
+    ensures { result ≡ is_in_range actor command.now (input_entries part.now) }
 {
     let office = is_office(actor);
     match command {
@@ -107,9 +106,9 @@ fn is_in_range(actor: u32, command: &BatchCommand, part: &Part) -> bool
     }
 }
 
-/// What stands against a third clerk of a batch, whose numbers are in range.
-fn third_objection(clerk: u32, part: &Part) -> Option<Reason>
-    ensures { result ≡ first_reason (third_objections clerk (part_entries part.now)) }
+/// Returns the objection to a third clerk for a batch, given that the numbers are in range.
+fn third_objection(clerk: u32, part: &CommandInput) -> Option<Reason>
+    ensures { result ≡ first_reason (third_objections clerk (input_entries part.now)) }
 {
     let Some(batch) = &part.batch else {
         return Some(Reason::NoSuchBatch);
@@ -129,9 +128,13 @@ fn third_objection(clerk: u32, part: &Part) -> Option<Reason>
     None
 }
 
-/// What stands against a command: of several reasons the one with the lowest number.
-pub(crate) fn objection_to(actor: u32, command: &BatchCommand, part: &Part) -> Option<Reason>
-    ensures { result ≡ first_reason (objections actor command.now (part_entries part.now)) }
+/// Returns the objection to a command; if there are several, the one with the lowest number.
+pub(crate) fn objection_to(
+    actor: u32,
+    command: &BatchCommand,
+    part: &CommandInput,
+) -> Option<Reason>
+    ensures { result ≡ first_reason (objections actor command.now (input_entries part.now)) }
 {
     if !is_in_range(actor, command, part) {
         return Some(Reason::NumberOutOfRange);
@@ -172,7 +175,7 @@ pub(crate) fn objection_to(actor: u32, command: &BatchCommand, part: &Part) -> O
     }
 }
 
-/// The round after the current one, at most the last.
+/// Returns the round after the current one, at most the last.
 fn next_round(batch: &Option<Batch>) -> u32
     ensures { result ≡ next_round (option_map batch_entry batch.now) }
 {
@@ -184,7 +187,7 @@ fn next_round(batch: &Option<Batch>) -> u32
 }
 
 #[tactic(auto, unfolding(crate::specs::Batches::subject_of))]
-/// What the receipt of a command is about.
+/// Returns the subject of a command's receipt.
 pub(crate) fn subject_of(alloc: Global, command: &BatchCommand) -> Result<String, AllocError>
     ensures { IfOk result (λ text. string_bytes text ≡ subject_of command.now) }
 {
@@ -196,13 +199,13 @@ pub(crate) fn subject_of(alloc: Global, command: &BatchCommand) -> Result<String
 }
 
 #[tactic(auto, unfolding(crate::specs::Batches::reply_to))]
-/// What is replied where the command is accepted: of a batch that is keyed again also in which round.
+/// Returns the reply to an accepted command; for a batch to be keyed again it includes the new round.
 pub(crate) fn reply_to(
     alloc: Global,
     command: &BatchCommand,
-    part: &Part,
+    part: &CommandInput,
 ) -> Result<String, AllocError>
-    ensures { IfOk result (λ text. string_bytes text ≡ reply_to command.now (part_entries part.now)) }
+    ensures { IfOk result (λ text. string_bytes text ≡ reply_to command.now (input_entries part.now)) }
 {
     match command {
         BatchCommand::Add { batch, .. } => format!(in alloc; "batch {batch} added"),
@@ -216,9 +219,9 @@ pub(crate) fn reply_to(
     }
 }
 
-/// What the command does to the state: a new batch is in its first round.
-pub(crate) fn effect_of(command: &BatchCommand, part: &Part) -> Effect
-    ensures { effect_entry result ≡ effect_of command.now (part_entries part.now) }
+/// Returns the effect of a command on the state; a new batch is in its first round.
+pub(crate) fn effect_of(command: &BatchCommand, part: &CommandInput) -> Effect
+    ensures { effect_entry result ≡ effect_of command.now (input_entries part.now) }
 {
     match command {
         BatchCommand::Add {

@@ -1,9 +1,9 @@
-//! Candidates, and the commands about them.
+//! Candidates, and the commands that concern them.
 
 ghost use Rattle.std.specs.Prelude.{◌≡◌, ◌&&◌, IfOk, string_bytes};
 ghost use Rattle.register.specs.Reasons.{first_reason};
 ghost use Rattle.register.specs.Ranges.{is_office, is_ward_number, is_candidate_number};
-ghost use Rattle.register.specs.Parts.{part_entries};
+ghost use Rattle.register.specs.CommandInputs.{input_entries};
 ghost use Rattle.register.specs.Effects.{effect_entry};
 ghost use Rattle.register.specs.Candidates.{is_in_range, objections, subject_of, reply_to, effect_of};
 
@@ -11,11 +11,11 @@ use crate::decision::Effect;
 use crate::phase::Phase;
 use crate::ranges::{is_candidate_number, is_name, is_office, is_ward_number};
 use crate::refusal::Reason;
-use crate::view::Part;
+use crate::view::CommandInput;
 use crate::wards::phase_objection;
 use std::alloc::{AllocError, Global};
 
-/// A candidate: the ward (1 to 99), the number there (1 to 30) and the name.
+/// A candidate: the ward (1 to 99), the candidate's number in it (1 to 30) and the name.
 #[derive(PartialEq, Drop)]
 pub struct Candidate {
     pub ward: u32,
@@ -23,23 +23,23 @@ pub struct Candidate {
     pub name: String,
 }
 
-/// What the office asks about a candidate.
+/// The office's commands for candidates.
 #[derive(Debug, Drop)]
 pub enum CandidateCommand {
-    /// A candidate with this number and name stands in this ward.
+    /// Adds a candidate with this number and name to this ward.
     Add {
         ward: u32,
         candidate: u32,
         name: String,
     },
-    /// The candidate with this number stands no longer in this ward, and the number is free.
+    /// Withdraws the candidate with this number from this ward; the number becomes free.
     Withdraw {
         ward: u32,
         candidate: u32,
     },
 }
 
-/// Whether the office sends it, with a ward's and a candidate's number in range.
+/// Returns whether the actor is the office and the ward's and the candidate's numbers are in range.
 fn is_office_on(actor: u32, ward: u32, candidate: u32) -> bool
     ensures { result ≡ (is_office actor && (is_ward_number ward && is_candidate_number candidate)) }
 {
@@ -48,7 +48,7 @@ fn is_office_on(actor: u32, ward: u32, candidate: u32) -> bool
     office & (number & is_candidate_number(candidate))
 }
 
-/// Whether the command's numbers are in range, and the actor is one who may send it.
+/// Returns whether the command's numbers are in range and the actor may send it.
 fn is_in_range(actor: u32, command: &CandidateCommand) -> bool
     ensures { result ≡ is_in_range actor command.now }
 {
@@ -62,9 +62,13 @@ fn is_in_range(actor: u32, command: &CandidateCommand) -> bool
     }
 }
 
-/// What stands against a command: of several reasons the one with the lowest number.
-pub(crate) fn objection_to(actor: u32, command: &CandidateCommand, part: &Part) -> Option<Reason>
-    ensures { result ≡ first_reason (objections actor command.now (part_entries part.now)) }
+/// Returns the objection to a command; if there are several, the one with the lowest number.
+pub(crate) fn objection_to(
+    actor: u32,
+    command: &CandidateCommand,
+    part: &CommandInput,
+) -> Option<Reason>
+    ensures { result ≡ first_reason (objections actor command.now (input_entries part.now)) }
 {
     if !is_in_range(actor, command) {
         return Some(Reason::NumberOutOfRange);
@@ -95,7 +99,7 @@ pub(crate) fn objection_to(actor: u32, command: &CandidateCommand, part: &Part) 
 }
 
 #[tactic(auto, unfolding(crate::specs::Candidates::subject_of))]
-/// What the receipt of a command is about.
+/// Returns the subject of a command's receipt.
 pub(crate) fn subject_of(alloc: Global, command: &CandidateCommand) -> Result<String, AllocError>
     ensures { IfOk result (λ text. string_bytes text ≡ subject_of command.now) }
 {
@@ -112,13 +116,13 @@ pub(crate) fn subject_of(alloc: Global, command: &CandidateCommand) -> Result<St
 }
 
 #[tactic(auto, unfolding(crate::specs::Candidates::reply_to))]
-/// What is replied where the command is accepted.
+/// Returns the reply to an accepted command.
 pub(crate) fn reply_to(
     alloc: Global,
     command: &CandidateCommand,
-    part: &Part,
+    part: &CommandInput,
 ) -> Result<String, AllocError>
-    ensures { IfOk result (λ text. string_bytes text ≡ reply_to command.now (part_entries part.now)) }
+    ensures { IfOk result (λ text. string_bytes text ≡ reply_to command.now (input_entries part.now)) }
 {
     match command {
         CandidateCommand::Add {
@@ -132,9 +136,12 @@ pub(crate) fn reply_to(
     }
 }
 
-/// What the command does to the state.
-pub(crate) fn effect_of(command: &CandidateCommand, part: &Part) -> Result<Effect, AllocError>
-    ensures { IfOk result (λ effect. effect_entry effect ≡ effect_of command.now (part_entries part.now)) }
+/// Returns the effect of a command on the state. `AllocError` if an allocation fails.
+pub(crate) fn effect_of(
+    command: &CandidateCommand,
+    part: &CommandInput,
+) -> Result<Effect, AllocError>
+    ensures { IfOk result (λ effect. effect_entry effect ≡ effect_of command.now (input_entries part.now)) }
 {
     match command {
         CandidateCommand::Add {

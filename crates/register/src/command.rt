@@ -12,23 +12,23 @@ use crate::wards::WardCommand;
 /// What an actor asks of the office, by subject. The numbers are as the actor sent them, in range or not.
 #[derive(Debug, Drop)]
 pub enum Command {
-    /// About a ward.
+    /// Concerns a ward.
     Ward(WardCommand),
-    /// About a candidate.
+    /// Concerns a candidate.
     Candidate(CandidateCommand),
-    /// About a batch of ballot papers.
+    /// Concerns a batch of ballot papers.
     Batch(BatchCommand),
     /// A clerk's keying of a batch.
     Keying(KeyingCommand),
     /// A verdict on a doubtful paper.
     Verdict(VerdictCommand),
-    /// About the count of a ward.
+    /// Concerns the count of a ward.
     Count(CountCommand),
 }
 
-/// Each command by its own name.
+/// One constructor per command.
 impl Command {
-    /// Returns the command that adds a ward of so many seats.
+    /// Returns the command that adds a ward with `seats` seats.
     pub fn add_ward(ward: u32, seats: u32, name: String) -> Command
         ensures { result ≡ Command.Ward (WardCommand.Add ward seats name) }
     {
@@ -60,7 +60,7 @@ impl Command {
         Command::Ward(WardCommand::Close { ward })
     }
 
-    /// Returns the command that gives out a batch of so many papers to clerks `a` and `b`.
+    /// Returns the command that assigns a batch of `size` papers to clerks `a` and `b`.
     pub fn add_batch(batch: u32, ward: u32, size: u32, a: u32, b: u32) -> Command
         ensures { result ≡ Command.Batch (BatchCommand.Add batch ward size a b) }
     {
@@ -73,7 +73,7 @@ impl Command {
         })
     }
 
-    /// Returns the command that keeps a clerk's keying of a batch: the marks text of each paper.
+    /// Returns the command that records a clerk's keying of a batch: one marks text per paper.
     pub fn key(batch: u32, round: u32, papers: Vec<String>) -> Command
         ensures { result ≡ Command.Keying (record { batch = batch; round = round; papers = papers }) }
     {
@@ -91,14 +91,14 @@ impl Command {
         Command::Batch(BatchCommand::Again { batch })
     }
 
-    /// Returns the command that gives a batch to a third clerk.
+    /// Returns the command that assigns a batch to a third clerk.
     pub fn third(batch: u32, clerk: u32) -> Command
         ensures { result ≡ Command.Batch (BatchCommand.Third batch clerk) }
     {
         Command::Batch(BatchCommand::Third { batch, clerk })
     }
 
-    /// Returns the command that keeps a verdict on a paper.
+    /// Returns the command that records a verdict on a paper.
     pub fn adjudicate(batch: u32, paper: u32, verdict: Verdict) -> Command
         ensures { result ≡ Command.Verdict (record { batch = batch; paper = paper; verdict = verdict }) }
     {
@@ -116,14 +116,14 @@ impl Command {
         Command::Count(CountCommand::Seal { ward })
     }
 
-    /// Returns the command that counts the stage that is due.
+    /// Returns the command that counts the next stage.
     pub fn advance(ward: u32) -> Command
         ensures { result ≡ Command.Count (CountCommand.Advance ward) }
     {
         Command::Count(CountCommand::Advance { ward })
     }
 
-    /// Returns the command that records the candidate whom the lot for a stage named.
+    /// Returns the command that records which candidate was drawn by lot for a stage.
     pub fn lot(ward: u32, stage: u32, candidate: u32) -> Command
         ensures { result ≡ Command.Count (CountCommand.Lot ward stage candidate) }
     {
@@ -142,7 +142,7 @@ impl Command {
     }
 }
 
-/// A command, with who sends it (0 is the office, 1 to 999 a clerk) and under which id.
+/// A command with its actor (0 is the office, 1 to 999 a clerk) and its id.
 #[derive(Debug, Drop)]
 pub struct Request {
     pub actor: u32,

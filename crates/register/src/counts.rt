@@ -1,11 +1,11 @@
-//! The count of a ward, and the commands about it.
+//! The count of a ward, and the commands that concern it.
 
 ghost use Rattle.std.specs.Prelude.{◌≡◌, nat_eq, IfOk, option_map, string_bytes};
 ghost use Rattle.std.specs.List.{list_any};
 ghost use Rattle.register.specs.Reasons.{first_reason};
 ghost use Rattle.register.specs.Offices.{ward_entry};
 ghost use Rattle.register.specs.Polls.{poll_entry, all_rejected};
-ghost use Rattle.register.specs.Parts.{part_entries};
+ghost use Rattle.register.specs.CommandInputs.{input_entries};
 ghost use Rattle.register.specs.Effects.{effect_entry};
 ghost use Rattle.register.specs.Elections.{has_finished, is_among};
 ghost use Rattle.register.specs.Additions.{IsAddedBy};
@@ -18,16 +18,16 @@ use crate::phase::Phase;
 use crate::polls::PollTally;
 use crate::ranges::{LAST_LOT_STAGE, is_candidate_number, is_lot_stage, is_office, is_ward_number};
 use crate::refusal::Reason;
-use crate::tabulated::Addition;
+use crate::tabulations::Addition;
 use crate::texts::listed;
-use crate::view::Part;
+use crate::view::CommandInput;
 use crate::wards::{Ward, phase_objection};
 use count::Due;
 use paper::Columns;
 use std::alloc::{AllocError, Global};
 
-/// A lot that was drawn: of which ward (1 to 99), for which stage of its count (2 to 31), and the candidate (1 to 30) whom it
-/// names. His surplus is transferred, or he is excluded.
+/// A lot that was drawn: the ward (1 to 99), the stage of its count (2 to 31), and the candidate drawn (1 to 30), whose
+/// surplus is transferred next or who is excluded.
 #[derive(PartialEq, Drop)]
 pub struct DrawnLot {
     pub ward: u32,
@@ -35,30 +35,30 @@ pub struct DrawnLot {
     pub candidate: u32,
 }
 
-/// What the office asks about the count of a ward.
+/// The office's commands for the count of a ward.
 #[derive(Debug, Drop)]
 pub enum CountCommand {
-    /// All papers are keyed and judged, and the count may begin.
+    /// Seals the ward: all papers are keyed and judged, and the count may begin.
     Seal {
         ward: u32,
     },
-    /// The stage that is due is counted.
+    /// Counts the next stage.
     Advance {
         ward: u32,
     },
-    /// A lot that was drawn for this stage, counted from 1, names this candidate.
+    /// Records that this candidate was drawn by lot for this stage, counted from 1.
     Lot {
         ward: u32,
         stage: u32,
         candidate: u32,
     },
-    /// The result is declared.
+    /// Declares the result.
     Declare {
         ward: u32,
     },
 }
 
-/// Whether the command's numbers are in range, and the actor is one who may send it.
+/// Returns whether the command's numbers are in range and the actor may send it.
 fn is_in_range(actor: u32, command: &CountCommand) -> bool
     ensures { result ≡ is_in_range actor command.now }
 {
@@ -78,7 +78,7 @@ fn is_in_range(actor: u32, command: &CountCommand) -> bool
     }
 }
 
-/// Whether each batch is taken, and each doubtful paper has a verdict.
+/// Returns whether every batch is taken and every doubtful paper has a verdict.
 fn is_ready(poll: &Option<PollTally>) -> bool
     ensures { result ≡ is_ready (option_map poll_entry poll.now) }
 {
@@ -88,7 +88,7 @@ fn is_ready(poll: &Option<PollTally>) -> bool
     }
 }
 
-/// Whether no vacancy is left.
+/// Returns whether no vacancy remains.
 fn has_finished(due: &Option<Due>) -> bool
     ensures { result ≡ has_finished due.now }
 {
@@ -98,7 +98,7 @@ fn has_finished(due: &Option<Due>) -> bool
     }
 }
 
-/// What stands against a stage for which a lot is waited for.
+/// Returns the objection to counting a stage while the count waits for a lot.
 fn lot_objection(due: &Option<Due>) -> Option<Reason>
     ensures { result ≡ lot_objection due.now }
 {
@@ -111,7 +111,7 @@ fn lot_objection(due: &Option<Due>) -> Option<Reason>
     }
 }
 
-/// Whether the count waits for a lot at a stage.
+/// Returns whether the count waits for a lot at this stage.
 fn waits_at(stage: u32, due: &Option<Due>) -> bool
     ensures { result ≡ waits_at stage due.now }
 {
@@ -121,7 +121,7 @@ fn waits_at(stage: u32, due: &Option<Due>) -> bool
     }
 }
 
-/// Whether a candidate is one of a set.
+/// Returns whether a candidate is in a set.
 fn is_one_of(candidate: u32, columns: &Columns) -> bool
     ensures { result ≡ list_any (nat_eq candidate) columns.now }
 {
@@ -133,7 +133,7 @@ fn is_one_of(candidate: u32, columns: &Columns) -> bool
     false
 }
 
-/// Whether a candidate is one of those who are tied.
+/// Returns whether a candidate is one of those tied.
 fn is_among(candidate: u32, due: &Option<Due>) -> bool
     ensures { result ≡ is_among candidate due.now }
 {
@@ -143,7 +143,7 @@ fn is_among(candidate: u32, due: &Option<Due>) -> bool
     }
 }
 
-/// The phase in which the ward has to be.
+/// Returns the phase that the ward must be in.
 fn phase_for(command: &CountCommand) -> Phase
     ensures { result ≡ phase_for command.now }
 {
@@ -155,9 +155,9 @@ fn phase_for(command: &CountCommand) -> Phase
     }
 }
 
-/// What stands against a command beside its numbers and the ward.
-fn own_objection_to(command: &CountCommand, part: &Part) -> Option<Reason>
-    ensures { result ≡ first_reason (own_objections command.now (part_entries part.now)) }
+/// Returns the objection to a command whose numbers are in range and whose ward is in the right phase.
+fn own_objection_to(command: &CountCommand, part: &CommandInput) -> Option<Reason>
+    ensures { result ≡ first_reason (own_objections command.now (input_entries part.now)) }
 {
     match command {
         CountCommand::Seal { .. } => {
@@ -197,9 +197,13 @@ fn own_objection_to(command: &CountCommand, part: &Part) -> Option<Reason>
     }
 }
 
-/// What stands against a command: of several reasons the one with the lowest number.
-pub(crate) fn objection_to(actor: u32, command: &CountCommand, part: &Part) -> Option<Reason>
-    ensures { result ≡ first_reason (objections actor command.now (part_entries part.now)) }
+/// Returns the objection to a command; if there are several, the one with the lowest number.
+pub(crate) fn objection_to(
+    actor: u32,
+    command: &CountCommand,
+    part: &CommandInput,
+) -> Option<Reason>
+    ensures { result ≡ first_reason (objections actor command.now (input_entries part.now)) }
 {
     if !is_in_range(actor, command) {
         return Some(Reason::NumberOutOfRange);
@@ -211,7 +215,7 @@ pub(crate) fn objection_to(actor: u32, command: &CountCommand, part: &Part) -> O
 }
 
 #[tactic(auto, unfolding(crate::specs::Counts::subject_of))]
-/// What the receipt of a command is about.
+/// Returns the subject of a command's receipt.
 pub(crate) fn subject_of(alloc: Global, command: &CountCommand) -> Result<String, AllocError>
     ensures { IfOk result (λ text. string_bytes text ≡ subject_of command.now) }
 {
@@ -223,7 +227,7 @@ pub(crate) fn subject_of(alloc: Global, command: &CountCommand) -> Result<String
     }
 }
 
-/// The stage (1 to 31) after so many that are done (0 to 31), at most the last that a count may have.
+/// Returns the stage (1 to 31) that follows `done` stages (0 to 31), at most the last that a count may have.
 pub fn stage_after(done: u32) -> u32
     ensures { result ≡ stage_after done }
 {
@@ -234,7 +238,7 @@ pub fn stage_after(done: u32) -> u32
     }
 }
 
-/// The stage after those done in a ward.
+/// Returns the stage that follows those done in a ward.
 fn next_stage(ward: &Option<Ward>) -> u32
     ensures { result ≡ next_stage (option_map ward_entry ward.now) }
 {
@@ -244,7 +248,7 @@ fn next_stage(ward: &Option<Ward>) -> u32
     }
 }
 
-/// How many papers are rejected, by all five codes.
+/// Returns how many papers are rejected, under all five codes together.
 fn all_rejected(poll: &PollTally) -> u64
     ensures { result ≡ all_rejected poll.now.rejected }
 {
@@ -253,7 +257,7 @@ fn all_rejected(poll: &PollTally) -> u64
     u64::from(first) + (u64::from(second) + others)
 }
 
-/// What a reply says of a poll.
+/// Returns the words of a reply for a poll.
 fn poll_told(alloc: Global, poll: &Option<PollTally>) -> Result<String, AllocError>
     ensures { IfOk result (λ text. string_bytes text ≡ poll_told (option_map poll_entry poll.now)) }
 {
@@ -266,7 +270,7 @@ fn poll_told(alloc: Global, poll: &Option<PollTally>) -> Result<String, AllocErr
     }
 }
 
-/// What a reply says of an action that comes next.
+/// Returns the words of a reply for the next action.
 fn action_told(alloc: Global, due: &Option<Due>) -> Result<String, AllocError>
     ensures { IfOk result (λ text. string_bytes text ≡ action_told due.now) }
 {
@@ -277,14 +281,13 @@ fn action_told(alloc: Global, due: &Option<Due>) -> Result<String, AllocError>
 }
 
 #[tactic(auto, unfolding(crate::specs::Counts::reply_to))]
-/// What is replied where the command is accepted: the poll of a sealed ward, the stage that is counted,
-/// the lot, or who is elected.
+/// Returns the reply to an accepted command: the poll of a sealed ward, the stage counted, the lot, or the candidates elected.
 pub(crate) fn reply_to(
     alloc: Global,
     command: &CountCommand,
-    part: &Part,
+    part: &CommandInput,
 ) -> Result<String, AllocError>
-    ensures { IfOk result (λ text. string_bytes text ≡ reply_to command.now (part_entries part.now)) }
+    ensures { IfOk result (λ text. string_bytes text ≡ reply_to command.now (input_entries part.now)) }
 {
     match command {
         CountCommand::Seal { ward } => {
@@ -308,10 +311,9 @@ pub(crate) fn reply_to(
     }
 }
 
-/// What the command does to the state: a ward comes to a phase, a stage more of its count is done, or a
-/// lot is drawn.
-pub(crate) fn effect_of(command: &CountCommand, part: &Part) -> Effect
-    ensures { effect_entry result ≡ effect_of command.now (part_entries part.now) }
+/// Returns the effect of a command on the state: a ward enters a phase, one more stage of its count is done, or a lot is drawn.
+pub(crate) fn effect_of(command: &CountCommand, part: &CommandInput) -> Effect
+    ensures { effect_entry result ≡ effect_of command.now (input_entries part.now) }
 {
     match command {
         CountCommand::Seal { ward } => Effect::WardMoved {
@@ -338,13 +340,13 @@ pub(crate) fn effect_of(command: &CountCommand, part: &Part) -> Effect
     }
 }
 
-/// What the command adds to the tabulation where it is accepted: an Advance the stage that is due in the count
-/// shown, another command nothing. Where a stage is due a count is always shown; where none is, nothing is
-/// added. An error is want of memory.
+/// Returns what an accepted command adds to the tabulation: for an Advance the next stage of the count shown, for any other
+/// command nothing. If a stage is due a count is always shown; if none is due nothing is added. `AllocError` if an
+/// allocation fails.
 pub(crate) fn addition_of(
     alloc: Global,
     command: &CountCommand,
-    part: &Part,
+    part: &CommandInput,
 ) -> Result<Addition, AllocError>
     ensures { IfOk result (λ addition. IsAddedBy command.now part.now.count addition) }
 {

@@ -7,55 +7,55 @@ use crate::keyings::KeyedPaper;
 use crate::phase::Phase;
 use crate::receipt::Receipt;
 use crate::refusal::Refusal;
-use crate::tabulated::Addition;
+use crate::tabulations::Addition;
 use crate::verdicts::JudgedPaper;
 use crate::wards::Ward;
 
-/// One line of text, without its end.
+/// One line of text, without its line end.
 pub type Reply = String;
 
-/// What an accepted command does to the state, beside its receipt.
+/// What an accepted command does to the state, apart from its receipt.
 #[derive(Drop)]
 pub enum Effect {
-    /// This ward is new.
+    /// Adds this ward.
     WardAdded(Ward),
-    /// The ward of this number comes to this phase.
+    /// Moves the ward with this number to this phase.
     WardMoved { ward: u32, phase: Phase },
-    /// This candidate is new.
+    /// Adds this candidate.
     CandidateAdded(Candidate),
-    /// The candidate of this number in this ward stands no longer, and the number is free.
+    /// Removes the candidate with this number from this ward, which frees the number.
     CandidateWithdrawn { ward: u32, candidate: u32 },
-    /// This batch is new.
+    /// Adds this batch.
     BatchAdded(Batch),
-    /// The batch of this number is keyed in this round.
+    /// Opens this round of the batch with this number.
     BatchReopened { batch: u32, round: u32 },
-    /// This third clerk is set.
+    /// Assigns this third clerk.
     ThirdSet(ThirdClerk),
-    /// These papers are keyed, all of one keying.
+    /// Adds these keyed papers, all of one keying.
     PapersKeyed(Vec<KeyedPaper>),
-    /// This paper is judged.
+    /// Adds the verdict on this paper.
     PaperJudged(JudgedPaper),
-    /// So many stages of the count of the ward of this number are done.
+    /// Sets the number of stages done in the count of this ward.
     StageCounted { ward: u32, done: u32 },
-    /// This lot is drawn.
+    /// Adds this lot.
     LotDrawn(DrawnLot),
 }
 
-/// All that an accepted request changes. It is kept whole or not at all.
+/// All that an accepted request changes. It is stored in full or not at all.
 #[derive(Drop)]
 pub struct Change {
     pub effect: Effect,
-    /// What it adds to the tabulation of the counts: nothing, but where a stage is counted.
+    /// What it adds to the tabulation of the counts: nothing unless it counts a stage.
     pub addition: Addition,
     pub receipt: Receipt,
 }
 
-/// The machine's answer to a request.
+/// The machine's response to a request.
 #[derive(Drop)]
 pub enum Decision {
-    /// The state changes, and this is replied.
+    /// The state changes, and this is the reply.
     Accepted(Change, Reply),
-    /// The request was accepted before: the reply of then, and nothing changes.
+    /// The request was accepted before: this is the reply from then, and nothing changes.
     Kept(Reply),
     /// Nothing changes.
     Refused(Refusal),

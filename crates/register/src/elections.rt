@@ -1,16 +1,16 @@
-//! What the count of a ward rests on: the ward, its candidates, its ballot papers, and the lots drawn.
+//! What the count of a ward depends on: the ward, its candidates, its ballot papers, and the lots drawn.
 
 ghost use Rattle.std.specs.Prelude.{◌≡◌, ℕ, List, ◌&&◌, ◌+◌, ◌≤◌, true, length, map, sum_by, [], Some, IfOk, IfSome, IsSome};
 ghost use Rattle.std.specs.List.{list_all};
 ghost use Rattle.votes.specs.Units.{max_seats, max_papers};
 ghost use Rattle.count.specs.Bundles.{papers_of};
 ghost use Rattle.count.specs.Law.Contest.{contest_for, IsContest};
-ghost use Rattle.register.specs.Papers.{batches_of};
+ghost use Rattle.register.specs.Agreement.{batches_of};
 ghost use Rattle.register.specs.Polls.{all_rejected, poll_of, poll_entry, piles_of, ballots_in, ballots_by, settled_judgements};
-ghost use Rattle.register.specs.Offices.{WardEntry, OfficeState, MapsRise, ward_entry, candidate_entry, lot_entry, ward_at, candidates_of};
+ghost use Rattle.register.specs.Offices.{WardEntry, OfficeState, MapsAreSorted, ward_entry, candidate_entry, lot_entry, ward_at, candidates_of};
 ghost use Rattle.register.specs.Nominations.{is_contested};
 ghost use Rattle.register.specs.Elections.{ElectionEntry, IsElection, lot_pair, election_of, has_count, is_counted, is_in_count, contest_of, due_of, elected_of};
-ghost use Rattle.register.specs.Items.{all_in_range, all_keyed, is_lot, IsState};
+ghost use Rattle.register.specs.StateConditions.{all_in_range, all_keyed, is_lot, IsState};
 ghost use Rattle.register.specs.Tabulated.{IsCount, IsCountOf};
 
 use crate::candidates::Candidate;
@@ -20,13 +20,13 @@ use crate::phase::Phase;
 use crate::polls::{Ballots, PollTally, REJECTIONS};
 use crate::ranges::{is_candidate_number, is_lot_stage};
 use crate::wards::{Ward, is_contested};
-use count::{BundleBook, Bundles, Due, KeptCount, is_bundled_contest};
+use count::{BundleBook, Bundles, Due, StoredCount, bundles_can_be_counted};
 use paper::Columns;
 use std::alloc::{AllocError, Global};
 use votes::{MAX_SEATS, quota};
 
-/// The election in a ward: its candidates in the order of their numbers; its ballot papers as far as its batches are taken; and the
-/// lots that are recorded, in the order of the stages. Of each lot it has the stage (counted from 1) and the candidate that it names.
+/// The election in a ward: its candidates by number; the ballot papers of its taken batches; and the recorded lots by stage,
+/// each as the stage (counted from 1) and the candidate drawn.
 #[derive(Drop)]
 pub struct Election {
     pub ward: Ward,
@@ -35,15 +35,15 @@ pub struct Election {
     pub lots: Vec<(u8, u8)>,
 }
 
-/// The count of a ward that goes on from where it was kept, and the lots that are recorded, in the order of the stages. Of each
-/// lot it has the stage (counted from 1) and the candidate that it names.
+/// The count of a ward, resumed from its stored stages, and the recorded lots by stage, each as the stage (counted from 1)
+/// and the candidate drawn.
 #[derive(Drop)]
 pub struct Count {
-    pub kept: KeptCount,
+    pub kept: StoredCount,
     pub lots: Vec<(u8, u8)>,
 }
 
-/// A ward, its candidates and, where it is in count, its count.
+/// A ward, its candidates and, if it is in count, its count.
 #[derive(Drop)]
 pub struct CountedWard {
     pub ward: Ward,
@@ -51,41 +51,41 @@ pub struct CountedWard {
     pub count: Option<Count>,
 }
 
-/// What a stage sheet is written from: a ward with its count, and how many of its ballot papers are rejected,
-/// by code 1 to 5.
+/// The contents of a stage sheet: a ward with its count, and how many of its ballot papers are rejected, by code 1 to 5.
 #[derive(Drop)]
 pub struct WardSheet {
     pub counted: CountedWard,
     pub rejected: [u32; REJECTIONS],
 }
 
-/// Where a count stands: what is due by the recorded lots, and who is elected after the stages done.
+/// The progress of a count: what is due given the recorded lots, and who is elected after the stages done.
 #[derive(Clone, Copy)]
 pub struct Progress {
     pub due: Due,
     pub elected: Columns,
 }
 
-/// The laws of the elections of an office, for its callers. They hold where numbers are in range, keyings are whole and entries stand in
-/// the order of their keys. Then each contested ward has an election that can be counted, and no ward has more seats or papers than there
-/// may be. At a state, once each batch of a ward is settled, its valid papers and its rejected ones are all the papers of its batches.
+/// The laws of an office's elections, for callers. They hold if numbers are in range, keyings are whole and entries are in
+/// key order. Then every contested ward has an election that can be counted, and no ward exceeds the limits on seats and
+/// papers. In a state, once every batch of a ward is settled, its valid and rejected papers together are all the papers of
+/// its batches.
 pub fn elections_are_fair()
-    ensures fair { (s : OfficeState) (w : WardEntry) → all_in_range s ≡ true → all_keyed s ≡ true → MapsRise s → ward_at s w.number ≡ Some w
+    ensures fair { (s : OfficeState) (w : WardEntry) → all_in_range s ≡ true → all_keyed s ≡ true → MapsAreSorted s → ward_at s w.number ≡ Some w
         → is_contested w (candidates_of s w.number) ≡ true → IsContest (contest_of (election_of s w)) }
-    ensures few { (s : OfficeState) (w : WardEntry) → all_in_range s ≡ true → all_keyed s ≡ true → MapsRise s → ward_at s w.number ≡ Some w
+    ensures few { (s : OfficeState) (w : WardEntry) → all_in_range s ≡ true → all_keyed s ≡ true → MapsAreSorted s → ward_at s w.number ≡ Some w
         → (1 ≤ w.seats) × (w.seats ≤ max_seats) × (length (election_of s w).ballots.papers ≤ max_papers) }
     ensures adds_up { (s : OfficeState) (w : WardEntry) → IsState s → (election_of s w).ballots.settled ≡ true
         → length (election_of s w).ballots.papers + all_rejected (election_of s w).ballots.rejected ≡ sum_by (λ b. b.size) (batches_of s w.number) }
 {}
 
-/// The law of the papers of a ward that is in count: they come to what one keying of each batch comes to. At a state each of the
-/// ward's batches is settled. Where two clerks key a batch, it is the keying of the lower number.
+/// The law of the papers of a ward in count: they are those of one settled keying per batch. In a state every batch of such
+/// a ward is settled. If two clerks key a batch, it is the keying of the clerk with the lower number.
 pub fn settled_papers_suffice()
     ensures { (s : OfficeState) (w : WardEntry) (columns : List ℕ) → IsState s → ward_at s w.number ≡ Some w → is_in_count (election_of s w) ≡ true
         → ballots_in columns (piles_of s w.number) ≡ ballots_by (settled_judgements s columns (batches_of s w.number)) }
 {}
 
-/// Whether a ward with these candidates is in count: it has been sealed, and its election is contested.
+/// Returns whether a ward with these candidates is in count: it has been sealed, and its election is contested.
 pub fn is_in_count(ward: &Ward, candidates: &[Candidate]) -> bool
     ensures { result ≡ (is_counted ward.now.phase && is_contested (ward_entry ward.now) (map candidate_entry candidates.now)) }
 {
@@ -95,8 +95,8 @@ pub fn is_in_count(ward: &Ward, candidates: &[Candidate]) -> bool
     }
 }
 
-#[tactic(auto, unfolding(crate::specs::Items::is_lot))]
-/// A lot as the count takes it: its stage, counted from 1, and its candidate. None where a number is out of
+#[tactic(auto, unfolding(crate::specs::StateConditions::is_lot))]
+/// Returns a lot in the form that the count uses: its stage, counted from 1, and its candidate. None if a number is out of
 /// range; the lots of an office are all in range.
 fn lot_pair(lot: &DrawnLot) -> Option<(u8, u8)>
     ensures is { IfSome result (λ pair. pair ≡ lot_pair (lot_entry lot.now)) }
@@ -108,8 +108,8 @@ fn lot_pair(lot: &DrawnLot) -> Option<(u8, u8)>
     None
 }
 
-/// Lots as the count takes them, in their order. None where a number is out of range; those of an office are
-/// all in range. An error is want of memory.
+/// Returns lots in the form that the count uses, in the same order. None if a number is out of range; the lots of an office
+/// are all in range. `AllocError` if an allocation fails.
 pub fn lot_pairs(alloc: Global, lots: &[DrawnLot]) -> Result<Option<Vec<(u8, u8)>>, AllocError>
     ensures is { IfOk result (λ found. IfSome found (λ pairs. pairs.items ≡ map lot_pair (map lot_entry lots.now))) }
     ensures some { IfOk result (λ found. list_all is_lot (map lot_entry lots.now) ≡ true → IsSome found) }
@@ -124,8 +124,8 @@ pub fn lot_pairs(alloc: Global, lots: &[DrawnLot]) -> Result<Option<Vec<(u8, u8)
     Ok(Some(pairs))
 }
 
-/// A new book of some bundles, where a count can be held on them, as it can in each contested ward of an
-/// office. An error is want of memory.
+/// Returns a new book of these bundles if they make a contest that can be counted, as those of every contested ward of an
+/// office do. `AllocError` if an allocation fails.
 pub fn book_of<'a>(
     alloc: Global,
     columns: Columns,
@@ -139,7 +139,7 @@ pub fn book_of<'a>(
         return Ok(None);
     }
     let seats = seats as u8;
-    if !is_bundled_contest(&columns, seats, bundles) {
+    if !bundles_can_be_counted(&columns, seats, bundles) {
         return Ok(None);
     }
     let book = BundleBook::new(alloc, columns, seats, bundles)?;
@@ -147,7 +147,7 @@ pub fn book_of<'a>(
 }
 
 impl Count {
-    /// Where the count stands, in a contested ward. Takes no memory.
+    /// Returns the progress of the count, in a contested ward. Allocates nothing.
     pub fn progress(&self) -> Progress
         ensures { (e : ElectionEntry) → IsCountOf e self.now → has_count e ≡ true → (result.due ≡ due_of e) × (result.elected ≡ elected_of e) }
     {
@@ -157,7 +157,7 @@ impl Count {
         }
     }
 
-    /// How many valid papers it has. Takes no memory.
+    /// Returns the number of valid papers. Allocates nothing.
     pub fn valid(&self) -> u32
         ensures { (e : ElectionEntry) → IsCountOf e self.now → result ≡ length e.ballots.papers }
     {
@@ -166,8 +166,8 @@ impl Count {
 }
 
 impl Election {
-    /// The poll of the ward; none where it has no seats, or more than a ward can have; no ward of an
-    /// office is such a one. Takes no memory.
+    /// Returns the poll of the ward; none if its number of seats is 0 or above the limit, which never happens in an office.
+    /// Allocates nothing.
     pub fn poll(&self) -> Option<PollTally>
         ensures is { IfSome result (λ poll. (e : ElectionEntry) → IsElection self.now e → poll_entry poll ≡ poll_of e.ward.seats e.ballots) }
         ensures some { 1 ≤ self.now.ward.seats → self.now.ward.seats ≤ max_seats → IsSome result }
@@ -184,9 +184,8 @@ impl Election {
         })
     }
 
-    /// The ward with its count, which has not begun: no stage is done in it; and how many of its papers are
-    /// rejected. None where it has more seats than a ward can have; no ward of an office has. An error is want
-    /// of memory.
+    /// Returns the ward with its count at the beginning, no stage done, and how many of its papers are rejected. None if its
+    /// number of seats is above the limit, which never happens in an office. `AllocError` if an allocation fails.
     pub fn begin(self, alloc: Global) -> Result<Option<WardSheet>, AllocError>
         ensures same { IfOk result (λ found. IfSome found (λ begun. (begun.counted.ward ≡ self.ward) × (begun.counted.candidates ≡ self.candidates))) }
         ensures is { IfOk result (λ found. IfSome found (λ begun. (e : ElectionEntry) → IsElection self e → e.ward.done ≡ 0 → IsContest (contest_of e) → IsCount e begun.counted.count)) }
@@ -199,7 +198,7 @@ impl Election {
         let seats = self.ward.seats as u8;
         let columns = columns_of(&self.candidates);
         let rejected = self.ballots.rejected;
-        let kept = KeptCount::begin(alloc, columns, seats, self.ballots.papers)?;
+        let kept = StoredCount::begin(alloc, columns, seats, self.ballots.papers)?;
         let count = Count {
             kept,
             lots: self.lots,

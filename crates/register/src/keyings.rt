@@ -1,25 +1,26 @@
-//! Keyed papers, and the command of the clerks.
+//! Keyed papers, and the clerks' command.
 
 ghost use Rattle.std.specs.Prelude.{◌≡◌, IfOk, IfNone, map, option_map, string_bytes};
 ghost use Rattle.register.specs.Reasons.{first_reason};
 ghost use Rattle.register.specs.Offices.{batch_entry, third_entry, keyed_entry};
-ghost use Rattle.register.specs.Papers.{is_third_clerk, is_its_clerk};
-ghost use Rattle.register.specs.Parts.{part_entries};
+ghost use Rattle.register.specs.Agreement.{is_third_clerk, is_its_clerk};
+ghost use Rattle.register.specs.CommandInputs.{input_entries};
 ghost use Rattle.register.specs.Effects.{effect_entry};
 ghost use Rattle.register.specs.Keyings.{is_in_range, IsNumbered, objections, subject_of, reply_to, effect_of, papers_from};
 
+use crate::agreement::is_keyed;
 use crate::batches::{Batch, ThirdClerk};
 use crate::decision::Effect;
 use crate::marks::{columns_of, first_bad_marks};
-use crate::papers::is_keyed;
 use crate::phase::Phase;
 use crate::ranges::{is_batch_number, is_clerk, is_round};
 use crate::refusal::Reason;
-use crate::view::Part;
+use crate::view::CommandInput;
 use crate::wards::is_in_phase;
 use std::alloc::{AllocError, Global};
 
-/// A ballot paper as a clerk (1 to 999) keyed it: its batch (1 to 9999), the round (1 to 99), its number in the batch (1 to 500), and its marks text.
+/// A ballot paper as keyed by a clerk (1 to 999): its batch (1 to 9999), the round (1 to 99), its number in the batch (1 to
+/// 500), and its marks text.
 #[derive(PartialEq, Drop)]
 pub struct KeyedPaper {
     pub batch: u32,
@@ -29,8 +30,7 @@ pub struct KeyedPaper {
     pub marks: String,
 }
 
-/// What a clerk asks: to keep his keying of a batch in a round, a marks text for each paper, in the order
-/// of the papers.
+/// The clerks' command: record a keying of a batch in a round, one marks text per paper, in the order of the papers.
 #[derive(Debug, Drop)]
 pub struct KeyingCommand {
     pub batch: u32,
@@ -38,7 +38,7 @@ pub struct KeyingCommand {
     pub papers: Vec<String>,
 }
 
-/// Whether the command's numbers are in range, and the actor is one who may send it.
+/// Returns whether the command's numbers are in range and the actor may send it.
 fn is_in_range(actor: u32, command: &KeyingCommand) -> bool
     ensures { result ≡ is_in_range actor command.now }
 {
@@ -47,7 +47,7 @@ fn is_in_range(actor: u32, command: &KeyingCommand) -> bool
     clerk & (number & is_round(command.round))
 }
 
-/// Whether a clerk is the third one, where one is set.
+/// Returns whether a clerk is the third clerk, if one is assigned.
 pub fn is_third_clerk(clerk: u32, third: &Option<ThirdClerk>) -> bool
     ensures { result ≡ is_third_clerk clerk (option_map third_entry third.now) }
 {
@@ -57,16 +57,20 @@ pub fn is_third_clerk(clerk: u32, third: &Option<ThirdClerk>) -> bool
     }
 }
 
-/// Whether a clerk is one of those who key a batch: its two, and a third once one is set.
+/// Returns whether a clerk is assigned to a batch: as one of its two, or as its third.
 pub fn is_its_clerk(clerk: u32, batch: &Batch, third: &Option<ThirdClerk>) -> bool
     ensures { result ≡ is_its_clerk clerk (batch_entry batch.now) (option_map third_entry third.now) }
 {
     clerk == batch.first_clerk || clerk == batch.second_clerk || is_third_clerk(clerk, third)
 }
 
-/// What stands against the command: of several reasons the one with the lowest number.
-pub(crate) fn objection_to(actor: u32, command: &KeyingCommand, part: &Part) -> Option<Reason>
-    ensures is { result ≡ first_reason (objections actor command.now (part_entries part.now)) }
+/// Returns the objection to the command; if there are several, the one with the lowest number.
+pub(crate) fn objection_to(
+    actor: u32,
+    command: &KeyingCommand,
+    part: &CommandInput,
+) -> Option<Reason>
+    ensures is { result ≡ first_reason (objections actor command.now (input_entries part.now)) }
     ensures numbered { IfNone result (IsNumbered command.now) }
 {
     if !is_in_range(actor, command) {
@@ -94,7 +98,7 @@ pub(crate) fn objection_to(actor: u32, command: &KeyingCommand, part: &Part) -> 
 }
 
 #[tactic(auto, unfolding(crate::specs::Keyings::subject_of))]
-/// What the receipt of the command is about.
+/// Returns the subject of the command's receipt.
 pub(crate) fn subject_of(alloc: Global, command: &KeyingCommand) -> Result<String, AllocError>
     ensures { IfOk result (λ text. string_bytes text ≡ subject_of command.now) }
 {
@@ -103,7 +107,7 @@ pub(crate) fn subject_of(alloc: Global, command: &KeyingCommand) -> Result<Strin
 }
 
 #[tactic(auto, unfolding(crate::specs::Keyings::reply_to))]
-/// What is replied where the command is accepted, whatever another clerk keyed.
+/// Returns the reply to the accepted command, which doesn't depend on what other clerks keyed.
 pub(crate) fn reply_to(alloc: Global, command: &KeyingCommand) -> Result<String, AllocError>
     ensures { IfOk result (λ text. string_bytes text ≡ reply_to command.now) }
 {
@@ -112,7 +116,7 @@ pub(crate) fn reply_to(alloc: Global, command: &KeyingCommand) -> Result<String,
 }
 
 #[tactic(auto, unfolding(crate::specs::Keyings::papers_from))]
-/// The papers of a clerk's keying, numbered from 1 on.
+/// Returns the papers of a clerk's keying, numbered from 1.
 fn keyed_papers(
     alloc: Global,
     actor: u32,
@@ -134,7 +138,7 @@ fn keyed_papers(
     Ok(papers)
 }
 
-/// What the command does to the state.
+/// Returns the effect of the command on the state. `AllocError` if an allocation fails.
 pub(crate) fn effect_of(
     alloc: Global,
     actor: u32,

@@ -1,41 +1,41 @@
-//! The abstract machine of the office: what each request makes of its state.
+//! The abstract machine of the office: how each request changes its state.
 //!
-//! A request is an actor, an id and a `Command`. The machine answers it from a `View`: the receipt and the part of the state that
-//! the request needs. The answer is a `Decision`. The request is accepted with a `Change` and a reply; or kept, since it was
-//! accepted before under the same id; or refused for one named reason. Nothing here touches a store.
+//! A request is an actor, an id and a `Command`. The machine decides it from a `View`: the receipt and the part of the state
+//! that the request needs. The result is a `Decision`: the request is accepted with a `Change` and a reply; or kept, because
+//! it was accepted before under the same id; or refused for one named reason. Nothing here touches a store.
 //!
 //! ```text
 //! let decision = decide(alloc, &view, &command)?;
 //! ```
 //!
-//! `specs/Machine.antt` is the machine itself, over the maps of `specs/Offices.antt`. Each subject has a
-//! file of its own, here and in `specs/`: what its commands need, what stands against them, what they are
-//! about, reply and do. The machine only chooses among the subjects.
+//! `specs/Machine.antt` defines the machine itself, on the maps of `specs/Offices.antt`. Each subject has its own file, here
+//! and in `specs/`: what its commands need, the objections to them, and their subjects, replies and effects. The machine
+//! only dispatches on the subject.
 #![tactic(auto)]
 
-// What is asked.
+// Input.
 pub mod command;
-// What the state holds.
+// State.
 pub mod phase;
 pub mod receipt;
-// What the machine sees of it,
+// What the machine sees of the state,
 pub mod view;
-// and what it answers.
+// and what it decides.
 pub mod decision;
 pub mod refusal;
-// Which numbers and texts are in range.
+// Ranges of numbers and texts.
 pub mod ranges;
 // How marks are read, and when a batch is taken.
+pub mod agreement;
 pub mod marks;
-pub mod papers;
-// How a ward stands, what its papers come to, and what its count rests on.
+// The progress of a ward, its poll, and what its count depends on.
 pub mod elections;
+pub mod next_steps;
 pub mod polls;
 pub mod status;
-pub mod steps;
-// What is kept of the counts, and what a stage adds to it.
+// What is stored of the counts, and what a stage adds to it.
 mod additions;
-pub mod tabulated;
+pub mod tabulations;
 // Numbers in words.
 mod texts;
 // The commands, by subject.
@@ -45,9 +45,9 @@ pub mod counts;
 pub mod keyings;
 pub mod verdicts;
 pub mod wards;
-// What is kept of a request, compared with its words.
-pub mod keepings;
-// The machine, which chooses among the subjects.
+// What the state keeps of a request, compared with a repeated one.
+pub mod repeats;
+// The machine, which dispatches on the subject.
 mod machine;
 
 pub use batches::{Batch, BatchCommand, ThirdClerk};
@@ -58,13 +58,13 @@ pub use decision::{Change, Decision, Effect, Reply};
 pub use elections::{Count, CountedWard, Election, WardSheet};
 pub use keyings::{KeyedPaper, KeyingCommand};
 pub use machine::{decide, lists_make_states, paper_is_seen, rows_are_worked, work_is_seen};
+pub use next_steps::NextStep;
 pub use phase::Phase;
 pub use polls::{Ballots, Judgement, KeepsPapers, NoPapers, PollTally};
 pub use receipt::Receipt;
 pub use refusal::{Reason, Refusal};
 pub use status::{BallotPaper, Status, Work};
-pub use steps::NextStep;
-pub use tabulated::{Addition, PlacedBundle, StageFigure, Tabulation};
+pub use tabulations::{Addition, PlacedBundle, StageFigure, Tabulation};
 pub use verdicts::{JudgedPaper, Verdict, VerdictCommand};
-pub use view::{Part, View};
+pub use view::{CommandInput, View};
 pub use wards::{Ward, WardCommand};

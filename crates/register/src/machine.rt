@@ -4,16 +4,16 @@ ghost use Rattle.std.specs.Prelude.{◌≡◌, ℕ, ◌==◌, true, false, List,
 ghost use Rattle.register.specs.Reasons.{first_reason};
 ghost use Rattle.register.specs.Ranges.{is_office};
 ghost use Rattle.register.specs.Offices.{OfficeState, empty_office};
-ghost use Rattle.register.specs.Items.{IsState};
+ghost use Rattle.register.specs.StateConditions.{IsState};
 ghost use Rattle.register.specs.Effects.{effect_entry};
 ghost use Rattle.register.specs.Seen.{seen_by};
-ghost use Rattle.register.specs.Parts.{part_entries};
+ghost use Rattle.register.specs.CommandInputs.{input_entries};
 ghost use Rattle.register.specs.declared.command.Request.{Request};
-ghost use Rattle.register.specs.Standings.{paper_at, work_of};
-ghost use Rattle.register.specs.Machine.{objections, IsNumbered, subject_of, reply_to, effect_of, judged, ruling_at, step, state_after, after, accepted_of, IsKeptAgain};
+ghost use Rattle.register.specs.Status.{paper_at, work_of};
+ghost use Rattle.register.specs.Machine.{objections, IsNumbered, subject_of, reply_to, effect_of, judged, ruling_at, step, state_after, after, accepted_of, RepeatGetsSameReply};
 ghost use Rattle.register.specs.Tabulated.{AddsWhatIsCounted};
 ghost use Rattle.register.specs.Additions.{IsAddedFor, DecidesAddition, AddsNoMore};
-ghost use Rattle.register.specs.WorkedOffice.{WardRows, NominationRows, KeyedRows, ThirdRows, UncontestedRows, KeepingRows};
+ghost use Rattle.register.specs.WorkedOffice.{WardRows, NominationRows, KeyedRows, ThirdRows, UncontestedRows, RepeatRows};
 ghost use Rattle.register.specs.Views.{IsViewOf, decided_on, ruling_of, outcome_of, IsToldAlike, IsAdvanced};
 
 use crate::command::Command;
@@ -21,14 +21,14 @@ use crate::decision::{Change, Decision, Effect};
 use crate::ranges::is_id;
 use crate::receipt::Receipt;
 use crate::refusal::{Reason, Refusal};
-use crate::tabulated::Addition;
-use crate::view::{Part, View};
+use crate::tabulations::Addition;
+use crate::view::{CommandInput, View};
 use crate::{batches, candidates, counts, keyings, verdicts, wards};
 use std::alloc::{AllocError, Global};
 
-/// What stands against a command: of several reasons the one with the lowest number.
-fn objection_to(actor: u32, command: &Command, part: &Part) -> Option<Reason>
-    ensures is { result ≡ first_reason (objections actor command.now (part_entries part.now)) }
+/// Returns the objection to a command; if there are several, the one with the lowest number.
+fn objection_to(actor: u32, command: &Command, part: &CommandInput) -> Option<Reason>
+    ensures is { result ≡ first_reason (objections actor command.now (input_entries part.now)) }
     ensures numbered { IfNone result (IsNumbered command.now) }
 {
     match command {
@@ -41,7 +41,7 @@ fn objection_to(actor: u32, command: &Command, part: &Part) -> Option<Reason>
     }
 }
 
-/// What the receipt of a command is about.
+/// Returns the subject of a command's receipt.
 fn subject_of(alloc: Global, command: &Command) -> Result<String, AllocError>
     ensures { IfOk result (λ text. string_bytes text ≡ subject_of command.now) }
 {
@@ -55,9 +55,9 @@ fn subject_of(alloc: Global, command: &Command) -> Result<String, AllocError>
     }
 }
 
-/// What is replied where the command is accepted.
-fn reply_to(alloc: Global, command: &Command, part: &Part) -> Result<String, AllocError>
-    ensures { IfOk result (λ text. string_bytes text ≡ reply_to command.now (part_entries part.now)) }
+/// Returns the reply to an accepted command.
+fn reply_to(alloc: Global, command: &Command, part: &CommandInput) -> Result<String, AllocError>
+    ensures { IfOk result (λ text. string_bytes text ≡ reply_to command.now (input_entries part.now)) }
 {
     match command {
         Command::Ward(command) => wards::reply_to(alloc, command, part),
@@ -69,15 +69,15 @@ fn reply_to(alloc: Global, command: &Command, part: &Part) -> Result<String, All
     }
 }
 
-/// What the command does to the state.
+/// Returns the effect of a command on the state. `AllocError` if an allocation fails.
 fn effect_of(
     alloc: Global,
     actor: u32,
     command: &Command,
-    part: &Part,
+    part: &CommandInput,
 ) -> Result<Effect, AllocError>
     requires { IsNumbered command.now }
-    ensures { IfOk result (λ effect. effect_entry effect ≡ effect_of actor command.now (part_entries part.now)) }
+    ensures { IfOk result (λ effect. effect_entry effect ≡ effect_of actor command.now (input_entries part.now)) }
 {
     match command {
         Command::Ward(command) => wards::effect_of(command, part),
@@ -89,8 +89,12 @@ fn effect_of(
     }
 }
 
-/// What the command adds to the tabulation of the counts: an Advance its stage, another command nothing.
-fn addition_of(alloc: Global, command: &Command, part: &Part) -> Result<Addition, AllocError>
+/// Returns what a command adds to the tabulation of the counts: an Advance its stage, any other command nothing.
+fn addition_of(
+    alloc: Global,
+    command: &Command,
+    part: &CommandInput,
+) -> Result<Addition, AllocError>
     ensures { IfOk result (λ addition. IsAddedFor command.now part.now.count addition) }
 {
     match command {
@@ -103,14 +107,14 @@ fn addition_of(alloc: Global, command: &Command, part: &Part) -> Result<Addition
     }
 }
 
-/// A refusal for a reason.
+/// Returns a refusal for this reason.
 fn refused(alloc: Global, reason: Reason) -> Result<Decision, AllocError>
     ensures { IfOk result (λ decision. decision ≡ Decision.Refused reason) }
 {
     Ok(Decision::Refused(Refusal::new(alloc, reason)?))
 }
 
-/// The change and the reply of a command that nothing stands against.
+/// Returns the change and the reply of a command without objections.
 fn accepted(
     alloc: Global,
     view: &View<'_>,
@@ -119,7 +123,7 @@ fn accepted(
 ) -> Result<Decision, AllocError>
     requires { IsNumbered command.now }
     ensures ruling { IfOk result (λ decision. string_bytes subject ≡ subject_of command.now
-        → ruling_of decision ≡ judged view.now.actor view.now.id.now command.now (part_entries view.now.part) None) }
+        → ruling_of decision ≡ judged view.now.actor view.now.id.now command.now (input_entries view.now.part) None) }
     ensures adds { IfOk result (λ decision. DecidesAddition command.now view.now.part.count decision) }
 {
     let effect = effect_of(alloc, view.actor, command, &view.part)?;
@@ -142,7 +146,7 @@ fn accepted(
 }
 
 #[tactic(auto, unfolding(crate::specs::Machine::decided))]
-/// What is decided on a view.
+/// Returns the decision on a view.
 fn decided(alloc: Global, view: &View<'_>, command: &Command) -> Result<Decision, AllocError>
     ensures ruling { IfOk result (λ decision. ruling_of decision ≡ decided_on view.now command.now) }
     ensures adds { IfOk result (λ decision. DecidesAddition command.now view.now.part.count decision) }
@@ -165,23 +169,24 @@ fn decided(alloc: Global, view: &View<'_>, command: &Command) -> Result<Decision
 
 /// Decides a request on the part of the state that it needs.
 ///
-/// A bad id is refused first. An id that has a receipt gets the reply of then, or is refused where the receipt is about something
-/// else. Of several objections to a new request the one with the lowest number comes. The reply to a keying says nothing of
-/// another clerk's. An accepted Advance adds the stage that is due after the ward's stages found, which stay as they are; an
-/// accepted Lot or Declare leaves them as they are. An error is want of memory, and nothing was decided then.
+/// A bad id is refused first. An id that has a receipt gets the original reply, or is refused if the receipt has another
+/// subject. If there are several objections to a new request, it is refused for the one with the lowest number. The reply to
+/// a keying reveals nothing of another clerk's. An accepted Advance adds the next stage to those of the ward, which stay as
+/// they are; an accepted Lot or Declare leaves them as they are. `AllocError` if an allocation fails; then nothing is
+/// decided.
 ///
-/// With what an accepted request adds to it, the tabulation of the counts before it is the one after it, up to the order of its
-/// entries. An Advance adds the figures of the stage that is due. At the first stage it adds all bundles of the ward too; at a
-/// later one those whose papers lie elsewhere than before, and no others. No other request adds anything.
+/// The old tabulation of the counts and the addition of an accepted request make up the new tabulation, up to the order of
+/// the entries. An Advance adds the figures of the next stage. At the first stage it also adds all bundles of the ward; at a
+/// later one exactly those whose papers have moved. No other request adds anything.
 ///
-/// A clerk, or whoever else isn't the office, is answered by what he sees of the state alone: the wards and
-/// their phases, the candidates, the batches, his own keyings and receipts. His requests leave what any other
-/// clerk sees as it was.
+/// The decision for a clerk, or for any actor other than the office, depends only on what that actor sees of the state: the
+/// wards and their phases, the candidates, the batches, and the actor's own keyings and receipts. Their requests don't
+/// change what any other clerk sees.
 pub fn decide(alloc: Global, view: &View<'_>, command: &Command) -> Result<Decision, AllocError>
     ensures on_view { IfOk result (λ decision. ruling_of decision ≡ decided_on view.now command.now) }
     ensures decides { IfOk result (λ decision. (s : OfficeState) → IsViewOf s command.now view.now → outcome_of s decision ≡ step s view.now.actor view.now.id.now command.now) }
     ensures told_alike { IfOk result (λ decision. IsToldAlike command.now (ruling_of decision)) }
-    ensures kept_again { (s : OfficeState) → IsKeptAgain view.now.actor view.now.id.now command.now (step s view.now.actor view.now.id.now command.now) }
+    ensures kept_again { (s : OfficeState) → RepeatGetsSameReply view.now.actor view.now.id.now command.now (step s view.now.actor view.now.id.now command.now) }
     ensures stays_a_state { (s : OfficeState) → IsState s → IsState (state_after s (step s view.now.actor view.now.id.now command.now)) }
     ensures advances { (s : OfficeState) → IsState s → IsAdvanced s command.now (step s view.now.actor view.now.id.now command.now) }
     ensures tabulates { IfOk result (λ decision. (s : OfficeState) → IsState s → IsViewOf s command.now view.now → AddsWhatIsCounted s decision) }
@@ -197,34 +202,33 @@ pub fn decide(alloc: Global, view: &View<'_>, command: &Command) -> Result<Decis
     decided(alloc, view, command)
 }
 
-/// Any list of requests leads from the office where nothing has happened yet to a state, and from a state to a state again. Those
-/// alone that are accepted, each where its turn comes, lead to the same.
+/// Any list of requests leads from the empty office to a state, and from a state to a state. The accepted requests alone, in
+/// the same order, lead to the same state.
 pub fn lists_make_states()
     ensures from_empty { (requests : List Request) → IsState (after empty_office requests) }
     ensures from_state { (s : OfficeState) (requests : List Request) → IsState s → IsState (after s requests) }
     ensures of_accepted { (s : OfficeState) (requests : List Request) → after s (accepted_of s requests) ≡ after s requests }
 {}
 
-/// A clerk's work follows from what he sees alone: of the keyings from his own.
+/// A clerk's work is determined by what they see; of the keyings, by their own alone.
 pub fn work_is_seen()
     ensures { (s : OfficeState) (clerk : ℕ) → work_of (seen_by clerk s) clerk ≡ work_of s clerk }
 {}
 
-/// What stands on the papers of a batch hangs on what its clerk sees alone: wards, candidates and batches.
+/// The text of a batch's papers is determined by what its clerk sees: wards, candidates and batches.
 pub fn paper_is_seen()
     ensures { (s : OfficeState) (clerk batch : ℕ) → paper_at (seen_by clerk s) clerk batch ≡ paper_at s clerk batch }
 {}
 
-/// An office worked by hand, request by request from the empty one on: what each is answered, and the state
-/// that it leads to. A ward is added once. Three stand for its two seats, and its batches are given out. Two
-/// clerks key a batch alike, and its doubtful paper is judged; or they key it unequally, and it is keyed
-/// again, or by a third clerk too. In a ward where as many stand as there are seats, all are elected. A request
-/// that is sent again is compared with what is kept of it.
+/// An office worked by hand, request by request from the empty one: each reply, and the state that follows. A ward is added
+/// once. Three candidates contest its two seats, and its batches are assigned. Two clerks' keyings of a batch agree, and
+/// its doubtful paper is judged; or they differ, and the batch is keyed again, or by a third clerk as well. In a ward with
+/// as many candidates as seats, all are elected. A repeated request is compared with what the state keeps of it.
 pub fn rows_are_worked()
     ensures wards { WardRows }
     ensures nominations { NominationRows }
     ensures keyings { KeyedRows }
     ensures third { ThirdRows }
     ensures uncontested { UncontestedRows }
-    ensures keepings { KeepingRows }
+    ensures repeats { RepeatRows }
 {}

@@ -1,9 +1,9 @@
-//! How far the election of a ward has come.
+//! The phases of a ward's election.
 
 ghost use Rattle.std.specs.Prelude.{◌≡◌, ◌≢◌, IfSome, IfNone};
 ghost use Rattle.register.specs.Phases.{phase_number};
 
-/// How far the election of a ward has come.
+/// The phase of a ward's election.
 #[derive(Clone, Copy, PartialEq, Eq)]
 pub enum Phase {
     Nominations,
@@ -13,7 +13,7 @@ pub enum Phase {
 }
 
 impl Phase {
-    /// The number under which a phase is kept: 1 to 4, in the order of an election.
+    /// Returns the number that represents a phase: 1 to 4, in the order of an election.
     pub fn number(self) -> u32
         ensures { result ≡ phase_number self }
     {
@@ -25,7 +25,7 @@ impl Phase {
         }
     }
 
-    /// The phase that is kept under a number; none where the number isn't 1 to 4.
+    /// Returns the phase that a number represents; none if the number isn't 1 to 4.
     pub fn from_number(n: u32) -> Option<Phase>
         ensures found { IfSome result (λ phase. phase_number phase ≡ n) }
         ensures none { IfNone result ((phase : Phase) → phase_number phase ≢ n) }

@@ -5,45 +5,45 @@ ghost use Rattle.std.specs.List.{flat_map};
 ghost use Rattle.paper.specs.MarksText.{reading};
 ghost use Rattle.paper.specs.Preferences.{rejection_of};
 ghost use Rattle.register.specs.Offices.{keyed_entry, judged_entry};
-ghost use Rattle.register.specs.Papers.{of_three};
+ghost use Rattle.register.specs.Agreement.{of_three};
 ghost use Rattle.register.specs.Walks.{and_rejected};
 ghost use Rattle.register.specs.Polls.{Pile, StandFor, are_listed, are_bundled, by_rejection, by_reading, by_verdict, judgement_on, judgements_on, preferences_by, ballots_in, ballots_by};
 
+use crate::agreement::{agreed, are_taken, count_open};
 use crate::keyings::KeyedPaper;
-use crate::papers::{agreed, are_taken, count_open};
 use crate::verdicts::{ACCEPTED, JudgedPaper};
 use count::Bundles;
 use paper::{Columns, Keyed, Marked, Marks, Prefs, judge};
 use std::alloc::{AllocError, Global};
 use votes::{MAX_PAPERS, Votes};
 
-/// How many codes of rejection there are, 1 to this one.
+/// The number of rejection codes, which run from 1 to this.
 pub const REJECTIONS: usize = 5;
 
-/// What becomes of a keyed ballot paper.
+/// The judgement on a keyed ballot paper.
 #[derive(Clone, Copy)]
 pub enum Judgement {
-    /// It is valid, with these preferences.
+    /// Valid, with these preferences.
     Valid(Prefs),
-    /// It is rejected, for the reason of this code: 1 no first preference, 2 more than one, 3 no official
-    /// mark, 4 voter identifiable, 5 void for uncertainty.
+    /// Rejected, with this code: 1 no first preference, 2 more than one, 3 no official mark, 4 voter identifiable, 5 void
+    /// for uncertainty.
     Rejected(u32),
-    /// It waits for its verdict.
+    /// Waiting for its verdict.
     Open,
 }
 
-/// What keeps the preferences of valid papers as they come, one after the other.
+/// A collection of valid papers' preferences, filled one paper at a time.
 pub trait KeepsPapers {
-    // It holds these papers, which came in this order.
+    // It holds these papers, added in this order.
     ghost holds: { Self → List (List ℕ) → Type 0 };
 
-    /// Keeps one more paper. An error is want of memory, or one paper more than the `MAX_PAPERS` that an office
-    /// can have, and the papers before are spoilt then.
+    /// Adds one more paper. `AllocError` if an allocation fails or there would be more than the `MAX_PAPERS` that an office
+    /// can have; then the earlier papers are no longer reliable.
     fn keep(&mut self, paper: Prefs) -> Result<(), AllocError>
         ensures { IfOk result (λ _. (papers : List (List ℕ)) → holds self.old papers → holds self.new (papers ++ paper ∷ [])) };
 }
 
-// Each paper for itself, in the order in which they came.
+// Every paper separately, in the order of arrival.
 impl KeepsPapers for Vec<Prefs> {
     ghost holds = { are_listed };
 
@@ -65,7 +65,7 @@ impl KeepsPapers for Bundles {
     }
 }
 
-/// Keeps no paper, for those who ask how many are rejected alone.
+/// A collection that drops the papers, for callers that need only the numbers of rejected ones.
 #[derive(Drop)]
 pub struct NoPapers;
 
@@ -77,8 +77,9 @@ impl KeepsPapers for NoPapers {
     }
 }
 
-/// The ballot papers of a ward, as far as its batches are taken. It has the preferences of each valid one, which come in the order of batch
-/// and number, and how many are rejected, by code 1 to 5. It also says whether each batch is taken and each doubtful paper has a verdict.
+/// The ballot papers of a ward's taken batches: the preferences of each valid one, in the order of batch and number, and the
+/// number of rejected ones by code 1 to 5. It also records whether every batch is taken and every doubtful paper has a
+/// verdict.
 #[derive(Drop)]
 pub struct Ballots<P> {
     pub papers: P,
@@ -86,8 +87,8 @@ pub struct Ballots<P> {
     pub settled: bool,
 }
 
-/// What a ward's ballot papers come to: how many are valid, how many rejected, by code 1 to 5, and the quota ("Quota"). It also
-/// says whether each batch is taken and each doubtful paper has a verdict.
+/// The totals of a ward's ballot papers: how many are valid, how many are rejected, by code 1 to 5, and the quota ("Quota").
+/// It also records whether every batch is taken and every doubtful paper has a verdict.
 #[derive(Clone, Copy)]
 pub struct PollTally {
     pub valid: u32,
@@ -96,7 +97,7 @@ pub struct PollTally {
     pub settled: bool,
 }
 
-/// The judgement on a paper by the marks on it.
+/// Returns the judgement on a paper by its marks.
 fn by_marks(marked: &Marked) -> Judgement
     ensures { result ≡ by_rejection marked.now (rejection_of marked.now) }
 {
@@ -106,7 +107,7 @@ fn by_marks(marked: &Marked) -> Judgement
     }
 }
 
-/// The judgement on a paper as it is keyed; where that is doubtful, it is open.
+/// Returns the judgement on a paper as keyed; a doubtful one is open.
 fn by_keyed(keyed: &Keyed) -> Judgement
     ensures { result ≡ by_reading Judgement.Open (Ok keyed.now) }
 {
@@ -116,7 +117,7 @@ fn by_keyed(keyed: &Keyed) -> Judgement
     }
 }
 
-/// The judgement by the marks text that a paper is accepted with.
+/// Returns the judgement by the marks text that a paper is accepted with.
 fn by_text(columns: Columns, marks: &str) -> Judgement
     ensures { result ≡ by_reading Judgement.Open (reading columns marks.now) }
 {
@@ -126,7 +127,7 @@ fn by_text(columns: Columns, marks: &str) -> Judgement
     }
 }
 
-/// The judgement by a verdict: on the marks that the paper is accepted with, or its rejection.
+/// Returns the judgement by a verdict: by the marks that the paper is accepted with, or its rejection.
 fn by_verdict(columns: Columns, judged: &JudgedPaper) -> Judgement
     ensures { result ≡ by_verdict columns (Some (judged_entry judged.now)) }
 {
@@ -136,7 +137,7 @@ fn by_verdict(columns: Columns, judged: &JudgedPaper) -> Judgement
     Judgement::Rejected(judged.code)
 }
 
-/// The judgement by the verdict on the paper of this number, if some verdicts have one.
+/// Returns the judgement by the verdict, among these, on the paper with this number; without one the paper is open.
 fn by_verdicts(columns: Columns, verdicts: &[JudgedPaper], paper: u32) -> Judgement
     ensures { result ≡ by_verdict columns (find (λ v. v.paper == paper) (map judged_entry verdicts.now)) }
 {
@@ -148,8 +149,8 @@ fn by_verdicts(columns: Columns, verdicts: &[JudgedPaper], paper: u32) -> Judgem
     Judgement::Open
 }
 
-/// The judgement on the paper of this number as it is keyed; where that is doubtful, by its verdict. The
-/// verdicts are looked through for doubtful papers alone.
+/// Returns the judgement on the paper with this number as keyed or, if it is doubtful, by its verdict. Only doubtful papers
+/// are looked up among the verdicts.
 fn by_keyed_or_verdicts(
     columns: Columns,
     verdicts: &[JudgedPaper],
@@ -164,7 +165,7 @@ fn by_keyed_or_verdicts(
     }
 }
 
-/// The judgement on a keyed paper: by its marks, or if it is doubtful by its verdict.
+/// Returns the judgement on a keyed paper: by its marks or, if it is doubtful, by its verdict.
 pub fn judgement_on(columns: Columns, verdicts: &[JudgedPaper], keyed: &KeyedPaper) -> Judgement
     ensures { result ≡ judgement_on columns (map judged_entry verdicts.now) (keyed_entry keyed.now) }
 {
@@ -175,7 +176,7 @@ pub fn judgement_on(columns: Columns, verdicts: &[JudgedPaper], keyed: &KeyedPap
 }
 
 impl<P: KeepsPapers> Ballots<P> {
-    /// The ballot papers of no batch, which are to be kept in what holds none yet. Takes no memory.
+    /// Returns the ballot papers of no batch, to be collected in `papers`, which is empty. Allocates nothing.
     pub fn new(papers: P) -> Ballots<P>
         requires { P.holds papers [] }
         ensures { (columns : _) → StandFor P.holds result (ballots_in columns []) }
@@ -187,9 +188,9 @@ impl<P: KeepsPapers> Ballots<P> {
         }
     }
 
-    /// Adds the papers of one more batch, by its three clerks' keyings of the current round and the verdicts on its papers. The
-    /// keyings are in the order of the clerks' numbers, and empty where they aren't there. A batch that isn't taken adds no
-    /// paper, and the ward isn't settled then. An error is want of memory, and the papers before are spoilt then.
+    /// Adds the papers of one more batch, from its three clerks' keyings of the current round and the verdicts on its
+    /// papers. The keyings are in the order of the clerks' numbers; a missing one is empty. A batch that isn't taken adds no
+    /// paper and leaves the ward unsettled. `AllocError` if an allocation fails; then the earlier papers are no longer reliable.
     pub fn add(
         &mut self,
         columns: Columns,
@@ -210,8 +211,8 @@ impl<P: KeepsPapers> Ballots<P> {
         self.count_each(columns, verdicts, papers)
     }
 
-    /// Adds one more paper, of a batch that is settled, as it is keyed, with the verdicts on the batch's papers.
-    /// An error is want of memory, and the papers before are spoilt then.
+    /// Adds one more paper, of a settled batch, as keyed and with the verdicts on the batch's papers. `AllocError` if an
+    /// allocation fails; then the earlier papers are no longer reliable.
     pub fn add_settled(
         &mut self,
         columns: Columns,
@@ -224,7 +225,7 @@ impl<P: KeepsPapers> Ballots<P> {
         self.count(judgement_on(columns, verdicts, keyed))
     }
 
-    /// Counts each paper of a keying by the judgement on it.
+    /// Counts each paper of a keying by its judgement.
     fn count_each(
         &mut self,
         columns: Columns,
@@ -242,7 +243,7 @@ impl<P: KeepsPapers> Ballots<P> {
         Ok(())
     }
 
-    /// Counts a paper by the judgement on it.
+    /// Counts a paper by its judgement.
     fn count(&mut self, judgement: Judgement) -> Result<(), AllocError>
         ensures papers { IfOk result (λ _. (papers : List (List ℕ)) → P.holds self.old.papers papers → P.holds self.new.papers (papers ++ preferences_by judgement)) }
         ensures rejected { IfOk result (λ _. self.new.rejected ≡ and_rejected self.old.rejected judgement) }
@@ -258,8 +259,7 @@ impl<P: KeepsPapers> Ballots<P> {
         }
     }
 
-    /// Counts a paper that is rejected with a code. There are never too many of them to count: an office has at
-    /// most 9999 batches, of 500 papers.
+    /// Counts a paper rejected with this code. The number can't overflow in an office, which has at most 9999 batches of 500 papers.
     fn reject(&mut self, code: u32) -> Result<(), AllocError>
         ensures papers { self.new.papers ≡ self.old.papers }
         ensures rejected { IfOk result (λ _. self.new.rejected ≡ and_rejected self.old.rejected (Judgement.Rejected code)) }

@@ -1,4 +1,4 @@
-//! Which numbers, names, ids and replies are in range.
+//! The ranges of numbers, names, ids and replies.
 
 ghost use Rattle.std.specs.Prelude.{◌≡◌};
 ghost use Rattle.std.specs.List.{list_all};
@@ -8,34 +8,34 @@ ghost use Rattle.register.specs.Ranges.{is_id_byte, is_line_byte, is_name, is_id
 use paper::MAX_CANDIDATES;
 use votes::MAX_SEATS;
 
-/// The actor that is the office itself.
+/// The office itself, as an actor.
 const OFFICE: u32 = 0;
 
-/// The highest number of a clerk.
+/// The highest clerk number.
 pub const LAST_CLERK: u32 = 999;
 
-/// The highest number of a ward.
+/// The highest ward number.
 pub const LAST_WARD: u32 = 99;
 
-/// The most seats of a ward.
+/// The most seats a ward can have.
 pub const MOST_SEATS: u32 = MAX_SEATS as u32;
 
-/// The highest number of a candidate in a ward.
+/// The highest candidate number in a ward.
 pub const LAST_CANDIDATE: u32 = MAX_CANDIDATES as u32;
 
-/// The highest number of a batch, over all wards.
+/// The highest batch number, across all wards.
 pub const LAST_BATCH: u32 = 9999;
 
-/// The most papers in a batch.
+/// The most papers a batch can have.
 pub const MOST_PAPERS: u32 = 500;
 
-/// The highest round in which a batch is keyed.
+/// The highest round of keying.
 pub const LAST_ROUND: u32 = 99;
 
-/// The first stage of a count at which a lot may be drawn.
+/// The first stage of a count for which a lot may be drawn.
 pub const FIRST_LOT_STAGE: u32 = 2;
 
-/// The last stage of a count at which a lot may be drawn.
+/// The last stage of a count for which a lot may be drawn.
 pub const LAST_LOT_STAGE: u32 = 31;
 
 const SPACE: u8 = 32;
@@ -50,70 +50,70 @@ const LONGEST_ID: usize = 40;
 
 const LONGEST_REPLY: usize = 200;
 
-/// Whether a number lies in a range, both ends included.
+/// Returns whether a number is in a range, both ends included.
 pub fn is_between(low: u32, high: u32, n: u32) -> bool
     ensures { result ≡ is_between low high n }
 {
     low <= n && n <= high
 }
 
-/// Whether an actor is the office itself: 0.
+/// Returns whether an actor is the office itself: 0.
 pub fn is_office(actor: u32) -> bool
     ensures { result ≡ is_office actor }
 {
     actor == OFFICE
 }
 
-/// Whether an actor is a clerk: 1 to 999.
+/// Returns whether an actor is a clerk: 1 to 999.
 pub fn is_clerk(actor: u32) -> bool
     ensures { result ≡ is_clerk actor }
 {
     is_between(1, LAST_CLERK, actor)
 }
 
-/// Whether a number is that of a ward: 1 to 99.
+/// Returns whether a number is in the range of ward numbers: 1 to 99.
 pub fn is_ward_number(n: u32) -> bool
     ensures { result ≡ is_ward_number n }
 {
     is_between(1, LAST_WARD, n)
 }
 
-/// Whether a ward may have so many seats: 1 to 15.
+/// Returns whether a ward may have this number of seats: 1 to 15.
 pub fn is_seat_number(n: u32) -> bool
     ensures { result ≡ is_seat_number n }
 {
     is_between(1, MOST_SEATS, n)
 }
 
-/// Whether a number is that of a candidate in a ward: 1 to 30.
+/// Returns whether a number is in the range of candidate numbers: 1 to 30.
 pub fn is_candidate_number(n: u32) -> bool
     ensures { result ≡ is_candidate_number n }
 {
     is_between(1, LAST_CANDIDATE, n)
 }
 
-/// Whether a number is that of a batch: 1 to 9999.
+/// Returns whether a number is in the range of batch numbers: 1 to 9999.
 pub fn is_batch_number(n: u32) -> bool
     ensures { result ≡ is_batch_number n }
 {
     is_between(1, LAST_BATCH, n)
 }
 
-/// Whether a batch may have so many papers, and a paper this number in its batch: 1 to 500.
+/// Returns whether a number is in the range of batch sizes, and so of paper numbers in a batch: 1 to 500.
 pub fn is_paper_number(n: u32) -> bool
     ensures { result ≡ is_paper_number n }
 {
     is_between(1, MOST_PAPERS, n)
 }
 
-/// Whether a number is that of a stage for which a lot may be drawn: 2 to 31.
+/// Returns whether a number is in the range of stages for which a lot may be drawn: 2 to 31.
 pub fn is_lot_stage(n: u32) -> bool
     ensures { result ≡ is_lot_stage n }
 {
     is_between(FIRST_LOT_STAGE, LAST_LOT_STAGE, n)
 }
 
-/// Whether a number is that of a round in which a batch is keyed: 1 to 99.
+/// Returns whether a number is in the range of keying rounds: 1 to 99.
 pub fn is_round(n: u32) -> bool
     ensures { result ≡ is_round n }
 {
@@ -150,7 +150,7 @@ fn are_id_bytes(bytes: &[u8]) -> bool
     bytes.iter().all(|b| is_id_byte(*b))
 }
 
-/// Whether a text is a name: 1 to 120 bytes without control characters.
+/// Returns whether a text is a name: 1 to 120 bytes without control characters.
 pub fn is_name(text: &str) -> bool
     ensures { result ≡ is_name text.now }
 {
@@ -159,7 +159,7 @@ pub fn is_name(text: &str) -> bool
     fits & are_name_bytes(bytes)
 }
 
-/// Whether a text is an id: 1 to 40 characters of `a-z`, `0-9` and `-`.
+/// Returns whether a text is an id: 1 to 40 characters of `a-z`, `0-9` and `-`.
 pub fn is_id(text: &str) -> bool
     ensures { result ≡ is_id text.now }
 {
@@ -180,7 +180,7 @@ fn are_line_bytes(bytes: &[u8]) -> bool
     bytes.iter().all(|b| is_line_byte(*b))
 }
 
-/// Whether a text is a reply: at most 200 bytes, without a line end.
+/// Returns whether a text is a reply: at most 200 bytes, without a line end.
 pub fn is_reply(text: &str) -> bool
     ensures { result ≡ is_reply text.now }
 {

@@ -1,7 +1,7 @@
 //! Receipts.
 
-/// What an accepted request left behind, so that the same request again gets the same reply: who sent
-/// it under which id, what it was about, and what was replied.
+/// The record of an accepted request, so that the same request, repeated, gets the same reply: its actor, its id, its
+/// subject, and the reply.
 #[derive(PartialEq, Drop)]
 pub struct Receipt {
     pub actor: u32,

@@ -1,4 +1,4 @@
-//! Why a request is refused.
+//! Reasons for refusing a request.
 
 ghost use Rattle.std.specs.Prelude.{◌≡◌, IfOk, string_bytes};
 ghost use Rattle.register.specs.Reasons.{reason_number, reason_words, reason_text};
@@ -8,74 +8,73 @@ use paper::Columns;
 use std::alloc::{AllocError, Global};
 use std::marker::Model;
 
-/// Why a request is refused.
+/// The reason for refusing a request.
 #[derive(Clone, Copy, PartialEq, Eq)]
 pub enum Reason {
     /// The id isn't 1 to 40 characters of `a-z`, `0-9` and `-`.
     BadId,
-    /// A receipt of this actor and id is about something else.
+    /// The receipt of this actor and id has another subject.
     IdUsed,
-    /// A number is outside its range, or the actor is none who may send this command.
+    /// A number is out of range, or the actor may not send this command.
     NumberOutOfRange,
     /// The name isn't 1 to 120 bytes, or has a control character.
     BadName,
-    /// There is no ward of this number.
+    /// There is no ward with this number.
     NoSuchWard,
-    /// A ward of this number is there already.
+    /// A ward with this number already exists.
     WardExists,
-    /// There is no batch of this number.
+    /// There is no batch with this number.
     NoSuchBatch,
-    /// A batch of this number is there already.
+    /// A batch with this number already exists.
     BatchExists,
-    /// The ward, or that of the batch, isn't in the phase in which this may be asked.
+    /// The ward, or the batch's ward, isn't in the phase that the command requires.
     WrongPhase,
-    /// A candidate of this number in this ward is there already.
+    /// A candidate with this number already exists in this ward.
     CandidateExists,
-    /// There is no candidate of this number in this ward.
+    /// There is no candidate with this number in this ward.
     NoSuchCandidate,
     /// The ward has no candidates.
     NoCandidates,
-    /// Both clerks of the batch are one, or the third one keys it already.
+    /// The batch's two clerks are the same, or the third already keys it.
     SameClerk,
-    /// The actor is none of the batch's clerks.
+    /// The actor isn't one of the batch's clerks.
     NotItsClerk,
     /// The round isn't the batch's current one.
     NotThisRound,
-    /// The clerk's keying of this round is there already.
+    /// The clerk has already keyed this round.
     AlreadyKeyed,
-    /// There aren't as many marks texts as the batch has papers.
+    /// The number of marks texts isn't the batch's number of papers.
     WrongPaperCount,
-    /// The marks text of this paper, the first such one, has the mark fault of this number.
+    /// The marks text of this paper, the first faulty one, has the mark fault with this number.
     BadMarks { paper: u32, fault: u32 },
-    /// Fewer than two keyings of the batch's current round are there, or two of them are equal.
+    /// The batch's current round has fewer than two keyings, or two equal ones.
     NoDifference,
     /// No two keyings of the batch's current round are equal.
     NotTaken,
-    /// The batch has no paper of this number that is keyed as doubtful.
+    /// The batch has no paper with this number that is keyed as doubtful.
     NotDoubtful,
-    /// The paper has a verdict already.
+    /// The paper already has a verdict.
     AlreadyJudged,
-    /// The paper is accepted as doubtful, or with marks by which it is invalid, or rejected with a code
-    /// that isn't 3, 4 or 5.
+    /// The paper is accepted as doubtful, or with marks that make it invalid, or rejected with a code other than 3, 4 or 5.
     BadVerdict,
     /// A batch of the ward isn't taken, or a doubtful paper has no verdict.
     NotReady,
-    /// No vacancy is left.
+    /// No vacancy remains.
     CountFinished,
     /// The count waits for a lot at this stage, counted from 1, among these candidates.
     LotNeeded { stage: u8, among: Columns },
     /// The count doesn't wait for a lot at this stage.
     NoSuchLot,
-    /// The candidate isn't one of those who are tied.
+    /// The candidate isn't one of those tied.
     NotAmong,
-    /// A vacancy is left.
+    /// A vacancy remains.
     CountNotFinished,
-    /// The batch has a third clerk.
+    /// The batch already has a third clerk.
     ThirdSet,
 }
 
 impl Reason {
-    /// The table of reasons: each with its number and its words, up to the first number that it carries.
+    /// Returns the number of a reason, and its words up to the first number that they include.
     fn told(self) -> (u32, &'static str)
         ensures number { result.0 ≡ reason_number self }
         ensures words { result.1.now ≡ reason_words self }
@@ -114,7 +113,7 @@ impl Reason {
         }
     }
 
-    /// The reason in words, with the numbers that it carries.
+    /// Returns the reason in words, with the numbers that it includes.
     fn text(&self, alloc: Global) -> Result<String, AllocError>
         ensures { IfOk result (λ text. string_bytes text ≡ reason_text self.now) }
     {
@@ -154,7 +153,7 @@ impl Model for Refusal {
 }
 
 impl Refusal {
-    /// A refusal for a reason, its text written out. An error is want of memory.
+    /// Returns a refusal for this reason, with its text. `AllocError` if an allocation fails.
     pub fn new(alloc: Global, reason: Reason) -> Result<Refusal, AllocError>
         ensures { IfOk result (λ refusal. refusal ≡ reason) }
     {
@@ -162,21 +161,21 @@ impl Refusal {
         Ok(Refusal { reason, text })
     }
 
-    /// The reason.
+    /// Returns the reason.
     pub fn reason(&self) -> Reason
         ensures { result ≡ self.now }
     {
         self.reason
     }
 
-    /// The number of this reason, wherever a refusal is printed.
+    /// Returns the number of the reason, as printed with every refusal.
     pub fn number(&self) -> u32
         ensures { result ≡ reason_number self.now }
     {
         self.reason.told().0
     }
 
-    /// The reason in words, without its number.
+    /// Returns the reason in words, without its number.
     pub fn text(&self) -> &str
         ensures { result.now ≡ reason_text self.now }
     {

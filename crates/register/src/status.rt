@@ -1,13 +1,14 @@
-//! How the election of a ward stands, the work of a clerk, and what stands on the papers that he keys.
+//! The status of a ward's election, the work of a clerk, and the text of the papers to be keyed.
 
 use crate::candidates::Candidate;
 use crate::phase::Phase;
 use crate::wards::Ward;
 use paper::Columns;
 
-/// How the election of a ward (1 to 99) stands: its phase, and how many candidates and batches it has. So many of the batches are
-/// taken, two keyings of their current round being equal. So many differ, at least two being there and no two equal. So many
-/// doubtful papers of the taken batches have no verdict yet, and so many stages of the count are done.
+/// The status of a ward's election: the ward (1 to 99), its phase, its numbers of candidates and batches, and how many
+/// stages of its count are done. A batch is counted as taken if two keyings of its current round are equal, and as differing
+/// if at least two exist and no two are equal. A doubtful paper of a taken batch is counted as open if it has no verdict
+/// yet.
 #[derive(Clone, Copy, PartialEq, Eq)]
 pub struct Status {
     pub ward: u32,
@@ -20,8 +21,8 @@ pub struct Status {
     pub stages: u32,
 }
 
-/// A batch (1 to 9999) that a clerk keys: its ward (1 to 99), the columns of its papers, how many they are (1 to 500), and its
-/// current round (1 to 99). It also says whether this clerk has keyed that round.
+/// A batch (1 to 9999) assigned to a clerk: its ward (1 to 99), the columns and the number (1 to 500) of its papers, its
+/// current round (1 to 99), and whether this clerk has keyed that round.
 #[derive(Clone, Copy, PartialEq, Eq)]
 pub struct Work {
     pub batch: u32,
@@ -32,7 +33,7 @@ pub struct Work {
     pub keyed: bool,
 }
 
-/// What stands on a ballot paper: the ward that it is of, and the candidates there, in the order of their numbers.
+/// The text of a ballot paper: its ward, and the candidates there, by number.
 #[derive(Drop)]
 pub struct BallotPaper {
     pub ward: Ward,

@@ -1,24 +1,25 @@
-//! Judged papers, and the command about them.
+//! Judged papers, and the command that judges one.
 
 ghost use Rattle.std.specs.Prelude.{◌≡◌, IfOk, string_bytes};
 ghost use Rattle.register.specs.Reasons.{first_reason};
-ghost use Rattle.register.specs.Parts.{part_entries};
+ghost use Rattle.register.specs.CommandInputs.{input_entries};
 ghost use Rattle.register.specs.Effects.{effect_entry};
 ghost use Rattle.register.specs.Verdicts.{is_in_range, is_rejection_code, is_verdict, verdict_objection, objections, subject_of, reply_to, effect_of};
 
+use crate::agreement::{agreed, are_taken, has_doubtful};
 use crate::decision::Effect;
 use crate::marks::{columns_of, is_valid, marks_objection};
-use crate::papers::{agreed, are_taken, has_doubtful};
 use crate::phase::Phase;
 use crate::ranges::{is_batch_number, is_between, is_office, is_paper_number};
 use crate::refusal::Reason;
-use crate::view::Part;
+use crate::view::CommandInput;
 use crate::wards::is_in_phase;
 use paper::Columns;
 use std::alloc::{AllocError, Global};
 
-/// A doubtful ballot paper as the returning officer judged it: its batch (1 to 9999), its number there (1 to 500), and the verdict.
-/// That is code 0 with the marks that the paper was accepted with; or the code 3 to 5 for which it was rejected, without marks.
+/// A doubtful ballot paper as judged by the returning officer: its batch (1 to 9999), its number in the batch (1 to 500),
+/// and the verdict. The verdict is code 0 with the marks that the paper is accepted with; or a code of rejection (3 to 5),
+/// without marks.
 #[derive(PartialEq, Drop)]
 pub struct JudgedPaper {
     pub batch: u32,
@@ -27,16 +28,16 @@ pub struct JudgedPaper {
     pub marks: String,
 }
 
-/// What the returning officer decides of a doubtful paper.
+/// The returning officer's decision on a doubtful paper.
 #[derive(Debug, Drop)]
 pub enum Verdict {
-    /// It is valid, with these marks.
+    /// Valid, with these marks.
     Accept(String),
-    /// It is rejected: 3 no official mark, 4 voter identifiable, 5 void for uncertainty.
+    /// Rejected: 3 no official mark, 4 voter identifiable, 5 void for uncertainty.
     Reject(u32),
 }
 
-/// What the office asks about a paper of a batch: to keep this verdict on it.
+/// The office's command for a paper of a batch: record this verdict on it.
 #[derive(Debug, Drop)]
 pub struct VerdictCommand {
     pub batch: u32,
@@ -44,16 +45,16 @@ pub struct VerdictCommand {
     pub verdict: Verdict,
 }
 
-/// The code of a paper that is accepted.
+/// The code of an accepted paper.
 pub(crate) const ACCEPTED: u32 = 0;
 
-/// The lowest code of a rejection that the returning officer gives.
+/// The lowest code with which the returning officer may reject a paper.
 const FIRST_REJECTION: u32 = 3;
 
-/// The highest one.
+/// The highest such code.
 const LAST_REJECTION: u32 = 5;
 
-/// Whether the command's numbers are in range, and the actor is one who may send it.
+/// Returns whether the command's numbers are in range and the actor may send it.
 fn is_in_range(actor: u32, command: &VerdictCommand) -> bool
     ensures { result ≡ is_in_range actor command.now }
 {
@@ -62,14 +63,14 @@ fn is_in_range(actor: u32, command: &VerdictCommand) -> bool
     office & (number & is_paper_number(command.paper))
 }
 
-/// Whether a code is that of a rejection that the returning officer gives: 3 to 5.
+/// Returns whether the returning officer may reject a paper with this code: 3 to 5.
 pub fn is_rejection_code(code: u32) -> bool
     ensures { result ≡ is_rejection_code code }
 {
     is_between(FIRST_REJECTION, LAST_REJECTION, code)
 }
 
-/// What stands against the marks of an accepting verdict: that they can't be read.
+/// Returns the objection to the marks of an accepting verdict: that they can't be read.
 fn verdict_objection(columns: Columns, paper: u32, verdict: &Verdict) -> Option<Reason>
     ensures { result ≡ verdict_objection columns paper verdict.now }
 {
@@ -79,7 +80,7 @@ fn verdict_objection(columns: Columns, paper: u32, verdict: &Verdict) -> Option<
     }
 }
 
-/// Whether an accepted paper is valid by its marks, or the code of a rejection one that may be given.
+/// Returns whether a paper to be accepted is valid by its marks, or a code of rejection is permitted.
 fn is_verdict(columns: Columns, verdict: &Verdict) -> bool
     ensures { result ≡ is_verdict columns verdict.now }
 {
@@ -89,9 +90,13 @@ fn is_verdict(columns: Columns, verdict: &Verdict) -> bool
     }
 }
 
-/// What stands against the command: of several reasons the one with the lowest number.
-pub(crate) fn objection_to(actor: u32, command: &VerdictCommand, part: &Part) -> Option<Reason>
-    ensures { result ≡ first_reason (objections actor command.now (part_entries part.now)) }
+/// Returns the objection to the command; if there are several, the one with the lowest number.
+pub(crate) fn objection_to(
+    actor: u32,
+    command: &VerdictCommand,
+    part: &CommandInput,
+) -> Option<Reason>
+    ensures { result ≡ first_reason (objections actor command.now (input_entries part.now)) }
 {
     if !is_in_range(actor, command) {
         return Some(Reason::NumberOutOfRange);
@@ -123,7 +128,7 @@ pub(crate) fn objection_to(actor: u32, command: &VerdictCommand, part: &Part) ->
 }
 
 #[tactic(auto, unfolding(crate::specs::Verdicts::subject_of))]
-/// What the receipt of the command is about.
+/// Returns the subject of the command's receipt.
 pub(crate) fn subject_of(alloc: Global, command: &VerdictCommand) -> Result<String, AllocError>
     ensures { IfOk result (λ text. string_bytes text ≡ subject_of command.now) }
 {
@@ -132,7 +137,7 @@ pub(crate) fn subject_of(alloc: Global, command: &VerdictCommand) -> Result<Stri
 }
 
 #[tactic(auto, unfolding(crate::specs::Verdicts::reply_to))]
-/// What is replied where the command is accepted: the verdict.
+/// Returns the reply to the accepted command: the verdict.
 pub(crate) fn reply_to(alloc: Global, command: &VerdictCommand) -> Result<String, AllocError>
     ensures { IfOk result (λ text. string_bytes text ≡ reply_to command.now) }
 {
@@ -143,8 +148,8 @@ pub(crate) fn reply_to(alloc: Global, command: &VerdictCommand) -> Result<String
     }
 }
 
-/// What the command does to the state: the paper is accepted with the marks given, or rejected with the
-/// code and without marks.
+/// Returns the effect of the command on the state: the paper is accepted with these marks, or rejected with this code and
+/// without marks.
 pub(crate) fn effect_of(alloc: Global, command: &VerdictCommand) -> Result<Effect, AllocError>
     ensures { IfOk result (λ effect. effect_entry effect ≡ effect_of command.now) }
 {

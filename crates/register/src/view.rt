@@ -1,7 +1,7 @@
 //! The part of the state that one request needs.
 
 ghost use Rattle.std.specs.Prelude.{◌≡◌};
-ghost use Rattle.register.specs.Parts.{part_entries, empty_part};
+ghost use Rattle.register.specs.CommandInputs.{input_entries, empty_input};
 
 use crate::batches::{Batch, ThirdClerk};
 use crate::candidates::Candidate;
@@ -15,14 +15,15 @@ use count::Due;
 use paper::Columns;
 use std::alloc::Global;
 
-/// What any command may need of the state, each there only where the command needs it and the state has it. Of nominations: the ward
-/// that the command names, or to which the batch belongs that it names; the candidate that it names; and the ward's candidates in the
-/// order of their numbers. Of papers: the batch that the command names, and its third clerk; the actor's own keying of it; the keyings
-/// of its current round by its two or three clerks; and the verdict on the paper that the command names. Of the count: the poll of the
-/// ward; what is due by the recorded lots; who is elected after the stages done; and the count that a stage is to be added to. The
-/// keyings stand in the order of the clerks' numbers, each empty where it isn't there. A keying is in the order of its papers.
+/// What a command may need of the state; each item is present only if the command needs it and the state has it. For
+/// nominations: the ward that the command names, or whose batch it names; the candidate that it names; and the ward's
+/// candidates by number. For papers: the batch that the command names, and its third clerk; the actor's own keying of it;
+/// the keyings of its current round by its two or three clerks; and the verdict on the paper that the command names. For the
+/// count: the poll of the ward; what is due given the recorded lots; who is elected after the stages done; and the count to
+/// which a stage is to be added. The keyings are in the order of the clerks' numbers, and a missing one is empty. A keying
+/// is in the order of its papers.
 #[derive(Drop)]
-pub struct Part {
+pub struct CommandInput {
     pub ward: Option<Ward>,
     pub candidate: Option<Candidate>,
     pub candidates: Vec<Candidate>,
@@ -39,12 +40,12 @@ pub struct Part {
     pub count: Option<Count>,
 }
 
-impl Part {
-    /// No part, to which what a command needs is added. Takes no memory.
-    pub fn empty(alloc: Global) -> Part
-        ensures { part_entries result ≡ empty_part }
+impl CommandInput {
+    /// Returns an empty part, to be filled with what a command needs. Allocates nothing.
+    pub fn empty(alloc: Global) -> CommandInput
+        ensures { input_entries result ≡ empty_input }
     {
-        Part {
+        CommandInput {
             ward: None,
             candidate: None,
             candidates: Vec::new(alloc),
@@ -63,12 +64,12 @@ impl Part {
     }
 }
 
-/// What the machine sees for one request: who sends it under which id; the receipt of that actor and id, if there is one; and the
-/// part of the state that the command needs.
+/// What the machine sees for one request: its actor and id; the receipt of that actor and id, if there is one; and the part
+/// of the state that the command needs.
 #[derive(Drop)]
 pub struct View<'a> {
     pub actor: u32,
     pub id: &'a str,
     pub receipt: Option<Receipt>,
-    pub part: Part,
+    pub part: CommandInput,
 }

@@ -1,9 +1,9 @@
-//! Wards, and the commands about them.
+//! Wards, and the commands that concern them.
 
 ghost use Rattle.std.specs.Prelude.{◌≡◌, IfOk, map, option_map, string_bytes};
 ghost use Rattle.register.specs.Reasons.{first_reason};
 ghost use Rattle.register.specs.Offices.{ward_entry, candidate_entry};
-ghost use Rattle.register.specs.Parts.{part_entries, is_in_phase, phase_objections};
+ghost use Rattle.register.specs.CommandInputs.{input_entries, is_in_phase, phase_objections};
 ghost use Rattle.register.specs.Effects.{effect_entry};
 ghost use Rattle.register.specs.Nominations.{is_contested};
 ghost use Rattle.register.specs.Wards.{is_in_range, is_to_be_polled, objections, subject_of, reply_to, effect_of};
@@ -13,11 +13,10 @@ use crate::decision::Effect;
 use crate::phase::Phase;
 use crate::ranges::{is_name, is_office, is_seat_number, is_ward_number};
 use crate::refusal::Reason;
-use crate::view::Part;
+use crate::view::CommandInput;
 use std::alloc::{AllocError, Global};
 
-/// A ward: its number (1 to 99), its seats (1 to 15), its phase, how many stages of its count are done
-/// (0 to 31) and its name.
+/// A ward: its number (1 to 99), its seats (1 to 15), its phase, the number of stages done in its count (0 to 31) and its name.
 #[derive(PartialEq, Drop)]
 pub struct Ward {
     pub number: u32,
@@ -27,16 +26,16 @@ pub struct Ward {
     pub name: String,
 }
 
-/// What the office asks about a ward.
+/// The office's commands for wards.
 #[derive(Debug, Drop)]
 pub enum WardCommand {
-    /// A ward with this number, so many seats and this name, its nominations open.
+    /// Adds a ward with this number, this number of seats and this name; its nominations are open.
     Add { ward: u32, seats: u32, name: String },
-    /// No more nominations for this ward: it is polled where it has more candidates than seats.
+    /// Closes the nominations of this ward; it is polled if it has more candidates than seats.
     Close { ward: u32 },
 }
 
-/// Whether the command's numbers are in range, and the actor is one who may send it.
+/// Returns whether the command's numbers are in range and the actor may send it.
 fn is_in_range(actor: u32, command: &WardCommand) -> bool
     ensures { result ≡ is_in_range actor command.now }
 {
@@ -53,7 +52,7 @@ fn is_in_range(actor: u32, command: &WardCommand) -> bool
     }
 }
 
-/// Whether a ward is there, in a phase.
+/// Returns whether a ward exists and is in a phase.
 pub(crate) fn is_in_phase(phase: Phase, ward: &Option<Ward>) -> bool
     ensures { result ≡ is_in_phase phase (option_map ward_entry ward.now) }
 {
@@ -63,7 +62,7 @@ pub(crate) fn is_in_phase(phase: Phase, ward: &Option<Ward>) -> bool
     }
 }
 
-/// What stands against a command that needs a ward in a phase: there is none, or it is in another one.
+/// Returns the objection to a command that needs a ward in a phase: there is none, or it is in another phase.
 pub(crate) fn phase_objection(phase: Phase, ward: &Option<Ward>) -> Option<Reason>
     ensures { result ≡ first_reason (phase_objections phase (option_map ward_entry ward.now)) }
 {
@@ -76,14 +75,14 @@ pub(crate) fn phase_objection(phase: Phase, ward: &Option<Ward>) -> Option<Reaso
     None
 }
 
-/// Whether a ward has more candidates than seats.
+/// Returns whether a ward has more candidates than seats.
 pub fn is_contested(ward: &Ward, candidates: &[Candidate]) -> bool
     ensures { result ≡ is_contested (ward_entry ward.now) (map candidate_entry candidates.now) }
 {
     (ward.seats as usize) < candidates.len()
 }
 
-/// Whether the ward is to be polled: it is there, and contested.
+/// Returns whether the ward is to be polled: it exists and is contested.
 fn is_to_be_polled(ward: &Option<Ward>, candidates: &[Candidate]) -> bool
     ensures { result ≡ is_to_be_polled (option_map ward_entry ward.now) (map candidate_entry candidates.now) }
 {
@@ -93,9 +92,9 @@ fn is_to_be_polled(ward: &Option<Ward>, candidates: &[Candidate]) -> bool
     }
 }
 
-/// What stands against a command: of several reasons the one with the lowest number.
-pub(crate) fn objection_to(actor: u32, command: &WardCommand, part: &Part) -> Option<Reason>
-    ensures { result ≡ first_reason (objections actor command.now (part_entries part.now)) }
+/// Returns the objection to a command; if there are several, the one with the lowest number.
+pub(crate) fn objection_to(actor: u32, command: &WardCommand, part: &CommandInput) -> Option<Reason>
+    ensures { result ≡ first_reason (objections actor command.now (input_entries part.now)) }
 {
     if !is_in_range(actor, command) {
         return Some(Reason::NumberOutOfRange);
@@ -123,7 +122,7 @@ pub(crate) fn objection_to(actor: u32, command: &WardCommand, part: &Part) -> Op
 }
 
 #[tactic(auto, unfolding(crate::specs::Wards::subject_of))]
-/// What the receipt of a command is about.
+/// Returns the subject of a command's receipt.
 pub(crate) fn subject_of(alloc: Global, command: &WardCommand) -> Result<String, AllocError>
     ensures { IfOk result (λ text. string_bytes text ≡ subject_of command.now) }
 {
@@ -134,13 +133,13 @@ pub(crate) fn subject_of(alloc: Global, command: &WardCommand) -> Result<String,
 }
 
 #[tactic(auto, unfolding(crate::specs::Wards::reply_to))]
-/// What is replied where the command is accepted: of a closed ward also whether it is polled.
+/// Returns the reply to an accepted command; for a closed ward it includes whether it is polled.
 pub(crate) fn reply_to(
     alloc: Global,
     command: &WardCommand,
-    part: &Part,
+    part: &CommandInput,
 ) -> Result<String, AllocError>
-    ensures { IfOk result (λ text. string_bytes text ≡ reply_to command.now (part_entries part.now)) }
+    ensures { IfOk result (λ text. string_bytes text ≡ reply_to command.now (input_entries part.now)) }
 {
     match command {
         WardCommand::Add { ward, .. } => format!(in alloc; "ward {ward} added"),
@@ -153,9 +152,10 @@ pub(crate) fn reply_to(
     }
 }
 
-/// What the command does to the state: a closed ward is keyed where it is polled, and else sealed.
-pub(crate) fn effect_of(command: &WardCommand, part: &Part) -> Result<Effect, AllocError>
-    ensures { IfOk result (λ effect. effect_entry effect ≡ effect_of command.now (part_entries part.now)) }
+/// Returns the effect of a command on the state. When its nominations close, a contested ward enters keying, and an uncontested one
+/// is sealed. `AllocError` if an allocation fails.
+pub(crate) fn effect_of(command: &WardCommand, part: &CommandInput) -> Result<Effect, AllocError>
+    ensures { IfOk result (λ effect. effect_entry effect ≡ effect_of command.now (input_entries part.now)) }
 {
     match command {
         WardCommand::Add { ward, seats, name } => Ok(Effect::WardAdded(Ward {

@@ -1,17 +1,17 @@
--- What a walk over wards and their candidates tells of the state of the rows.
+-- What a walk through wards and their candidates proves about the state of the rows.
 use Rattle.std.proofs.Common.{◌≡◌, ◌≤◌, map, refl, ◌∙◌, arith}
 use Rattle.std.specs.declared.cmp.Ordering.{Ordering}
 use Rattle.std.specs.declared.cmp.Ordering.TheVariants.{Less, Equal, Greater}
 use Rattle.std.specs.Ordering.{nat_cmp, ordering_then}
-use Rattle.register.specs.Offices.{WardEntry, CandidateEntry, MapsRise, ward_entry, candidate_entry, candidate_cmp}
+use Rattle.register.specs.Offices.{WardEntry, CandidateEntry, MapsAreSorted, ward_entry, candidate_entry, candidate_cmp}
 use Rattle.register.specs.Nominations.{are_enough}
-use Rattle.register.specs.Items.{all_nominated}
+use Rattle.register.specs.StateConditions.{all_nominated}
 use Rattle.rowcheck.specs.declared.rows.Rows.{Rows}
 use Rattle.rowcheck.specs.States.{state_of}
 use Rattle.rowcheck.specs.Walks.Nominations.{are_nominated}
 use Rattle.rowcheck.proofs.SideBySideLemmas.{by_run_map, below_from, equal_from, walk_tells}
 
--- candidates in the order of their keys are in the order of their wards
+-- candidates in key order are in the order of their wards
 ward_order : (c d : CandidateEntry) → candidate_cmp c d ≡ Less → c.ward ≤ d.ward
 ward_order c d less = go (nat_cmp c.ward d.ward) refl less
   where
@@ -20,8 +20,8 @@ ward_order c d less = go (nat_cmp c.ward d.ward) refl less
     go Equal is told = let e = equal_from c.ward d.ward is in omega (arith, e)
     go Greater is told = absurd (cc)
 
--- the walk tells whether each candidate has its ward, and each ward has the candidates that its phase asks for
-pub walked : (rows : Rows) → MapsRise (state_of rows) → are_nominated rows.wards.items rows.candidates.items ≡ all_nominated (state_of rows)
+-- the walk checks whether every candidate has its ward, and every ward has the candidates that its phase requires
+pub walked : (rows : Rows) → MapsAreSorted (state_of rows) → are_nominated rows.wards.items rows.candidates.items ≡ all_nominated (state_of rows)
 walked rows rise =
     by_run_map ward_entry candidate_entry (λ (w : WardEntry). w.number) (λ (c : CandidateEntry). c.ward) (λ w candidates. are_enough w.phase w candidates) rows.wards.items rows.candidates.items
     ∙ walk_tells (λ (w : WardEntry). w.number) (λ (c : CandidateEntry). c.ward) candidate_cmp ward_order (λ w candidates. are_enough w.phase w candidates) (map ward_entry rows.wards.items)

@@ -13,14 +13,14 @@ use Rattle.register.specs.declared.counts.DrawnLot.{DrawnLot}
 use Rattle.register.specs.Offices.{WardEntry, LotEntry, OfficeState, ward_entry, lot_entry, ward_cmp, ward_compared, entry_at, ward_at, candidates_of}
 use Rattle.register.specs.Nominations.{is_contested}
 use Rattle.register.specs.Elections.{election_of, contest_of, is_counted_right}
-use Rattle.register.specs.Items.{is_ward, is_candidate, is_batch, is_third, is_keyed_paper, is_judged_paper, is_lot, is_receipt, all_in_range, all_counted}
+use Rattle.register.specs.StateConditions.{is_ward, is_candidate, is_batch, is_third, is_keyed_paper, is_judged_paper, is_lot, is_receipt, all_in_range, all_counted}
 use Rattle.register.proofs.MapLemmas.{each_weaker}
 use Rattle.rowcheck.specs.declared.rows.Rows.{Rows}
 use Rattle.rowcheck.specs.States.{state_of}
 use Rattle.rowcheck.specs.Walks.Counts.{IsFair}
 use Rattle.rowcheck.proofs.SideBySideLemmas.{below_from, more_differs}
 
--- of rows in range the lots are
+-- the lots of rows in range are in range
 pub lots_in_range : (s : OfficeState) → all_in_range s ≡ true → list_all is_lot s.lots ≡ true
 lots_in_range s in_range =
     let candidates = (and_parts (list_all is_ward s.wards) _ in_range).1 in
@@ -31,14 +31,14 @@ lots_in_range s in_range =
     let lots = (and_parts (list_all is_judged_paper s.verdicts) _ verdicts).1 in
     (and_parts (list_all is_lot s.lots) (list_all is_receipt s.receipts) lots).0
 
--- a ward that is found by its number
+-- a ward is found by its number
 abbrev IsFound : List WardEntry → WardEntry → Type 0
 IsFound ws w = entry_at (ward_compared w.number) ws ≡ Some w
 
 found_first : (w : WardEntry) (ws : List WardEntry) → IsFound (w ∷ ws) w
 found_first w ws = rw (unsigned_tied w.number w.number ∙ eq-eqb w.number w.number refl) refl
 
--- of wards in the order of their numbers each one is
+-- in wards in the order of their numbers every ward is found
 each_found : (ws : List WardEntry) → IsStrictlySortedBy ward_cmp ws → AllByRecursion (IsFound ws) ws
 unfolding IsStrictlySortedBy
 each_found [] up = tt
@@ -54,7 +54,7 @@ each_of : {X Y : Type 0} (P : Y → Type 0) (f : X → Y) (xs : List X) → AllB
 each_of P f [] all = tt
 each_of P f (x ∷ xs) all = (all.0, each_of P f xs all.1)
 
--- where the count of each contested ward that is found can be held, that of each ward of the rows can
+-- if the count of every contested ward that is found can be held, that of every ward of the rows can
 pub all_fair : (rows : Rows) → IsStrictlySortedBy ward_cmp (state_of rows).wards
     → ((w : WardEntry) → ward_at (state_of rows) w.number ≡ Some w → is_contested w (candidates_of (state_of rows) w.number) ≡ true → IsContest (contest_of (election_of (state_of rows) w)))
     → AllByRecursion (λ w. IsFair (state_of rows) (ward_entry w)) rows.wards.items
@@ -63,7 +63,7 @@ all_fair rows rise fair =
     each_weaker (IsFound (state_of rows).wards) (IsFair (state_of rows)) (state_of rows).wards (λ w found contested. fair w found contested) (each_found (state_of rows).wards rise)
     )
 
--- where each lot has its ward, what is asked is asked of each ward of the rows
+-- if every lot has its ward, the condition on the counts is the condition on every ward of the rows
 pub by_ward : (rows : Rows) → list_all (λ (l : DrawnLot). is_some (ward_at (state_of rows) l.ward)) rows.lots.items ≡ true
     → all_counted (state_of rows) ≡ list_all (λ (w : Ward). is_counted_right (election_of (state_of rows) (ward_entry w))) rows.wards.items
 unfolding all_counted

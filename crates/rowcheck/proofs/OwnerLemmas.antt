@@ -1,5 +1,4 @@
--- Rows by those that they belong to: what is asked of each row and its owner is asked of the rows of each owner, where each row
--- has one.
+-- Rows by owner: a condition on every row and its owner is a condition on the rows of every owner, if every row has one.
 use Rattle.std.proofs.Common.{◌≡◌, ℕ, ◌-◌, ◌<◌, ◌==◌, Bool, true, false, not, ◌&&◌, ◌||◌, cond, List, [], ◌∷◌, filter, Option, Some, None, is_some, zero, suc, refl, sym, arith, inl, inr}
 use Rattle.std.specs.List.{AllByRecursion, list_all}
 use Rattle.std.specs.List.Sorted.{IsStrictlySortedBy}
@@ -8,8 +7,8 @@ use Rattle.std.specs.Ordering.{nat_cmp, on}
 use Rattle.std.specs.Cmp.{unsigned_tied}
 use Rattle.std.proofs.lemmas.Bool.Decides.{eqb_tells}
 use Rattle.register.specs.Offices.{BatchEntry, KeyedEntry, OfficeState, batch_cmp, entry_at, batch_at}
-use Rattle.register.specs.Keyed.{is_keyed_for, is_round_of, are_rounds_to}
-use Rattle.register.specs.Items.{all_keyed}
+use Rattle.register.specs.BatchConditions.{is_keyed_for, is_round_of, are_rounds_to}
+use Rattle.register.specs.StateConditions.{all_keyed}
 use Rattle.register.proofs.KeyedLemmas.{rounds_more, no_rounds}
 use Rattle.rowcheck.specs.Walks.Keyings.{are_keyed_for, is_rightly_keyed}
 use Rattle.rowcheck.proofs.SideBySideLemmas.{below_from, less_differs}
@@ -35,7 +34,7 @@ all_both {X} p q (x ∷ xs) = rw (all_both p q xs) (go (p x) (q x))
     go false b = refl
 
 module _ {W X : Type 0} (own : W → ℕ) (key : X → ℕ) (test : X → Option W → Bool) (unowned : (x : X) → test x None ≡ false) where
-  -- an owner, if it is that of the row, passes with it
+  -- an owner passes with a row, if it is the row's own
   abbrev passes_with : X → W → Bool
   passes_with x w = not (key x == own w) || test x (Some w)
 
@@ -45,7 +44,7 @@ module _ {W X : Type 0} (own : W → ℕ) (key : X → ℕ) (test : X → Option
       let higher = below_from (own w) (own v) above.0 in
       rw (less_differs (key x) (own v) (omega (arith, same, higher))) (others_pass x w same ws above.1)
 
-  -- a row with its owner, if that is there, passes where it passes with each owner that is its own
+  -- a row whose owner exists passes with it if it passes with every owner that is its own
   row_passes : (x : X) (ws : List W) → IsStrictlySortedBy (on own nat_cmp) ws
       → test x (entry_at (λ w. nat_cmp (key x) (own w)) ws) ≡ (is_some (entry_at (λ w. nat_cmp (key x) (own w)) ws) && list_all (passes_with x) ws)
   unfolding IsStrictlySortedBy
@@ -59,7 +58,7 @@ module _ {W X : Type 0} (own : W → ℕ) (key : X → ℕ) (test : X → Option
       whole true = refl
       whole false = refl
 
-  -- a row more among those of the owners
+  -- one more row among those of the owners
   rows_more : (x : X) (xs : List X) (ws : List W)
       → list_all (λ w. list_all (λ y. test y (Some w)) (filter (λ y. key y == own w) (x ∷ xs))) ws
       ≡ (list_all (passes_with x) ws && list_all (λ w. list_all (λ y. test y (Some w)) (filter (λ y. key y == own w) xs)) ws)
@@ -85,7 +84,7 @@ module _ {W X : Type 0} (own : W → ℕ) (key : X → ℕ) (test : X → Option
       go true r p q is = rw is (four (test x (Some w)) r p q)
       go false r p q is = rw is (three r p q)
 
-  -- what is asked of each row with its owner
+  -- the condition on every row with its owner
   pub by_owner : (ws : List W) (xs : List X) → IsStrictlySortedBy (on own nat_cmp) ws
       → list_all (λ x. test x (entry_at (λ w. nat_cmp (key x) (own w)) ws)) xs
       ≡ (list_all (λ x. is_some (entry_at (λ w. nat_cmp (key x) (own w)) ws)) xs && list_all (λ w. list_all (λ x. test x (Some w)) (filter (λ x. key x == own w) xs)) ws)
@@ -104,7 +103,7 @@ module _ {W X : Type 0} (own : W → ℕ) (key : X → ℕ) (test : X → Option
 -- ---- keyings
 
 module _ (s : OfficeState) (rise : IsStrictlySortedBy batch_cmp s.batches) where
-  -- each keyed paper has its batch, and each batch the papers of its rounds
+  -- every keyed paper has its batch, and every batch the papers of its rounds
   pub keyed_by_batch : (list_all (λ k. is_some (batch_at s k.batch)) s.keyings && list_all (is_rightly_keyed s) s.batches) ≡ all_keyed s
   keyed_by_batch =
       rw (

@@ -1,4 +1,4 @@
--- Rows walked side by side with those that they belong to: each owner's run is all that it has, and what is left has no owner.
+-- Rows walked side by side with their owners: the run of each owner is all of its rows, and what remains has no owner.
 use Rattle.std.proofs.Common.{◌≡◌, ℕ, ◌+◌, ◌<◌, ◌≤◌, ◌==◌, Bool, true, false, ◌&&◌, cond, nat_lt, List, [], ◌∷◌, map, length, get_or, filter, drop, take_while, is_some, suc, refl, sym, ap}
 use Rattle.std.proofs.Common.{◌∙◌, arith, inl, inr}
 use Rattle.std.specs.List.{AllByRecursion, list_all, prefix_len}
@@ -13,11 +13,11 @@ use Rattle.std.proofs.lemmas.List.{at_drop_more, length-map}
 use Rattle.std.proofs.lemmas.List.Sums.{take_while-cons}
 use Rattle.register.specs.Offices.{entry_at}
 use Rattle.register.proofs.MapLemmas.{each_weaker}
-use Rattle.rowcheck.specs.Walks.Runs.{skip_while, pass_by_run}
+use Rattle.rowcheck.specs.Walks.KeyRanges.{skip_while, pass_by_run}
 
 -- ---- fronts
 
--- what is left after a front
+-- what remains after a front
 pub drop_front : {X : Type 0} (p : X → Bool) (xs : List X) → drop (prefix_len p xs) xs ≡ skip_while p xs
 drop_front p [] = refl
 drop_front {X} p (x ∷ xs) = go (p x) (drop_front p xs)
@@ -47,7 +47,7 @@ unfolding IsStrictlySortedBy
 rest_rises cmp p [] up = tt
 rest_rises {X} cmp p (x ∷ xs) up = elim (p x) as (λ b. IsStrictlySortedBy cmp (cond b (skip_while p xs) (x ∷ xs))) [ true ↦ rest_rises cmp p xs up.1 | false ↦ up ]
 
--- ---- one walk, over rows or over what they stand for
+-- ---- one walk, through rows or through what they represent
 
 pub by_run_map : {V W X Y : Type 0} (f : V → W) (g : X → Y) (own : W → ℕ) (key : Y → ℕ) (test : W → List Y → Bool) (vs : List V) (xs : List X)
     → pass_by_run (λ v. own (f v)) (λ x. key (g x)) (λ v ys. test (f v) (map g ys)) vs xs ≡ pass_by_run own key test (map f vs) (map g xs)
@@ -56,13 +56,13 @@ by_run_map f g own key test (v ∷ vs) xs =
     rw (front_map g (λ y. key y == own (f v)) xs, rest_map g (λ y. key y == own (f v)) xs)
     (ap (λ b. test (f v) (map g (take_while (λ x. key (g x) == own (f v)) xs)) && b) (by_run_map f g own key test vs (skip_while (λ x. key (g x) == own (f v)) xs)))
 
--- one owner more
+-- one more owner
 pub by_run_more : {W X : Type 0} (own : W → ℕ) (key : X → ℕ) (test : W → List X → Bool) (ws : List W) (xs : List X) (i : ℕ) (w : W) → i < length ws → get_or ws i w ≡ w
     → pass_by_run own key test (drop i ws) xs ≡ (test w (take_while (λ x. key x == own w) xs) && pass_by_run own key test (drop (i + 1) ws) (skip_while (λ x. key x == own w) xs))
 by_run_more {W} own key test ws xs i w within is =
     at_drop_more (λ (vs : List W). pass_by_run own key test vs xs) ws i w within ∙ ap (λ (v : W). pass_by_run own key test (v ∷ drop (i + 1) ws) xs) is
 
--- ---- what a walk tells
+-- ---- what a walk proves
 
 swapped : (a p q : Bool) → (a && (p && q)) ≡ (p && (a && q))
 swapped true p q = refl
@@ -79,11 +79,11 @@ less_differs m n less = elim (eqb_tells m n) [ inl same ↦ absurd (let e = same
 pub more_differs : (m n : ℕ) → n < m → (m == n) ≡ false
 more_differs m n more = elim (eqb_tells m n) [ inl same ↦ absurd (let e = same.1 in omega (arith, e, more)) | inr other ↦ other.0 ]
 
--- a number compared as equal is equal
+-- numbers that compare as equal are equal
 pub equal_from : (m n : ℕ) → nat_cmp m n ≡ Equal → m ≡ n
 equal_from m n same = eqb-true m n (sym (unsigned_tied m n) ∙ ap is_eq same)
 
--- a number compared as less is less
+-- a number that compares as less is less
 pub below_from : (m n : ℕ) → nat_cmp m n ≡ Less → m < n
 below_from m n less = go (nat_lt m n) refl (m == n) less
   where
@@ -93,7 +93,7 @@ below_from m n less = go (nat_lt m n) refl (m == n) less
     go false is false told = absurd (cc)
 
 module _ {W X : Type 0} (own : W → ℕ) (key : X → ℕ) where
-  -- a row has an owner of its number
+  -- a row has an owner with its number
   abbrev is_owned : List W → X → Bool
   is_owned ws x = is_some (entry_at (λ w. nat_cmp (key x) (own w)) ws)
 
@@ -101,7 +101,7 @@ module _ {W X : Type 0} (own : W → ℕ) (key : X → ℕ) where
   abbrev rows_of : W → List X → List X
   rows_of w xs = filter (λ x. key x == own w) xs
 
-  -- each owner passes a test with its rows
+  -- every owner passes a test with its rows
   abbrev are_tested : (W → List X → Bool) → List W → List X → Bool
   are_tested test ws xs = list_all (λ w. test w (rows_of w xs)) ws
 
@@ -119,7 +119,7 @@ module _ {W X : Type 0} (own : W → ℕ) (key : X → ℕ) where
     none_owned ws [] above = refl
     none_owned ws (x ∷ xs) above = rw (unsigned_tied (key x) (own w) ∙ more_differs (key x) (own w) above.0) (ap (λ b. is_owned ws x && b) (none_owned ws xs above.1))
 
-    -- the rows of another owner stand behind the run
+    -- the rows of another owner come after the run
     rows_behind : (other : W) → own w < own other → (xs : List X) → rows_of other (skip_while (λ x. key x == own w) xs) ≡ rows_of other xs
     rows_behind other above [] = refl
     rows_behind other above (x ∷ xs) = elim (eqb_tells (key x) (own w)) [
@@ -132,11 +132,11 @@ module _ {W X : Type 0} (own : W → ℕ) (key : X → ℕ) where
     tested_behind test (v ∷ ws) above xs = rw (rows_behind v above.0 xs) (ap (λ b. test v (rows_of v xs) && b) (tested_behind test ws above.1 xs))
 
     module _ (cmp : X → X → Ordering) (below : (x y : X) → cmp x y ≡ Less → key x ≤ key y) where
-      -- where a row lies above, those after it do
+      -- if a row is above, so are those after it
       all_above : (x : X) (xs : List X) → own w < key x → AllByRecursion (λ y. cmp x y ≡ Less) xs → AllByRecursion (λ y. own w < key y) (x ∷ xs)
       all_above x xs above up = (above, each_weaker (λ y. cmp x y ≡ Less) (λ y. own w < key y) xs (λ y less. let e = below x y less in omega (arith, e, above)) up)
 
-      -- where none lies below, the rows of an owner are the run at the front
+      -- if none is below, the rows of an owner are the run at the front
       rows_at_front : (xs : List X) → IsStrictlySortedBy cmp xs → AllByRecursion (λ x. own w ≤ key x) xs → rows_of w xs ≡ take_while (λ x. key x == own w) xs
       unfolding IsStrictlySortedBy
       rows_at_front [] up least = refl
@@ -149,7 +149,7 @@ module _ {W X : Type 0} (own : W → ℕ) (key : X → ℕ) where
             rw (take_while-cons (λ y. key y == own w) x xs, away.0) (none_here xs (all_above x xs above up.0).1)
       ]
 
-      -- the run has this owner, and what is left has one only among the others
+      -- the run has this owner, and what remains is owned only by the others
       owned_behind : (ws : List W) (xs : List X) → IsStrictlySortedBy cmp xs → AllByRecursion (λ x. own w ≤ key x) xs
           → list_all (is_owned (w ∷ ws)) xs ≡ list_all (is_owned ws) (skip_while (λ x. key x == own w) xs)
       unfolding IsStrictlySortedBy
@@ -164,11 +164,11 @@ module _ {W X : Type 0} (own : W → ℕ) (key : X → ℕ) where
       ]
 
   module _ (cmp : X → X → Ordering) (below : (x y : X) → cmp x y ≡ Less → key x ≤ key y) (test : W → List X → Bool) where
-    -- what a walk is to tell: each row has an owner, and each owner passes with its rows
+    -- what a walk should prove: every row has an owner, and every owner passes with its rows
     abbrev Tells : List W → List X → Type 0
     Tells ws xs = pass_by_run own key test ws xs ≡ (list_all (is_owned ws) xs && are_tested test ws xs)
 
-    -- no row lies below the next owner
+    -- no row is below the next owner
     tells_above : (w : W) (ws : List W) (xs : List X) → AllByRecursion (λ v. own w < own v) ws → IsStrictlySortedBy cmp xs → AllByRecursion (λ x. own w ≤ key x) xs
         → Tells ws (skip_while (λ x. key x == own w) xs)
         → Tells (w ∷ ws) xs
@@ -176,7 +176,7 @@ module _ {W X : Type 0} (own : W → ℕ) (key : X → ℕ) where
         rw (rows_at_front w cmp below xs up least, owned_behind w cmp below ws xs up least, sym (tested_behind w test ws owners xs), later)
         (swapped (test w (take_while (λ x. key x == own w) xs)) (list_all (is_owned ws) (skip_while (λ x. key x == own w) xs)) (are_tested test ws (skip_while (λ x. key x == own w) xs)))
 
-    -- a row lies below the next owner, and so has none
+    -- a row below the next owner has no owner
     tells_below : (w : W) (ws : List W) (x : X) (xs : List X) → AllByRecursion (λ v. own w < own v) ws → key x < own w → Tells ws (x ∷ xs) → Tells (w ∷ ws) (x ∷ xs)
     tells_below w ws x xs owners low later =
         let differs = less_differs (key x) (own w) low in
@@ -184,7 +184,7 @@ module _ {W X : Type 0} (own : W → ℕ) (key : X → ℕ) where
         let none : pass_by_run own key test ws (x ∷ xs) ≡ false = later ∙ rw further refl in
         rw (take_while-cons (λ y. key y == own w) x xs, unsigned_tied (key x) (own w) ∙ differs, differs, none, further) (nothing (test w []))
 
-    -- with the owners and the rows in the order of their keys, a walk tells just that
+    -- with the owners and the rows in key order, a walk proves exactly that
     pub walk_tells : (ws : List W) (xs : List X) → IsStrictlySortedBy (on own nat_cmp) ws → IsStrictlySortedBy cmp xs → Tells ws xs
     unfolding IsStrictlySortedBy
     walk_tells [] [] owners up = refl

@@ -1,10 +1,10 @@
--- The maps that rows stand for, and what they have tabulated of the counts.
+-- The maps that rows represent, and what they have tabulated of the counts.
 use Rattle.std.specs.Prelude.{map}
 use Rattle.register.specs.Offices.{OfficeState, ward_entry, candidate_entry, batch_entry, third_entry, keyed_entry, judged_entry, lot_entry, receipt_entry}
 use Rattle.register.specs.Tabulated.{TabulationEntries, placed_entry, figure_entry}
 use Rattle.rowcheck.specs.declared.rows.Rows.{Rows}
 
--- the maps of the rows, entry by entry: a state only where they meet each condition
+-- the maps of the rows, entry by entry: a state only if they meet every condition
 abbrev pub state_of : Rows → OfficeState
 state_of rows =
     record {
@@ -18,6 +18,6 @@ state_of rows =
       receipts = map receipt_entry rows.receipts.items;
     }
 
--- the rows of what is tabulated, entry by entry
+-- the rows of the tabulation, entry by entry
 abbrev pub tabulated : Rows → TabulationEntries
 tabulated rows = record { bundles = map placed_entry rows.bundles.items; figures = map figure_entry rows.figures.items }

@@ -1,6 +1,6 @@
--- How the rows are walked through to judge each condition: what the private functions of this crate answer, which no promise of
--- it cites. Who reads the promises alone passes these by.
-pub mod Runs
+-- How the rows are walked through to check each condition: the results of this crate's private functions. No public promise cites this file; readers of
+-- the promises can skip it.
+pub mod KeyRanges
 pub mod Nominations
 pub mod Keyings
 pub mod Polls

@@ -2,9 +2,9 @@
 
 ghost use Rattle.std.specs.Prelude.{◌≡◌, map, option_map, option_copied};
 ghost use Rattle.std.specs.List.{list_all};
-ghost use Rattle.register.specs.Offices.{MapsRise, ward_entry, candidate_entry, batch_entry, third_entry, batch_at};
-ghost use Rattle.register.specs.Keyed.{is_polled, is_given_out, is_third_for};
-ghost use Rattle.register.specs.Items.{all_given_out};
+ghost use Rattle.register.specs.Offices.{MapsAreSorted, ward_entry, candidate_entry, batch_entry, third_entry, batch_at};
+ghost use Rattle.register.specs.BatchConditions.{is_polled, is_given_out, is_third_for};
+ghost use Rattle.register.specs.StateConditions.{all_given_out};
 ghost use Rattle.rowcheck.specs.States.{state_of};
 
 use crate::finding::{batch_at, candidates_of, ward_at};
@@ -12,7 +12,7 @@ use crate::rows::Rows;
 use register::wards::is_contested;
 use register::{Batch, Candidate, Phase, ThirdClerk, Ward};
 
-/// Whether a ward is there, past its nominations and contested.
+/// Returns whether a ward exists, is past its nominations and is contested.
 fn is_polled(ward: Option<&Ward>, candidates: &[Candidate]) -> bool
     ensures { result ≡ is_polled (option_map ward_entry (option_copied ward.entry)) (map candidate_entry candidates.now) }
 {
@@ -25,9 +25,9 @@ fn is_polled(ward: Option<&Ward>, candidates: &[Candidate]) -> bool
     }
 }
 
-/// Whether a batch has two clerks, and a ward that is polled.
+/// Returns whether a batch has two different clerks and belongs to a contested ward past its nominations.
 fn is_given_out(rows: &Rows, batch: &Batch) -> bool
-    requires { MapsRise (state_of rows.now) }
+    requires { MapsAreSorted (state_of rows.now) }
     ensures { result ≡ is_given_out (state_of rows.now) (batch_entry batch.now) }
 {
     let one_clerk = batch.first_clerk == batch.second_clerk;
@@ -36,13 +36,13 @@ fn is_given_out(rows: &Rows, batch: &Batch) -> bool
 }
 
 fn are_given_out(rows: &Rows, batches: &[Batch]) -> bool
-    requires { MapsRise (state_of rows.now) }
+    requires { MapsAreSorted (state_of rows.now) }
     ensures { result ≡ list_all (λ b. is_given_out (state_of rows.now) (batch_entry b)) batches.now }
 {
     batches.iter().all(|batch| is_given_out(rows, batch))
 }
 
-/// Whether a batch is there, and a third clerk is neither of its two.
+/// Returns whether a batch exists and a third clerk is neither of its two clerks.
 fn is_third_for(third: &ThirdClerk, batch: Option<&Batch>) -> bool
     ensures { result ≡ is_third_for (third_entry third.now) (option_map batch_entry (option_copied batch.entry)) }
 {
@@ -56,26 +56,26 @@ fn is_third_for(third: &ThirdClerk, batch: Option<&Batch>) -> bool
     }
 }
 
-/// Whether a third clerk has a batch that is there, and is neither of its two.
+/// Returns whether a third clerk's batch exists and the third clerk is neither of its two clerks.
 fn is_set_right(rows: &Rows, third: &ThirdClerk) -> bool
-    requires { MapsRise (state_of rows.now) }
+    requires { MapsAreSorted (state_of rows.now) }
     ensures { result ≡ is_third_for (third_entry third.now) (batch_at (state_of rows.now) third.now.batch) }
 {
     is_third_for(third, batch_at(rows, third.batch))
 }
 
 fn are_set_right(rows: &Rows, thirds: &[ThirdClerk]) -> bool
-    requires { MapsRise (state_of rows.now) }
+    requires { MapsAreSorted (state_of rows.now) }
     ensures { result ≡ list_all (λ t. is_third_for (third_entry t) (batch_at (state_of rows.now) t.batch)) thirds.now }
 {
     thirds.iter().all(|third| is_set_right(rows, third))
 }
 
-/// Whether batches belong to contested wards past their nominations, and their two clerks differ; and whether third clerks belong
-/// to batches that are there, and are neither of the two clerks. This is the third condition on the rows of an office, whose
-/// tables stand in the order of their keys, no key twice.
+/// Returns whether every batch belongs to a contested ward past its nominations and has two different clerks, and every
+/// third clerk belongs to an existing batch and is neither of its two clerks. This is the third condition on the rows of an
+/// office, whose tables are in key order without duplicates.
 pub fn all_given_out(rows: &Rows) -> bool
-    requires { MapsRise (state_of rows.now) }
+    requires { MapsAreSorted (state_of rows.now) }
     ensures { result ≡ all_given_out (state_of rows.now) }
 {
     let given_out = are_given_out(rows, &rows.batches);

@@ -1,15 +1,15 @@
-//! The counts of wards: the stages that are done, the lots that are drawn, and what is tabulated of them.
+//! The counts of wards: the stages done, the lots drawn, and the tabulation.
 //!
 //! The stages of a count, and what is due before each, follow from its papers and lots. So they are counted again, once, and
-//! compared with what the rows say of them. Bundles and figures are kept for `is_tabulated`.
+//! compared with the rows. The bundles and figures are kept for `is_tabulated`.
 
 ghost use Rattle.std.specs.Prelude.{◌≡◌, ◌≤◌, ◌<◌, true, [], map, slice_get, option_copied, is_some, IfOk, IfSome, OnOk};
 ghost use Rattle.std.specs.List.{list_all, flat_map, AllByRecursion};
 ghost use Rattle.count.specs.Law.Contest.{IsContest};
-ghost use Rattle.register.specs.Offices.{MapsRise, ward_entry, candidate_entry, ward_at};
-ghost use Rattle.register.specs.Elections.{ElectionEntry, IsMadeOf, election_of, has_count, contest_of, stages_of};
+ghost use Rattle.register.specs.Offices.{MapsAreSorted, ward_entry, candidate_entry, ward_at};
+ghost use Rattle.register.specs.Elections.{ElectionEntry, IsElectionFrom, election_of, has_count, contest_of, stages_of};
 ghost use Rattle.register.specs.Elections.{is_declared, has_finished, is_among, is_right_so_far, is_uncounted, is_counted_right};
-ghost use Rattle.register.specs.Items.{is_lot, all_in_range, all_keyed, all_counted};
+ghost use Rattle.register.specs.StateConditions.{is_lot, all_in_range, all_keyed, all_counted};
 ghost use Rattle.register.specs.Tabulated.{bundles_in, figures_in, tabulation_of, tabulation_entries};
 ghost use Rattle.rowcheck.specs.States.{state_of};
 ghost use Rattle.rowcheck.specs.Walks.Counts.{IsFair, is_drawn_by, IsOnBundlesOf, HasCounted, IsAdded};
@@ -25,11 +25,10 @@ use register::ranges::LAST_LOT_STAGE;
 use register::{Ballots, Candidate, DrawnLot, Phase, Tabulation, Ward};
 use std::alloc::{AllocError, Global};
 
-/// How many stages are counted where more are said to be done than a count can have.
+/// The number of stages to count if the rows claim more than a count can have.
 const TOO_MANY: u32 = LAST_LOT_STAGE + 1;
 
-/// How many stages to count where so many are said to be done: that many, or, where no count has so many, one
-/// more than any count has.
+/// Returns how many stages to count if `done` are claimed: that many or, if no count has so many, one more than any count has.
 fn stages_asked(done: u32) -> u32
     ensures few { done ≤ 31 → result ≡ done }
     ensures many { 31 < done → result ≡ 32 }
@@ -40,7 +39,7 @@ fn stages_asked(done: u32) -> u32
     TOO_MANY
 }
 
-/// Whether a lot is due, if anything is, and a candidate is one of the tied.
+/// Returns whether a lot is due and a candidate is one of those tied.
 fn is_among(candidate: u8, due: Option<&Due>) -> bool
     ensures { result ≡ is_among candidate (option_copied due.entry) }
 {
@@ -50,7 +49,7 @@ fn is_among(candidate: u8, due: Option<&Due>) -> bool
     }
 }
 
-/// Whether a lot is for a stage before which one is due, and names one of the tied.
+/// Returns whether a lot is for a stage that needs one, and names one of those tied.
 fn is_drawn_by(dues: &[Due], lot: (u8, u8)) -> bool
     ensures { result ≡ is_drawn_by dues.now lot }
 {
@@ -65,7 +64,7 @@ fn are_drawn_by(dues: &[Due], lots: &[(u8, u8)]) -> bool
     lots.iter().all(|lot| is_drawn_by(dues, *lot))
 }
 
-/// Whether nothing is due any more after so many stages.
+/// Returns whether nothing more is due after this number of stages.
 fn is_finished_at(dues: &[Due], done: u32) -> bool
     ensures { result ≡ has_finished (slice_get dues.now done) }
 {
@@ -75,15 +74,15 @@ fn is_finished_at(dues: &[Due], done: u32) -> bool
     }
 }
 
-/// Whether a ward is declared.
+/// Returns whether a ward is declared.
 fn is_declared(phase: Phase) -> bool
     ensures { result ≡ is_declared phase }
 {
     phase.number() == Phase::Declared.number()
 }
 
-/// Counts in a new book the stages done of a ward, or those that there are. It answers whether they are as many as are done, each
-/// lot was needed, and in a declared ward nothing is due any more. An error is want of memory.
+/// Counts the stages done of a ward in a new book, or as many as there are. Returns whether there are as many as are done,
+/// every lot was needed, and in a declared ward nothing more is due. `AllocError` if an allocation fails.
 fn count_done(
     alloc: Global,
     ward: &Ward,
@@ -103,8 +102,7 @@ fn count_done(
     Ok(counted & (drawn & (!is_declared(ward.phase) | finished)))
 }
 
-/// Adds what a book has counted of a ward to what is tabulated, once a stage is done. An error is want of
-/// memory.
+/// Adds the bundles and the figures of a ward's count to the tabulation, if a stage is done. `AllocError` if an allocation fails.
 fn add_stages(
     alloc: Global,
     ward: &Ward,
@@ -119,7 +117,7 @@ fn add_stages(
     if ward.done == 0 {
         return Ok(());
     }
-    // by its clauses the proof knows that each list stands once, so that the book's bundles are these
+    // the proof learns from the clauses of `len` that the lists are distinct, so that these are the book's bundles
     let _ = bundles.len();
     tabulation.add(
         alloc,
@@ -131,8 +129,8 @@ fn add_stages(
     )
 }
 
-/// Adds what there is of the count of a ward to what is tabulated, and answers whether it is right. It is right where it has the
-/// stages done, each lot was needed, and in a declared ward nothing is due any more. An error is want of memory.
+/// Adds what there is of the count of a ward to the tabulation, and returns whether it is right: it has the stages done,
+/// every lot was needed, and in a declared ward nothing more is due. `AllocError` if an allocation fails.
 fn add_from_ballots(
     alloc: Global,
     ward: &Ward,
@@ -141,9 +139,9 @@ fn add_from_ballots(
     lots: &[(u8, u8)],
     tabulation: &mut Tabulation,
 ) -> Result<bool, AllocError>
-    ensures is { IfOk result (λ yes. (e : ElectionEntry) → IsMadeOf e (ward_entry ward.now) (map candidate_entry candidates.now) ballots.now lots.now
+    ensures is { IfOk result (λ yes. (e : ElectionEntry) → IsElectionFrom e (ward_entry ward.now) (map candidate_entry candidates.now) ballots.now lots.now
         → IsContest (contest_of e) → yes ≡ is_right_so_far e) }
-    ensures added { IfOk result (λ yes. (e : ElectionEntry) → IsMadeOf e (ward_entry ward.now) (map candidate_entry candidates.now) ballots.now lots.now
+    ensures added { IfOk result (λ yes. (e : ElectionEntry) → IsElectionFrom e (ward_entry ward.now) (map candidate_entry candidates.now) ballots.now lots.now
         → IsContest (contest_of e) → has_count e ≡ true → yes ≡ true → IsAdded e (tabulation_entries tabulation.old) (tabulation_entries tabulation.new)) }
 {
     let columns = columns_of(candidates);
@@ -157,14 +155,14 @@ fn add_from_ballots(
     Ok(true)
 }
 
-/// The same of the papers and lots of a ward that is in count. An error is want of memory.
+/// Does the same from the papers and lots of a ward that is in count. `AllocError` if an allocation fails.
 fn add_in_count(
     alloc: Global,
     rows: &Rows,
     ward: &Ward,
     tabulation: &mut Tabulation,
 ) -> Result<bool, AllocError>
-    requires rise { MapsRise (state_of rows.now) }
+    requires rise { MapsAreSorted (state_of rows.now) }
     requires in_range { list_all is_lot (state_of rows.now).lots ≡ true }
     requires contested { has_count (election_of (state_of rows.now) (ward_entry ward.now)) ≡ true }
     requires fair { IsContest (contest_of (election_of (state_of rows.now) (ward_entry ward.now))) }
@@ -179,24 +177,24 @@ fn add_in_count(
     }
 }
 
-/// Whether no stage of a ward is done, and no lot is recorded.
+/// Returns whether no stage of a ward is done and no lot is recorded.
 fn is_uncounted(rows: &Rows, ward: &Ward) -> bool
-    requires { MapsRise (state_of rows.now) }
+    requires { MapsAreSorted (state_of rows.now) }
     ensures { result ≡ is_uncounted (election_of (state_of rows.now) (ward_entry ward.now)) }
 {
     let undrawn = lots_of(rows, ward.number).is_empty();
     (ward.done == 0) & undrawn
 }
 
-/// Adds what there is of a ward's count to what is tabulated. It answers whether what is done of the count is right, and nothing
-/// is done where there is no count. An error is want of memory.
+/// Adds what there is of a ward's count to the tabulation. Returns whether what is done of the count is right; without a
+/// count nothing may be done. `AllocError` if an allocation fails.
 fn add_count(
     alloc: Global,
     rows: &Rows,
     ward: &Ward,
     tabulation: &mut Tabulation,
 ) -> Result<bool, AllocError>
-    requires rise { MapsRise (state_of rows.now) }
+    requires rise { MapsAreSorted (state_of rows.now) }
     requires in_range { list_all is_lot (state_of rows.now).lots ≡ true }
     requires fair { IsFair (state_of rows.now) (ward_entry ward.now) }
     ensures is { IfOk result (λ yes. yes ≡ is_counted_right (election_of (state_of rows.now) (ward_entry ward.now))) }
@@ -208,14 +206,13 @@ fn add_count(
     Ok(is_uncounted(rows, ward))
 }
 
-/// What is tabulated of the counts of some wards, where they are right; none where one isn't. An error is
-/// want of memory.
+/// Returns the tabulation of these wards' counts if all are right; none if one isn't. `AllocError` if an allocation fails.
 fn tabulation_in(
     alloc: Global,
     rows: &Rows,
     wards: &[Ward],
 ) -> Result<Option<Tabulation>, AllocError>
-    requires rise { MapsRise (state_of rows.now) }
+    requires rise { MapsAreSorted (state_of rows.now) }
     requires in_range { list_all is_lot (state_of rows.now).lots ≡ true }
     requires fair { AllByRecursion (λ w. IsFair (state_of rows.now) (ward_entry w)) wards.now }
     ensures is { IfOk result (λ found. is_some found ≡ list_all (λ w. is_counted_right (election_of (state_of rows.now) (ward_entry w))) wards.now) }
@@ -232,22 +229,22 @@ fn tabulation_in(
 }
 
 fn are_of_wards(rows: &Rows, lots: &[DrawnLot]) -> bool
-    requires { MapsRise (state_of rows.now) }
+    requires { MapsAreSorted (state_of rows.now) }
     ensures { result ≡ list_all (λ l. is_some (ward_at (state_of rows.now) l.ward)) lots.now }
 {
     lots.iter().all(|lot| has_ward(rows, lot.ward))
 }
 
-/// Whether lots belong to wards that are there, and the counts are as the rows say. In each contested ward that was sealed the
-/// count of its papers by its lots has the stages that are done. Each of its lots was or is needed, for a stage up to the next
-/// one, and names one of those who were tied. The count is finished if the ward is declared. In each other ward no stage is done
-/// and no lot is there. This is the seventh condition on the rows of an office, whose tables stand in the order of their keys, no
-/// key twice, and meet the first and the fourth.
+/// Checks whether lots belong to existing wards, and the counts are as the rows claim. In each contested ward that was
+/// sealed, the count of its papers with its lots must have the stages that are done. Each of its lots must be for a stage,
+/// up to the next one, that needed or needs it, and name one of those tied. If the ward is declared, the count must be
+/// finished. In any other ward no stage may be done and no lot recorded. This is the seventh condition on the rows of an
+/// office, whose tables are in key order without duplicates and meet the first and the fourth.
 ///
-/// Where it is met, the answer is what is tabulated of these counts, which `is_tabulated` compares; else there is none.
-/// An error is want of memory.
+/// Returns the tabulation of these counts, which `is_tabulated` compares, if the condition is met, otherwise none.
+/// `AllocError` if an allocation fails.
 pub fn all_counted(alloc: Global, rows: &Rows) -> Result<Option<Tabulation>, AllocError>
-    requires rise { MapsRise (state_of rows.now) }
+    requires rise { MapsAreSorted (state_of rows.now) }
     requires in_range { all_in_range (state_of rows.now) ≡ true }
     requires keyed { all_keyed (state_of rows.now) ≡ true }
     ensures is { IfOk result (λ found. is_some found ≡ all_counted (state_of rows.now)) }

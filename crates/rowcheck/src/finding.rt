@@ -2,19 +2,19 @@
 
 ghost use Rattle.std.specs.Prelude.{◌≡◌, map, is_some, option_map, option_copied};
 ghost use Rattle.std.specs.Ordering.{nat_cmp, ordering_then};
-ghost use Rattle.register.specs.Offices.{MapsRise, ward_entry, candidate_entry, batch_entry, third_entry, keyed_entry, judged_entry, lot_entry, ward_at, candidates_of, batch_at, third_at};
+ghost use Rattle.register.specs.Offices.{MapsAreSorted, ward_entry, candidate_entry, batch_entry, third_entry, keyed_entry, judged_entry, lot_entry, ward_at, candidates_of, batch_at, third_at};
 ghost use Rattle.register.specs.Offices.{keying_of, verdicts_of, lots_of};
-ghost use Rattle.register.specs.Papers.{of_three, keying_by, keyings_in};
+ghost use Rattle.register.specs.Agreement.{of_three, keying_by, keyings_in};
 ghost use Rattle.rowcheck.specs.States.{state_of};
 ghost use Rattle.rowcheck.specs.Walks.Keyings.{papers_of};
 
+use crate::key_ranges::{Row, run_of};
 use crate::rows::Rows;
-use crate::runs::{Row, run_of};
-use register::papers::{clerks_of, keyings_are_by_clerks};
+use register::agreement::{clerks_of, keyings_are_by_clerks};
 use register::{Batch, Candidate, DrawnLot, JudgedPaper, KeyedPaper, ThirdClerk, Ward};
 use std::cmp::Ordering;
 
-/// The key of a keying: what a clerk keyed of a batch in a round.
+/// The key of a keying: a batch, a round and a clerk.
 #[derive(Clone, Copy)]
 struct KeyingKey {
     batch: u32,
@@ -22,7 +22,7 @@ struct KeyingKey {
     clerk: u32,
 }
 
-/// The keyings of a batch in a round, in the order of the clerks' numbers, each empty where it isn't there.
+/// The keyings of a batch in a round, in the order of the clerks' numbers; a missing one is empty.
 #[derive(Clone, Copy)]
 pub(crate) struct RoundKeyings<'a> {
     pub(crate) first: &'a [KeyedPaper],
@@ -96,57 +96,57 @@ impl Row<u32> for DrawnLot {
     }
 }
 
-/// The ward with this number.
+/// Returns the ward with this number.
 pub fn ward_at(rows: &Rows, number: u32) -> Option<&Ward>
-    requires { MapsRise (state_of rows.now) }
+    requires { MapsAreSorted (state_of rows.now) }
     ensures { option_map ward_entry (option_copied result) ≡ ward_at (state_of rows.now) number }
 {
     run_of(&rows.wards, &number).first()
 }
 
-/// Whether there is a ward with this number.
+/// Returns whether there is a ward with this number.
 pub(crate) fn has_ward(rows: &Rows, number: u32) -> bool
-    requires { MapsRise (state_of rows.now) }
+    requires { MapsAreSorted (state_of rows.now) }
     ensures { result ≡ is_some (ward_at (state_of rows.now) number) }
 {
     ward_at(rows, number).is_some()
 }
 
-/// The candidates of a ward, in the order of their numbers.
+/// Returns the candidates of a ward, by number.
 pub fn candidates_of(rows: &Rows, ward: u32) -> &[Candidate]
-    requires { MapsRise (state_of rows.now) }
+    requires { MapsAreSorted (state_of rows.now) }
     ensures { map candidate_entry result.now ≡ candidates_of (state_of rows.now) ward }
 {
     run_of(&rows.candidates, &ward)
 }
 
-/// The batch with this number.
+/// Returns the batch with this number.
 pub(crate) fn batch_at(rows: &Rows, number: u32) -> Option<&Batch>
-    requires { MapsRise (state_of rows.now) }
+    requires { MapsAreSorted (state_of rows.now) }
     ensures { option_map batch_entry (option_copied result) ≡ batch_at (state_of rows.now) number }
 {
     run_of(&rows.batches, &number).first()
 }
 
-/// Whether there is a batch with this number.
+/// Returns whether there is a batch with this number.
 pub(crate) fn has_batch(rows: &Rows, number: u32) -> bool
-    requires { MapsRise (state_of rows.now) }
+    requires { MapsAreSorted (state_of rows.now) }
     ensures { result ≡ is_some (batch_at (state_of rows.now) number) }
 {
     batch_at(rows, number).is_some()
 }
 
-/// The row of a batch's third clerk, if one is set.
+/// Returns the row of a batch's third clerk, if one is assigned.
 fn third_row(rows: &Rows, batch: u32) -> Option<&ThirdClerk>
-    requires { MapsRise (state_of rows.now) }
+    requires { MapsAreSorted (state_of rows.now) }
     ensures { option_map third_entry (option_copied result) ≡ third_at (state_of rows.now) batch }
 {
     run_of(&rows.thirds, &batch).first()
 }
 
-/// The third clerk of a batch, if one is set.
+/// Returns the third clerk of a batch, if one is assigned.
 pub fn third_at(rows: &Rows, batch: u32) -> Option<ThirdClerk>
-    requires { MapsRise (state_of rows.now) }
+    requires { MapsAreSorted (state_of rows.now) }
     ensures { option_map third_entry result ≡ third_at (state_of rows.now) batch }
 {
     match third_row(rows, batch) {
@@ -158,17 +158,17 @@ pub fn third_at(rows: &Rows, batch: u32) -> Option<ThirdClerk>
     }
 }
 
-/// The papers that are keyed of a batch, in all its rounds and by all its clerks.
+/// Returns the papers keyed of a batch, in all its rounds and by all its clerks.
 pub(crate) fn papers_of(rows: &Rows, batch: u32) -> &[KeyedPaper]
-    requires { MapsRise (state_of rows.now) }
+    requires { MapsAreSorted (state_of rows.now) }
     ensures { map keyed_entry result.now ≡ papers_of (state_of rows.now) batch }
 {
     run_of(&rows.keyings, &batch)
 }
 
-/// What a clerk keyed of a batch in a round, in the order of the papers.
+/// Returns a clerk's keying of a batch in a round, in the order of the papers.
 pub fn keying_of(rows: &Rows, batch: u32, round: u32, clerk: u32) -> &[KeyedPaper]
-    requires { MapsRise (state_of rows.now) }
+    requires { MapsAreSorted (state_of rows.now) }
     ensures { map keyed_entry result.now ≡ keying_of (state_of rows.now) batch round clerk }
 {
     let key = KeyingKey {
@@ -179,9 +179,9 @@ pub fn keying_of(rows: &Rows, batch: u32, round: u32, clerk: u32) -> &[KeyedPape
     run_of(&rows.keyings, &key)
 }
 
-/// What a clerk keyed of a batch in a round, or nothing where there is no such clerk.
+/// Returns a clerk's keying of a batch in a round, or nothing if there is no such clerk.
 fn keying_by(rows: &Rows, batch: u32, round: u32, clerk: Option<u32>) -> &[KeyedPaper]
-    requires { MapsRise (state_of rows.now) }
+    requires { MapsAreSorted (state_of rows.now) }
     ensures { map keyed_entry result.now ≡ keying_by (state_of rows.now) batch round clerk }
 {
     match clerk {
@@ -190,9 +190,9 @@ fn keying_by(rows: &Rows, batch: u32, round: u32, clerk: Option<u32>) -> &[Keyed
     }
 }
 
-/// The keyings of a batch in a round by its two or three clerks, in the order of their numbers.
+/// Returns the keyings of a batch in a round by its two or three clerks, in the order of their numbers.
 pub(crate) fn keyings_in<'a>(rows: &'a Rows, batch: &Batch, round: u32) -> RoundKeyings<'a>
-    requires { MapsRise (state_of rows.now) }
+    requires { MapsAreSorted (state_of rows.now) }
     ensures { of_three (map keyed_entry result.first.now) (map keyed_entry result.second.now) (map keyed_entry result.third.now) ≡ keyings_in (state_of rows.now) (batch_entry batch.now) round }
 {
     keyings_are_by_clerks();
@@ -204,17 +204,17 @@ pub(crate) fn keyings_in<'a>(rows: &'a Rows, batch: &Batch, round: u32) -> Round
     }
 }
 
-/// The verdicts on papers of a batch, in the order of the papers.
+/// Returns the verdicts on papers of a batch, in the order of the papers.
 pub fn verdicts_of(rows: &Rows, batch: u32) -> &[JudgedPaper]
-    requires { MapsRise (state_of rows.now) }
+    requires { MapsAreSorted (state_of rows.now) }
     ensures { map judged_entry result.now ≡ verdicts_of (state_of rows.now) batch }
 {
     run_of(&rows.verdicts, &batch)
 }
 
-/// The lots of a ward, in the order of the stages.
+/// Returns the lots of a ward, in the order of the stages.
 pub fn lots_of(rows: &Rows, ward: u32) -> &[DrawnLot]
-    requires { MapsRise (state_of rows.now) }
+    requires { MapsAreSorted (state_of rows.now) }
     ensures { map lot_entry result.now ≡ lots_of (state_of rows.now) ward }
 {
     run_of(&rows.lots, &ward)

@@ -1,29 +1,29 @@
 //! Keyed papers, and the batches that they belong to.
 //!
-//! Each keyed paper has its batch; then the papers of each batch are read by its columns, and its rounds
-//! are gone through, each keying a run of the rows.
+//! First every keyed paper must have its batch; then the papers of each batch are read by its columns, and its rounds are
+//! checked one by one, each keying being a run of the rows.
 
 ghost use Rattle.std.specs.Prelude.{◌≡◌, ◌&&◌, ◌||◌, not, true, nat_le, map, is_some, option_map, IfSome, string_bytes};
 ghost use Rattle.std.specs.List.{list_all};
-ghost use Rattle.register.specs.Offices.{MapsRise, batch_entry, third_entry, keyed_entry, batch_at};
+ghost use Rattle.register.specs.Offices.{MapsAreSorted, batch_entry, third_entry, keyed_entry, batch_at};
 ghost use Rattle.register.specs.Marks.{is_readable};
-ghost use Rattle.register.specs.Papers.{is_keyed, is_its_clerk, of_three};
-ghost use Rattle.register.specs.Keyed.{is_whole, are_numbered, is_round_of, are_rounds_to};
-ghost use Rattle.register.specs.Items.{all_keyed};
+ghost use Rattle.register.specs.Agreement.{is_keyed, is_its_clerk, of_three};
+ghost use Rattle.register.specs.BatchConditions.{is_whole, are_numbered, is_round_of, are_rounds_to};
+ghost use Rattle.register.specs.StateConditions.{all_keyed};
 ghost use Rattle.rowcheck.specs.States.{state_of};
 ghost use Rattle.rowcheck.specs.Walks.Keyings.{are_keyed_for, is_rightly_keyed};
 
 use crate::finding::{RoundKeyings, candidates_of, has_batch, keyings_in, papers_of, third_at};
 use crate::rows::Rows;
 use paper::Columns;
+use register::agreement::differ;
 use register::keyings::is_its_clerk;
 use register::marks::{columns_of, is_readable};
-use register::papers::differ;
 use register::{Batch, KeyedPaper, ThirdClerk};
 
-/// Whether there is a batch with this number. One with the number `known` is there for sure, and not looked up.
+/// Returns whether there is a batch with this number. The batch `known` is there for certain, and isn't looked up.
 fn is_there(rows: &Rows, known: Option<u32>, number: u32) -> bool
-    requires rise { MapsRise (state_of rows.now) }
+    requires rise { MapsAreSorted (state_of rows.now) }
     requires known { IfSome known (λ n. is_some (batch_at (state_of rows.now) n) ≡ true) }
     ensures { result ≡ is_some (batch_at (state_of rows.now) number) }
 {
@@ -33,10 +33,9 @@ fn is_there(rows: &Rows, known: Option<u32>, number: u32) -> bool
     }
 }
 
-/// Whether each keyed paper belongs to a batch that is there. The papers of a batch stand side by side, so
-/// that it is looked up once.
+/// Returns whether every keyed paper belongs to an existing batch. The papers of a batch are adjacent, so that it is looked up once.
 fn are_of_batches(rows: &Rows, keyings: &[KeyedPaper]) -> bool
-    requires { MapsRise (state_of rows.now) }
+    requires { MapsAreSorted (state_of rows.now) }
     ensures { result ≡ list_all (λ k. is_some (batch_at (state_of rows.now) k.batch)) keyings.now }
 {
     let mut known = None;
@@ -49,8 +48,8 @@ fn are_of_batches(rows: &Rows, keyings: &[KeyedPaper]) -> bool
     true
 }
 
-/// Whether a paper of a batch is keyed in a round up to its current one, by one of its clerks, with marks
-/// that these columns read.
+/// Returns whether a paper of a batch is keyed in a round up to its current one, by one of its clerks, with marks that these
+/// columns can read.
 fn is_keyed_for(
     batch: &Batch,
     third: &Option<ThirdClerk>,
@@ -79,9 +78,9 @@ fn are_papers_for(
         .all(|keyed| is_keyed_for(batch, third, columns, keyed))
 }
 
-/// Whether each paper that is keyed of a batch is keyed as the batch asks.
+/// Returns whether every keyed paper of a batch is keyed as `is_keyed_for` requires.
 fn are_keyed_for(rows: &Rows, batch: &Batch) -> bool
-    requires { MapsRise (state_of rows.now) }
+    requires { MapsAreSorted (state_of rows.now) }
     ensures { result ≡ are_keyed_for (state_of rows.now) (batch_entry batch.now) }
 {
     let columns = columns_of(candidates_of(rows, batch.ward));
@@ -89,8 +88,8 @@ fn are_keyed_for(rows: &Rows, batch: &Batch) -> bool
     are_papers_for(batch, &third, columns, papers_of(rows, batch.number))
 }
 
-#[tactic(auto, unfolding(register::specs::Keyed::are_numbered))]
-/// Whether papers are numbered from 1 on.
+#[tactic(auto, unfolding(register::specs::BatchConditions::are_numbered))]
+/// Returns whether papers are numbered from 1.
 fn are_numbered(keying: &[KeyedPaper]) -> bool
     ensures { result ≡ are_numbered 1 (map keyed_entry keying.now) }
 {
@@ -102,7 +101,7 @@ fn are_numbered(keying: &[KeyedPaper]) -> bool
     true
 }
 
-/// Whether a keying isn't there, or has each of so many papers once.
+/// Returns whether a keying is missing, or has exactly the papers from 1 to `size`, in order.
 fn is_whole_if_keyed(size: u32, keying: &[KeyedPaper]) -> bool
     ensures { result ≡ (not (is_keyed (map keyed_entry keying.now)) || is_whole size (map keyed_entry keying.now)) }
 {
@@ -113,7 +112,7 @@ fn is_whole_if_keyed(size: u32, keying: &[KeyedPaper]) -> bool
     full & are_numbered(keying)
 }
 
-/// Whether each of the keyings that are there has each of so many papers once.
+/// Returns whether every keying that exists has exactly the papers from 1 to `size`, in order.
 fn are_whole(size: u32, keyings: &RoundKeyings) -> bool
     ensures { result ≡ list_all (is_whole size) (of_three (map keyed_entry keyings.now.first.now) (map keyed_entry keyings.now.second.now) (map keyed_entry keyings.now.third.now)) }
 {
@@ -122,10 +121,9 @@ fn are_whole(size: u32, keyings: &RoundKeyings) -> bool
     first & (second & is_whole_if_keyed(size, keyings.third))
 }
 
-/// Whether each keying of a round is whole, and in an earlier round than the current one at least two are
-/// there, and no two of them equal.
+/// Returns whether every keying of a round is whole, and a round before the current one has at least two, no two of them equal.
 fn is_round_of(rows: &Rows, batch: &Batch, round: u32) -> bool
-    requires { MapsRise (state_of rows.now) }
+    requires { MapsAreSorted (state_of rows.now) }
     ensures { result ≡ is_round_of (state_of rows.now) (batch_entry batch.now) round }
 {
     let keyings = keyings_in(rows, batch, round);
@@ -134,9 +132,9 @@ fn is_round_of(rows: &Rows, batch: &Batch, round: u32) -> bool
     whole & (current | differ(keyings.first, keyings.second, keyings.third))
 }
 
-/// Whether each round of a batch, from the current one down to the first, is as a state asks.
+/// Returns whether every round of a batch, from the current one down to the first, meets the condition on a state.
 fn are_rounds(rows: &Rows, batch: &Batch) -> bool
-    requires { MapsRise (state_of rows.now) }
+    requires { MapsAreSorted (state_of rows.now) }
     ensures { result ≡ are_rounds_to (state_of rows.now) (batch_entry batch.now) batch.now.round }
 {
     for later in 0..batch.round {
@@ -147,9 +145,9 @@ fn are_rounds(rows: &Rows, batch: &Batch) -> bool
     true
 }
 
-/// Whether the keyed papers of a batch are as the batch asks, and its rounds as a state asks.
+/// Returns whether the keyed papers of a batch, and its rounds, meet the condition on a state.
 fn is_rightly_keyed(rows: &Rows, batch: &Batch) -> bool
-    requires { MapsRise (state_of rows.now) }
+    requires { MapsAreSorted (state_of rows.now) }
     ensures { result ≡ is_rightly_keyed (state_of rows.now) (batch_entry batch.now) }
 {
     let papers = are_keyed_for(rows, batch);
@@ -157,17 +155,17 @@ fn is_rightly_keyed(rows: &Rows, batch: &Batch) -> bool
 }
 
 fn are_rightly_keyed(rows: &Rows, batches: &[Batch]) -> bool
-    requires { MapsRise (state_of rows.now) }
+    requires { MapsAreSorted (state_of rows.now) }
     ensures { result ≡ list_all (λ b. is_rightly_keyed (state_of rows.now) (batch_entry b)) batches.now }
 {
     batches.iter().all(|batch| is_rightly_keyed(rows, batch))
 }
 
-/// Whether papers are keyed of batches that are there, in rounds and by clerks of theirs, with marks that are read. Each keying
-/// is whole then, and those of an earlier round differ. This is the fourth condition on the rows of an office, whose tables stand
-/// in the order of their keys, no key twice.
+/// Returns whether every keyed paper belongs to an existing batch, one of its rounds and one of its clerks, with marks that
+/// can be read; whether every keying is whole; and whether those of an earlier round differ. This is the fourth condition on
+/// the rows of an office, whose tables are in key order without duplicates.
 pub fn all_keyed(rows: &Rows) -> bool
-    requires { MapsRise (state_of rows.now) }
+    requires { MapsAreSorted (state_of rows.now) }
     ensures { result ≡ all_keyed (state_of rows.now) }
 {
     let owned = are_of_batches(rows, &rows.keyings);

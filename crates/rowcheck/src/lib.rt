@@ -1,40 +1,41 @@
 //! Which rows are the state of an office.
 //!
-//! When an office is opened, its tables are read into `Rows`, and each call here answers yes exactly
-//! where the rows meet one condition. An office opens only where all of them are met.
+//! When an office is opened, its tables are read into `Rows`, and each function here returns whether the rows meet one
+//! condition. An office opens only if all of them are met.
 //!
-//! A condition is a definition on the state in `register`'s `specs/Items.antt`, as `all_in_range`. Here a function of the same
-//! name, as `all_in_range(&rows)`, answers it for `state_of rows`. `all_counted` counts again, once, what is done of each count.
-//! Where the counts are right, it answers what is tabulated of them; an error is want of memory. With that `is_tabulated` compares
-//! the rows of bundles and figures, one by one: they are the tabulation of the state (`IsTabulationOf`, in `specs/Tabulated.antt`).
-//! No list is searched for each row of another. Lists in the order of their keys are walked side by side. Or the rows of a key,
-//! which stand side by side, are found by bisection (`runs`, `finding`). The batches alone are gone through for each ward in count,
-//! of which there are 99 at most; and the papers of one batch, 500 at most, for each verdict on one of them.
+//! A condition is a definition for the state in `register`'s `specs/Items.antt`, such as `all_in_range`. The function of the
+//! same name, such as `all_in_range(&rows)`, checks it for `state_of rows`. `all_counted` counts again, once, what is done
+//! of each count. If the counts are right it returns their tabulation; `AllocError` if an allocation fails. `is_tabulated`
+//! compares the rows of bundles and figures with that tabulation, one by one: they are the tabulation of the state
+//! (`IsTabulationOf`, in `specs/Tabulated.antt`). No list is searched once per row of another. Lists in key order are walked
+//! side by side, or the rows of a key, which are adjacent, are found by bisection (`runs`, `finding`). Only the batches are
+//! scanned once per ward in count, of which there are at most 99; and the papers of one batch, at most 500, once per verdict
+//! on one of them.
 //!
-//! The conditions have numbers too, as documents count them: `item1` to `item8`, each of which answers yes or no.
+//! The conditions also have numbers, by which documents refer to them: `item1` to `item8`, each of which returns a `bool`.
 //!
-//! `are_same` compares the rows of two offices, and `finding` has the rows of a key for whoever goes through an office.
+//! `are_same` compares the rows of two offices, and `finding` returns the rows of a key to callers that walk through an office.
 #![tactic(auto)]
 
-// The rows,
+// Rows,
 pub mod rows;
-// runs of them that bisection finds,
-mod runs;
-// and the entries that are found so.
+// the runs of them that bisection finds,
+mod key_ranges;
+// and the entries found this way.
 pub mod finding;
-// Two offices, compared.
+// Comparing two offices.
 mod sameness;
 // The conditions, and what they read: subjects of receipts, and numbers in them.
 mod batches;
 mod counts;
-mod items;
 mod keyings;
 mod nominations;
+mod numbered_conditions;
 mod plain;
 mod polls;
 mod ranges;
 mod subjects;
-mod tabulated;
+mod tabulation;
 mod verdicts;
 
 pub use batches::all_given_out;
@@ -45,14 +46,14 @@ pub use polls::all_agreed;
 pub use ranges::all_in_range;
 pub use rows::Rows;
 pub use sameness::are_same;
-pub use tabulated::is_tabulated;
+pub use tabulation::is_tabulated;
 pub use verdicts::all_judged;
 
-// The conditions by their numbers.
+// The conditions by number.
 pub use batches::all_given_out as item3;
-pub use items::{item7, item8};
 pub use keyings::all_keyed as item4;
 pub use nominations::all_nominated as item2;
+pub use numbered_conditions::{item7, item8};
 pub use polls::all_agreed as item6;
 pub use ranges::all_in_range as item1;
 pub use verdicts::all_judged as item5;

@@ -1,15 +1,15 @@
 //! Wards and their candidates.
 //!
-//! Both lists are walked once, side by side: the candidates of the next ward stand at the front of those
-//! that are left, and at the end none is left.
+//! Both lists are walked once, side by side: the candidates of the next ward are at the front of the remaining ones, and at
+//! the end none remains.
 
 ghost use Rattle.std.specs.Prelude.{◌≡◌, ◌==◌, map, take_while};
 ghost use Rattle.std.specs.List.{prefix_len};
-ghost use Rattle.register.specs.Offices.{MapsRise, ward_entry, candidate_entry};
+ghost use Rattle.register.specs.Offices.{MapsAreSorted, ward_entry, candidate_entry};
 ghost use Rattle.register.specs.Nominations.{are_enough};
-ghost use Rattle.register.specs.Items.{all_nominated};
+ghost use Rattle.register.specs.StateConditions.{all_nominated};
 ghost use Rattle.rowcheck.specs.States.{state_of};
-ghost use Rattle.rowcheck.specs.Walks.Runs.{skip_while};
+ghost use Rattle.rowcheck.specs.Walks.KeyRanges.{skip_while};
 ghost use Rattle.rowcheck.specs.Walks.Nominations.{are_nominated};
 
 use crate::rows::Rows;
@@ -36,7 +36,7 @@ fn run_length(ward: u32, candidates: &[Candidate]) -> usize
         .count()
 }
 
-/// The candidates of a ward that stand at the front, and those after them.
+/// Returns the candidates of a ward at the front, and those after them.
 fn split_run(ward: u32, candidates: &[Candidate]) -> (&[Candidate], &[Candidate])
     ensures run { result.0.now ≡ take_while (λ c. c.ward == ward) candidates.now }
     ensures rest { result.1.now ≡ skip_while (λ c. c.ward == ward) candidates.now }
@@ -44,7 +44,7 @@ fn split_run(ward: u32, candidates: &[Candidate]) -> (&[Candidate], &[Candidate]
     candidates.split_at(run_length(ward, candidates))
 }
 
-/// Whether each ward has the candidates that its phase asks for, and no candidate is left.
+/// Returns whether every ward has the candidates that its phase requires, and no candidate remains.
 fn are_nominated(wards: &[Ward], candidates: &[Candidate]) -> bool
     ensures { result ≡ are_nominated wards.now candidates.now }
 {
@@ -59,11 +59,11 @@ fn are_nominated(wards: &[Ward], candidates: &[Candidate]) -> bool
     left.is_empty()
 }
 
-/// Whether candidates belong to wards that are there, and each ward has the candidates that its phase asks for: more than seats
-/// in keying, one at least once it is sealed. This is the second condition on the rows of an office, whose wards and candidates
-/// stand in the order of their keys, no key twice.
+/// Returns whether every candidate belongs to an existing ward, and every ward has the candidates that its phase requires:
+/// more than seats during keying, at least one once it is sealed. This is the second condition on the rows of an office,
+/// whose wards and candidates are in key order without duplicates.
 pub fn all_nominated(rows: &Rows) -> bool
-    requires { MapsRise (state_of rows.now) }
+    requires { MapsAreSorted (state_of rows.now) }
     ensures { result ≡ all_nominated (state_of rows.now) }
 {
     are_nominated(&rows.wards, &rows.candidates)

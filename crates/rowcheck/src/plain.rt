@@ -1,4 +1,4 @@
-//! Numbers as they are written plainly.
+//! Numbers in plain notation.
 
 ghost use Rattle.std.specs.Prelude.{◌≡◌, ◌<◌, ◌&&◌, nat_le, position, Some, None, if◌then◌else◌};
 ghost use Rattle.std.specs.List.{before_first, after_first};
@@ -7,7 +7,7 @@ ghost use Rattle.std.specs.Str.Parse.{digits_value};
 ghost use Rattle.register.specs.Ranges.{is_between};
 ghost use Rattle.register.specs.Subjects.{is_plain_number, are_plain_numbers, is_space};
 
-/// The number that digits write, if it is at most `most`. Past that no digit more is read.
+/// Returns the number that digits represent, if it is at most `most`. Stops reading once the number exceeds that.
 fn number_up_to(most: u32, digits: &[u8]) -> Option<u32>
     requires { most < 10000 }
     ensures { result ≡ (if all_ascii_digits digits.now && nat_le (digits_value 10 digits.now) most then Some (digits_value 10 digits.now) else None) }
@@ -26,7 +26,7 @@ fn number_up_to(most: u32, digits: &[u8]) -> Option<u32>
     Some(so_far)
 }
 
-/// Whether a text is digits of a number in a range.
+/// Returns whether a text is digits of a number in a range.
 fn is_number_within(low: u32, high: u32, digits: &[u8]) -> bool
     requires { high < 10000 }
     ensures { result ≡ (all_ascii_digits digits.now && is_between low high (digits_value 10 digits.now)) }
@@ -38,8 +38,8 @@ fn is_number_within(low: u32, high: u32, digits: &[u8]) -> bool
 }
 
 #[tactic(auto, unfolding(register::specs::Subjects::is_plain_number))]
-/// Whether a text is a plain number in a range: digits, the first not 0. At most five bytes are read, however
-/// many zeros stand there.
+/// Returns whether a text is a plain number in a range: digits, the first not 0. Reads at most five bytes, however many
+/// zeros there are.
 pub(crate) fn is_plain_number(low: u32, high: u32, text: &[u8]) -> bool
     requires { high < 10000 }
     ensures { result ≡ is_plain_number low high text.now }
@@ -55,7 +55,7 @@ fn first_space(text: &[u8]) -> Option<usize>
     text.iter().position(|b| *b == b' ')
 }
 
-/// What stands before the first space, and what stands after it.
+/// Returns what is before the first space, and what is after it.
 pub(crate) fn parted(text: &[u8]) -> (&[u8], &[u8])
     ensures before { result.0.now ≡ before_first is_space text.now }
     ensures after { result.1.now ≡ after_first is_space text.now }
@@ -66,7 +66,7 @@ pub(crate) fn parted(text: &[u8]) -> (&[u8], &[u8])
     }
 }
 
-/// Whether a text is two plain numbers in their ranges, parted by a space.
+/// Returns whether a text is two plain numbers in their ranges, separated by a space.
 pub(crate) fn are_plain_numbers(low: u32, high: u32, least: u32, most: u32, text: &[u8]) -> bool
     requires first { high < 10000 }
     requires second { most < 10000 }

@@ -2,10 +2,10 @@
 
 ghost use Rattle.std.specs.Prelude.{◌≡◌, ◌++◌, ◌∷◌, [], map, IfOk};
 ghost use Rattle.std.specs.List.{list_all};
-ghost use Rattle.register.specs.Offices.{MapsRise, ward_entry, batch_entry};
+ghost use Rattle.register.specs.Offices.{MapsAreSorted, ward_entry, batch_entry};
 ghost use Rattle.register.specs.Polls.{pile_of, piles_of, is_settled, ballots_in, StandFor, are_bundled};
 ghost use Rattle.register.specs.Elections.{election_of, is_counted, is_in_count, is_agreed};
-ghost use Rattle.register.specs.Items.{all_agreed};
+ghost use Rattle.register.specs.StateConditions.{all_agreed};
 ghost use Rattle.rowcheck.specs.States.{state_of};
 ghost use Rattle.rowcheck.specs.Walks.Polls.{is_settled_for, piles_in};
 
@@ -13,12 +13,12 @@ use crate::finding::{candidates_of, keyings_in, verdicts_of};
 use crate::rows::Rows;
 use count::Bundles;
 use paper::Columns;
-use register::papers::{agreed, count_open, is_keyed};
+use register::agreement::{agreed, count_open, is_keyed};
 use register::wards::is_contested;
 use register::{Ballots, Batch, Phase, Ward};
 use std::alloc::{AllocError, Global};
 
-/// Whether a phase is that of a ward that has been sealed.
+/// Returns whether a phase is that of a ward that has been sealed.
 fn is_counted(phase: Phase) -> bool
     ensures { result ≡ is_counted phase }
 {
@@ -28,18 +28,18 @@ fn is_counted(phase: Phase) -> bool
     }
 }
 
-/// Whether a ward has been sealed, and its election is contested.
+/// Returns whether a ward has been sealed and its election is contested.
 pub(crate) fn is_in_count(rows: &Rows, ward: &Ward) -> bool
-    requires { MapsRise (state_of rows.now) }
+    requires { MapsAreSorted (state_of rows.now) }
     ensures { result ≡ is_in_count (election_of (state_of rows.now) (ward_entry ward.now)) }
 {
     let contested = is_contested(ward, candidates_of(rows, ward.number));
     is_counted(ward.phase) & contested
 }
 
-/// Whether a batch is taken, and each doubtful paper of it has a verdict.
+/// Returns whether a batch is taken and every doubtful paper of it has a verdict.
 fn is_settled(rows: &Rows, batch: &Batch) -> bool
-    requires { MapsRise (state_of rows.now) }
+    requires { MapsAreSorted (state_of rows.now) }
     ensures { result ≡ is_settled (pile_of (state_of rows.now) (batch_entry batch.now)) }
 {
     let keyings = keyings_in(rows, batch, batch.round);
@@ -48,9 +48,9 @@ fn is_settled(rows: &Rows, batch: &Batch) -> bool
     is_keyed(papers) & judged
 }
 
-/// Whether a batch, if it is of this ward, is settled.
+/// Returns whether a batch is settled, if it belongs to this ward.
 fn is_settled_for(rows: &Rows, ward: u32, batch: &Batch) -> bool
-    requires { MapsRise (state_of rows.now) }
+    requires { MapsAreSorted (state_of rows.now) }
     ensures { result ≡ is_settled_for (state_of rows.now) ward (batch_entry batch.now) }
 {
     if batch.ward != ward {
@@ -60,7 +60,7 @@ fn is_settled_for(rows: &Rows, ward: u32, batch: &Batch) -> bool
 }
 
 fn are_settled(rows: &Rows, ward: u32, batches: &[Batch]) -> bool
-    requires { MapsRise (state_of rows.now) }
+    requires { MapsAreSorted (state_of rows.now) }
     ensures { result ≡ list_all (λ b. is_settled_for (state_of rows.now) ward (batch_entry b)) batches.now }
 {
     batches
@@ -68,9 +68,9 @@ fn are_settled(rows: &Rows, ward: u32, batches: &[Batch]) -> bool
         .all(|batch| is_settled_for(rows, ward, batch))
 }
 
-/// Whether each batch of a ward is settled, if its count has begun.
+/// Returns whether every batch of a ward is settled, if its count has begun.
 fn is_agreed(rows: &Rows, ward: &Ward) -> bool
-    requires { MapsRise (state_of rows.now) }
+    requires { MapsAreSorted (state_of rows.now) }
     ensures { result ≡ is_agreed (election_of (state_of rows.now) (ward_entry ward.now)) }
 {
     if !is_in_count(rows, ward) {
@@ -80,29 +80,29 @@ fn is_agreed(rows: &Rows, ward: &Ward) -> bool
 }
 
 fn are_agreed(rows: &Rows, wards: &[Ward]) -> bool
-    requires { MapsRise (state_of rows.now) }
+    requires { MapsAreSorted (state_of rows.now) }
     ensures { result ≡ list_all (λ w. is_agreed (election_of (state_of rows.now) (ward_entry w))) wards.now }
 {
     wards.iter().all(|ward| is_agreed(rows, ward))
 }
 
-/// Whether in each contested ward that was sealed all batches are taken, and all their doubtful papers have verdicts. This is the
-/// sixth condition on the rows of an office, whose tables stand in the order of their keys, no key twice.
+/// Returns whether in every contested ward that was sealed all batches are taken and all their doubtful papers have
+/// verdicts. This is the sixth condition on the rows of an office, whose tables are in key order without duplicates.
 pub fn all_agreed(rows: &Rows) -> bool
-    requires { MapsRise (state_of rows.now) }
+    requires { MapsAreSorted (state_of rows.now) }
     ensures { result ≡ all_agreed (state_of rows.now) }
 {
     are_agreed(rows, &rows.wards)
 }
 
-/// Adds the papers of a batch to those of its ward. An error is want of memory.
+/// Adds the papers of a batch to those of its ward. `AllocError` if an allocation fails.
 fn add_batch(
     rows: &Rows,
     ballots: &mut Ballots<Bundles>,
     columns: Columns,
     batch: &Batch,
 ) -> Result<(), AllocError>
-    requires { MapsRise (state_of rows.now) }
+    requires { MapsAreSorted (state_of rows.now) }
     ensures { IfOk result (λ _. (piles : _) → StandFor are_bundled ballots.old (ballots_in columns piles)
         → StandFor are_bundled ballots.new (ballots_in columns (piles ++ (pile_of (state_of rows.now) (batch_entry batch.now) ∷ [])))) }
 {
@@ -117,7 +117,7 @@ fn add_batch(
     )
 }
 
-/// The papers of those of some batches which belong to this ward. An error is want of memory.
+/// Returns the papers of those of these batches that belong to this ward. `AllocError` if an allocation fails.
 fn ballots_among(
     alloc: Global,
     rows: &Rows,
@@ -125,7 +125,7 @@ fn ballots_among(
     ward: u32,
     batches: &[Batch],
 ) -> Result<Ballots<Bundles>, AllocError>
-    requires { MapsRise (state_of rows.now) }
+    requires { MapsAreSorted (state_of rows.now) }
     ensures { IfOk result (λ ballots. StandFor are_bundled ballots (ballots_in columns (piles_in (state_of rows.now) ward (map batch_entry batches.now)))) }
 {
     let mut ballots = Ballots::new(Bundles::new(alloc));
@@ -137,14 +137,14 @@ fn ballots_among(
     Ok(ballots)
 }
 
-/// The papers of a ward, by these columns. An error is want of memory.
+/// Returns the papers of a ward, by these columns. `AllocError` if an allocation fails.
 pub(crate) fn ballots_of(
     alloc: Global,
     rows: &Rows,
     columns: Columns,
     ward: u32,
 ) -> Result<Ballots<Bundles>, AllocError>
-    requires { MapsRise (state_of rows.now) }
+    requires { MapsAreSorted (state_of rows.now) }
     ensures { IfOk result (λ ballots. StandFor are_bundled ballots (ballots_in columns (piles_of (state_of rows.now) ward))) }
 {
     ballots_among(alloc, rows, columns, ward, &rows.batches)

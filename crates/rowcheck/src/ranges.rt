@@ -3,7 +3,7 @@
 ghost use Rattle.std.specs.Prelude.{◌≡◌, Bool};
 ghost use Rattle.std.specs.List.{list_all};
 ghost use Rattle.register.specs.Offices.{ward_entry, candidate_entry, batch_entry, third_entry, keyed_entry, judged_entry, lot_entry, receipt_entry};
-ghost use Rattle.register.specs.Items.{is_ward, is_candidate, is_batch, is_third, is_keyed_paper, is_judged_paper, is_lot, is_about, is_receipt, all_in_range};
+ghost use Rattle.register.specs.StateConditions.{is_ward, is_candidate, is_batch, is_third, is_keyed_paper, is_judged_paper, is_lot, is_about, is_receipt, all_in_range};
 ghost use Rattle.rowcheck.specs.States.{state_of};
 
 use crate::rows::Rows;
@@ -21,7 +21,7 @@ const LAST_CODE: u32 = 5;
 trait Ranged {
     ghost is_ranged: { Self → Bool };
 
-    /// Whether they are in range.
+    /// Returns whether they are in range.
     fn is_in_range(&self) -> bool
         ensures { result ≡ is_ranged self.now };
 }
@@ -75,7 +75,7 @@ impl Ranged for KeyedPaper {
         let batch = is_batch_number(self.batch);
         let round = is_round(self.round);
         let clerk = is_clerk(self.clerk);
-        // Its marks are text, as each `String` is.
+        // the marks are valid UTF-8, as in every `String`
         let _marks = self.marks.as_str();
         batch & (round & (clerk & is_paper_number(self.paper)))
     }
@@ -102,7 +102,7 @@ impl Ranged for DrawnLot {
     }
 }
 
-/// Whether a text is what this actor's receipt may be about.
+/// Returns whether a text may be the subject of this actor's receipt.
 fn is_about(actor: u32, subject: &str) -> bool
     ensures { result ≡ is_about actor subject.now }
 {
@@ -122,15 +122,14 @@ impl Ranged for Receipt {
     }
 }
 
-/// Whether all rows of a table are in range.
+/// Returns whether all rows of a table are in range.
 fn are_in_range<T: Ranged>(rows: &[T]) -> bool
     ensures { result ≡ list_all T.is_ranged rows.now }
 {
     rows.iter().all(|row| row.is_in_range())
 }
 
-/// Whether numbers, names, ids, phases, subjects and replies are in range: the first condition on the
-/// rows of an office.
+/// Returns whether numbers, names, ids, phases, subjects and replies are in range: the first condition on the rows of an office.
 pub fn all_in_range(rows: &Rows) -> bool
     ensures { result ≡ all_in_range (state_of rows.now) }
 {

@@ -1,12 +1,12 @@
-//! Rows, as the values that they hold.
+//! Rows, as the values that they represent.
 
 use register::{
     Batch, Candidate, DrawnLot, JudgedPaper, KeyedPaper, PlacedBundle, Receipt, StageFigure,
     ThirdClerk, Ward,
 };
 
-/// The rows of an office, each table's in the order of its keys. Their numbers and texts are in range
-/// only where `all_in_range` says so, and those of bundles and figures where `is_tabulated` does.
+/// The rows of an office, each table's in key order. Their numbers and texts are in range only if `all_in_range` confirms
+/// it; the same holds for those of bundles and figures with `is_tabulated`.
 #[derive(Drop)]
 pub struct Rows {
     pub wards: Vec<Ward>,

@@ -1,12 +1,12 @@
-//! Whether two offices are the same.
+//! Comparing two offices.
 
 ghost use Rattle.std.specs.Prelude.{◌≡◌, true};
 ghost use Rattle.rowcheck.specs.States.{state_of};
 
 use crate::rows::Rows;
 
-/// Whether the rows of two offices stand for one state. What is tabulated of the counts follows from the state, and
-/// isn't compared.
+/// Returns whether the rows of two offices represent the same state. The tabulation of the counts follows from the state,
+/// and isn't compared.
 pub fn are_same(rows: &Rows, others: &Rows) -> bool
     ensures same { result ≡ true → state_of rows.now ≡ state_of others.now }
     ensures whole { state_of rows.now ≡ state_of others.now → result ≡ true }

@@ -1,4 +1,4 @@
-//! What receipts are about: a word, which names the form, and numbers behind it.
+//! Subjects of receipts: a word, which identifies the form, followed by numbers.
 
 ghost use Rattle.std.specs.Prelude.{◌≡◌};
 ghost use Rattle.register.specs.Subjects.{is_office_subject, is_clerk_subject, is_about_ward, is_about_candidate, is_about_lot, is_about_batch, is_about_paper, is_about_keying, is_of_office};
@@ -51,8 +51,8 @@ fn is_about_keying(word: &[u8], numbers: &[u8]) -> bool
     word == b"key".as_slice() && are_plain_numbers(1, LAST_BATCH, 1, LAST_ROUND, numbers)
 }
 
-/// Whether a word and the numbers behind it are what a receipt of the office may be about. Numbers are read
-/// only behind a word that has such.
+/// Returns whether a word and the numbers after it may be the subject of an office receipt. Numbers are read only after a
+/// word that requires them.
 fn is_of_office(word: &[u8], numbers: &[u8]) -> bool
     ensures { result ≡ is_of_office word.now numbers.now }
 {
@@ -63,7 +63,7 @@ fn is_of_office(word: &[u8], numbers: &[u8]) -> bool
         || is_about_paper(word, numbers)
 }
 
-/// Whether a text is what a receipt of the office may be about.
+/// Returns whether a text may be the subject of an office receipt.
 pub(crate) fn is_office_subject(subject: &str) -> bool
     ensures { result ≡ is_office_subject subject.now }
 {
@@ -71,7 +71,7 @@ pub(crate) fn is_office_subject(subject: &str) -> bool
     is_of_office(word, numbers)
 }
 
-/// Whether a text is what a receipt of a clerk may be about.
+/// Returns whether a text may be the subject of a clerk's receipt.
 pub(crate) fn is_clerk_subject(subject: &str) -> bool
     ensures { result ≡ is_clerk_subject subject.now }
 {

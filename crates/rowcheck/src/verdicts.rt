@@ -2,32 +2,32 @@
 
 ghost use Rattle.std.specs.Prelude.{◌≡◌, map, is_some};
 ghost use Rattle.std.specs.List.{list_all};
-ghost use Rattle.register.specs.Offices.{MapsRise, batch_entry, keyed_entry, judged_entry, batch_at, verdicts_of};
-ghost use Rattle.register.specs.Papers.{taken_papers};
-ghost use Rattle.register.specs.Keyed.{is_verdict_on, is_judged};
-ghost use Rattle.register.specs.Items.{all_judged};
+ghost use Rattle.register.specs.Offices.{MapsAreSorted, batch_entry, keyed_entry, judged_entry, batch_at, verdicts_of};
+ghost use Rattle.register.specs.Agreement.{taken_papers};
+ghost use Rattle.register.specs.BatchConditions.{is_verdict_on, is_judged};
+ghost use Rattle.register.specs.StateConditions.{all_judged};
 ghost use Rattle.rowcheck.specs.States.{state_of};
 
 use crate::finding::{candidates_of, has_batch, keyings_in, verdicts_of};
 use crate::rows::Rows;
 use paper::Columns;
+use register::agreement::{agreed, has_doubtful};
 use register::marks::{columns_of, is_valid};
-use register::papers::{agreed, has_doubtful};
 use register::verdicts::is_rejection_code;
 use register::{Batch, JudgedPaper, KeyedPaper};
 
-/// The code of a verdict by which a paper is accepted.
+/// The code of a verdict that accepts a paper.
 const ACCEPTED: u32 = 0;
 
 fn are_of_batches(rows: &Rows, verdicts: &[JudgedPaper]) -> bool
-    requires { MapsRise (state_of rows.now) }
+    requires { MapsAreSorted (state_of rows.now) }
     ensures { result ≡ list_all (λ v. is_some (batch_at (state_of rows.now) v.batch)) verdicts.now }
 {
     verdicts.iter().all(|judged| has_batch(rows, judged.batch))
 }
 
-/// Whether a verdict is on a doubtful paper of a keying: accepted with marks by which the paper is valid, or
-/// rejected without marks.
+/// Returns whether a verdict is on a doubtful paper of a keying: accepted with marks that make the paper valid, or rejected
+/// without marks.
 fn is_verdict_on(columns: Columns, papers: &[KeyedPaper], judged: &JudgedPaper) -> bool
     ensures { result ≡ is_verdict_on columns (map keyed_entry papers.now) (judged_entry judged.now) }
 {
@@ -47,18 +47,18 @@ fn are_verdicts_on(columns: Columns, papers: &[KeyedPaper], verdicts: &[JudgedPa
         .all(|judged| is_verdict_on(columns, papers, judged))
 }
 
-/// The papers that a batch is taken with: none where it isn't taken.
+/// Returns the papers that a batch is taken with: none if it isn't taken.
 fn taken_papers<'a>(rows: &'a Rows, batch: &Batch) -> &'a [KeyedPaper]
-    requires { MapsRise (state_of rows.now) }
+    requires { MapsAreSorted (state_of rows.now) }
     ensures { map keyed_entry result.now ≡ taken_papers (state_of rows.now) (batch_entry batch.now) }
 {
     let keyings = keyings_in(rows, batch, batch.round);
     agreed(keyings.first, keyings.second, keyings.third)
 }
 
-/// Whether the verdicts on papers of a batch are on doubtful ones of those that it is taken with.
+/// Returns whether every verdict on a paper of a batch is on a doubtful one of those that it is taken with.
 fn is_judged(rows: &Rows, batch: &Batch) -> bool
-    requires { MapsRise (state_of rows.now) }
+    requires { MapsAreSorted (state_of rows.now) }
     ensures { result ≡ is_judged (state_of rows.now) (batch_entry batch.now) (verdicts_of (state_of rows.now) batch.now.number) }
 {
     let verdicts = verdicts_of(rows, batch.number);
@@ -70,16 +70,16 @@ fn is_judged(rows: &Rows, batch: &Batch) -> bool
 }
 
 fn are_judged(rows: &Rows, batches: &[Batch]) -> bool
-    requires { MapsRise (state_of rows.now) }
+    requires { MapsAreSorted (state_of rows.now) }
     ensures { result ≡ list_all (λ b. is_judged (state_of rows.now) (batch_entry b) (verdicts_of (state_of rows.now) b.number)) batches.now }
 {
     batches.iter().all(|batch| is_judged(rows, batch))
 }
 
-/// Whether verdicts belong to batches that are there, and are on doubtful papers of taken ones. This is the fifth condition on
-/// the rows of an office, whose tables stand in the order of their keys, no key twice.
+/// Returns whether every verdict belongs to an existing batch that is taken, and is on a doubtful paper of it. This is the
+/// fifth condition on the rows of an office, whose tables are in key order without duplicates.
 pub fn all_judged(rows: &Rows) -> bool
-    requires { MapsRise (state_of rows.now) }
+    requires { MapsAreSorted (state_of rows.now) }
     ensures { result ≡ all_judged (state_of rows.now) }
 {
     let owned = are_of_batches(rows, &rows.verdicts);

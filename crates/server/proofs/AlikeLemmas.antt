@@ -9,15 +9,16 @@ use Rattle.register.specs.declared.command.Request.{Request}
 use Rattle.office.specs.Answers.{told_of}
 use Rattle.connections.specs.declared.client.Listener.{Listener}
 use Rattle.connections.specs.declared.client.Listener.TheVariants.{Clients}
-use Rattle.wire.specs.Requests.{HttpRequestEntry, Asks, denied, keying, reading, shown}
+use Rattle.wire.specs.Requests.{HttpRequestEntry, Asks, console, denied, keying, order, reading, shown}
 use Rattle.wire.specs.Responses.{ResponseEntry, denied_response, shown_response}
 use Rattle.wire.specs.Serving.{IsServed, TellsAsked, TellsFault, TellsFor, reading_response, told_response}
 use Rattle.wire.specs.Told.{IsTold}
+use Rattle.wire.specs.declared.request_error.RequestError.TheVariants.{NotFound}
 use Rattle.wire.proofs.RequestLemmas.{AsksOneThing-all}
 use Rattle.wire.proofs.OutcomeLemmas.{IsOutcome-handed}
 use Rattle.server.specs.Blind.{AnswersAsSeen, AreAnsweredAlike, AreClients, AreOwn, RespondsBySeen, IsAnsweredBySeen, IsStoppedBySeen, IsUnanswered}
 use Rattle.server.specs.Settings.{ServerSettingsEntry}
-use Rattle.server.specs.Exchanges.{AreTurnedAway, EndsSo, IsAnsweredAt, IsToldClosed, Exchange}
+use Rattle.server.specs.Exchanges.{AreTurnedAway, AsksNoOrder, EndsSo, IsClientAnsweredAt, IsToldClosed, Exchange}
 
 -- ---- the first of a list of texts, and the others
 
@@ -36,7 +37,7 @@ tails x y xs ys is = ap of is
     of (z ∷ zs) = zs
 
 module _ (settings : ServerSettingsEntry) where
-  -- ---- one client at a view, and another who asks the same there
+  -- ---- one client at a view, and another that asks the same there
 
   none_sent : (view : OfficeState) (sent sent_too : List Request) → sent ≡ [] → sent_too ≡ [] → after view sent_too ≡ after view sent
   none_sent view sent sent_too none none_too = ap (after view) (none_too ∙ sym none)
@@ -48,6 +49,10 @@ module _ (settings : ServerSettingsEntry) where
       (denied_response why, one.0, two.0, none_sent view sent sent_too one.1 two.1)
   asked_alike view (shown clerk show) sent sent_too response response_too one two =
       (shown_response show, one.0, two.0, none_sent view sent sent_too one.1 two.1)
+  asked_alike view (console show) sent sent_too response response_too one two =
+      (shown_response show, one.0, two.0, none_sent view sent sent_too one.1 two.1)
+  asked_alike view (order entry) sent sent_too response response_too one two =
+      (denied_response NotFound, one.0, two.0, none_sent view sent sent_too one.1 two.1)
   asked_alike view (reading what) sent sent_too response response_too one two =
       (reading_response view what, one.0, two.0, none_sent view sent sent_too one.1 two.1)
   asked_alike view (keying clerk batch entry) sent sent_too response response_too (request, handed, told, is_sent) (request_too, handed_too, told_too, is_sent_too) =
@@ -101,36 +106,51 @@ module _ (settings : ServerSettingsEntry) where
       by (inr (inr fault)) later = inr (inr (inl (served_too, record { response = it_too.response; ready = fault; put = it_too.put })))
 
   module _ {S : Type 0} (state_of : Held S → State) (clerk : ℕ) where
-    away_own : (view : OfficeState) (exchanges own : List Exchange) → AreTurnedAway settings exchanges → AreClients exchanges → AreOwn settings.clients clerk exchanges own → AnswersOwn view own
+    away_own : (view : OfficeState) (exchanges own : List Exchange) → AreTurnedAway settings exchanges → AreClients settings.clients exchanges → AreOwn settings.clients clerk exchanges own
+        → AnswersOwn view own
     away_own view [] own away clients none = subst (AnswersOwn view) (sym none) tt
-    away_own view (exchange ∷ exchanges) own (closed, away) (client, clients) (inl (under, (later, is, others))) =
+    away_own view (exchange ∷ exchanges) own (closed, away) (client, free, clients) (inl (under, (later, is, others))) =
         subst (AnswersOwn view) (sym is) (inr (inr (subst (λ (listener : Listener). IsToldClosed listener settings exchange) client closed)))
-    away_own view (exchange ∷ exchanges) own (closed, away) (client, clients) (inr (not, others)) = away_own view exchanges own away clients others
+    away_own view (exchange ∷ exchanges) own (closed, away) (client, free, clients) (inr (not, others)) = away_own view exchanges own away clients others
 
     -- a clerk's own visit was answered at the view
     answers_first : (view next : OfficeState) (exchange : Exchange) (later : List Exchange)
-        → ((sent : List Request) × IsAnsweredAt Clients state_of settings view exchange sent × (next ≡ after view sent)) → AnswersOwn next later → AnswersOwn view (exchange ∷ later)
-    answers_first view next exchange later (sent, inl (back, none), is_next) others = inr (inr (inl back))
-    answers_first view next exchange later (sent, inr told, is_next) others = inl (sent, told, subst (λ (v : OfficeState). AnswersOwn v later) is_next others)
+        → ((sent : List Request) × IsClientAnsweredAt settings view exchange sent × (next ≡ after view sent)) → AnswersOwn next later → AnswersOwn view (exchange ∷ later)
+    answers_first view next exchange later (sent, inl (back, none), is_next) others = inr (inr (inl (inl back)))
+    answers_first view next exchange later (sent, inr (free, told), is_next) others = inl (sent, told, subst (λ (v : OfficeState). AnswersOwn v later) is_next others)
+
+    -- a client that asks no order was answered as one
+    client_turn : (view next : OfficeState) (exchange : Exchange) → AsksNoOrder settings.clients exchange.got → RespondsBySeen Clients state_of settings clerk view exchange next
+        → IsAnsweredBySeen settings clerk view exchange next
+    client_turn view next exchange free (inl it) = it
+    client_turn view next exchange free (inr it) = absurd (free it.tells.entry it.tells.asks)
+
+    -- or it met a fault
+    client_stop : (view : OfficeState) (exchange : Exchange) → AsksNoOrder settings.clients exchange.got → IsStoppedBySeen Clients state_of settings clerk view exchange
+        → EndsSo exchange (IsServed TellsFault)
+    client_stop view exchange free (inl (none, it)) = it
+    client_stop view exchange free (inr (next, it)) = absurd (free it.tells.entry it.tells.asks)
 
     -- of all that are answered so, a clerk's own
-    own_seen : (view : OfficeState) (exchanges own : List Exchange) → AnswersAsSeen state_of settings clerk view exchanges → AreClients exchanges
+    own_seen : (view : OfficeState) (exchanges own : List Exchange) → AnswersAsSeen state_of settings clerk view exchanges → AreClients settings.clients exchanges
         → AreOwn settings.clients clerk exchanges own → AnswersOwn view own
     own_seen view [] own seen clients none = subst (AnswersOwn view) (sym none) tt
-    own_seen view (exchange ∷ exchanges) own (inl (next, turn, rest)) (client, clients) (inl (under, (later, is, others))) =
-        let it : IsAnsweredBySeen state_of settings clerk view exchange next = subst (λ (listener : Listener). RespondsBySeen listener state_of settings clerk view exchange next) client turn in
+    own_seen view (exchange ∷ exchanges) own (inl (next, turn, rest)) (client, free, clients) (inl (under, (later, is, others))) =
+        let it = client_turn view next exchange free (subst (λ (listener : Listener). RespondsBySeen listener state_of settings clerk view exchange next) client turn) in
         subst (AnswersOwn view) (sym is) (answers_first view next exchange later (it.own under) (own_seen next exchanges later rest clients others))
-    own_seen view (exchange ∷ exchanges) own (inl (next, turn, rest)) (client, clients) (inr (not, others)) =
-        let it : IsAnsweredBySeen state_of settings clerk view exchange next = subst (λ (listener : Listener). RespondsBySeen listener state_of settings clerk view exchange next) client turn in
+    own_seen view (exchange ∷ exchanges) own (inl (next, turn, rest)) (client, free, clients) (inr (not, others)) =
+        let it = client_turn view next exchange free (subst (λ (listener : Listener). RespondsBySeen listener state_of settings clerk view exchange next) client turn) in
         subst (λ (v : OfficeState). AnswersOwn v own) (it.other not) (own_seen next exchanges own rest clients others)
-    own_seen view (exchange ∷ exchanges) own (inr (stopped, away)) (client, clients) (inl (under, (later, is, others))) =
-        subst (AnswersOwn view) (sym is) (inr (inl (subst (λ (listener : Listener). IsStoppedBySeen listener state_of settings clerk view exchange) client stopped)))
-    own_seen view (exchange ∷ exchanges) own (inr (stopped, away)) (client, clients) (inr (not, others)) = away_own view exchanges own away clients others
+    own_seen view (exchange ∷ exchanges) own (inr (stopped, away)) (client, free, clients) (inl (under, (later, is, others))) =
+        let it = client_stop view exchange free (subst (λ (listener : Listener). IsStoppedBySeen listener state_of settings clerk view exchange) client stopped) in
+        subst (AnswersOwn view) (sym is) (inr (inl it))
+    own_seen view (exchange ∷ exchanges) own (inr (stopped, away)) (client, free, clients) (inr (not, others)) = away_own view exchanges own away clients others
 
     -- ---- two services
 
     pub answered_alike : (view view_too : OfficeState) (exchanges others own same : List Exchange) → view ≡ view_too → AnswersAsSeen state_of settings clerk view exchanges
-        → AnswersAsSeen state_of settings clerk view_too others → AreClients exchanges → AreClients others → AreOwn settings.clients clerk exchanges own → AreOwn settings.clients clerk others same
+        → AnswersAsSeen state_of settings clerk view_too others → AreClients settings.clients exchanges → AreClients settings.clients others
+        → AreOwn settings.clients clerk exchanges own → AreOwn settings.clients clerk others same
         → map (λ (exchange : Exchange). exchange.got) own ≡ map (λ (exchange : Exchange). exchange.got) same → AreAnsweredAlike settings own same
     answered_alike view view_too exchanges others own same alike one two clients clients_too are are_too is =
         alike_at view own same (own_seen view exchanges own one clients are)

@@ -5,7 +5,7 @@ use Rattle.std.proofs.lemmas.List.Elements.{All-push}
 use Rattle.sqlite.specs.Held.{Held}
 use Rattle.sqlite.specs.State.{HasCleanDisk, State}
 use Rattle.register.specs.Offices.{OfficeState}
-use Rattle.store.specs.Offices.{IsAt}
+use Rattle.store.specs.StateTables.{IsAt}
 use Rattle.office.specs.Answers.{IsOpenAt, IsReadAt, WhenOpenAt}
 use Rattle.office.specs.Values.{OfficeValue}
 use Rattle.connections.specs.Clients.{IsSent}
@@ -13,7 +13,7 @@ use Rattle.connections.specs.Streams.{HasTaken, Stream}
 use Rattle.connections.specs.declared.client.Listener.TheVariants.{Clients}
 use Rattle.tables.specs.Faults.{fault_number}
 use Rattle.tables.specs.declared.fault.Fault.{Fault}
-use Rattle.wire.specs.Requests.{HttpRequestEntry, Asks, denied, keying, reading, shown}
+use Rattle.wire.specs.Requests.{HttpRequestEntry, Asks, console, denied, keying, order, reading, shown}
 use Rattle.wire.specs.Gates.{HttpSettingsEntry}
 use Rattle.wire.specs.Responses.{ResponseEntry, fault_response}
 use Rattle.wire.specs.Serving.{FaultLeaves, IsAnswered, IsPut, IsServed, Readies, ReadiesFor, closed_response, reading_response}
@@ -23,7 +23,8 @@ use Rattle.wire.specs.declared.serving.Served.{Served}
 use Rattle.wire.specs.declared.serving.Served.TheVariants.{Answered, ReadFailed, WriteFailed}
 use Rattle.wire.specs.declared.target.Resource.{Resource}
 use Rattle.server.specs.Reads.{AreReadAt, ServedOffice, IsRead, MemoryEntry, ReadEntry, TellsNoFault, served_office}
-use Rattle.server.specs.Exchanges.{ChangesNothing, EndsIn, EndsSo, HasAnswered, KeepsReads, ServesClient, Exchange}
+use Rattle.server.specs.Endings.{EndsIn}
+use Rattle.server.specs.Exchanges.{ChangesNothing, EndsSo, HasAnswered, KeepsReads, ServesClient, Exchange}
 
 -- ---- what an answer tells
 
@@ -38,6 +39,8 @@ answered_still s (denied why) answer closed st still it = subst (λ (x : OfficeS
 answered_still s (shown clerk show) answer closed st still it = subst (λ (x : OfficeState). IsOpenAt x closed st) it.is.0 it.open_at
 answered_still s (reading what) answer closed st still it = subst (λ (x : OfficeState). IsOpenAt x closed st) it.is.0 it.open_at
 answered_still s (keying clerk batch entry) answer closed st still it = absurd still
+answered_still s (console show) answer closed st still it = subst (λ (x : OfficeState). IsOpenAt x closed st) it.is.0 it.open_at
+answered_still s (order entry) answer closed st still it = absurd still
 
 -- or it met a fault, and only read
 failed_still : (s : OfficeState) (asked : HttpRequestEntry) (f : Fault) (closed : Bool) (st : State) → ChangesNothing asked → FaultLeaves s asked f closed st → IsReadAt s closed st
@@ -46,6 +49,8 @@ failed_still s (shown clerk show) f closed st still leaves = absurd leaves
 failed_still s (reading what) f closed st still (inl stays) = inl stays.open_at
 failed_still s (reading what) f closed st still (inr shut) = inr (shut.is_closed, shut.leaves)
 failed_still s (keying clerk batch entry) f closed st still leaves = absurd still
+failed_still s (console show) f closed st still leaves = absurd leaves
+failed_still s (order entry) f closed st still leaves = absurd still
 
 pub only_read : (s : OfficeState) (asked : HttpRequestEntry) (response : _) (closed : Bool) (st : State) → ChangesNothing asked → Readies s asked response closed st → IsReadAt s closed st
 only_read s asked response closed st still (entry, tells, inl answered) = inl (answered_still s asked entry closed st still answered)
@@ -90,7 +95,7 @@ module _ {S : Type 0} (state_of : Held S → State) (old new : OfficeValue S) (a
   read_told s what ReadFailed other same it = absurd other
   read_told s what WriteFailed other same it = absurd other
 
-  -- the answer that was told is the one to the read
+  -- the answer that was sent is the one to the read
   pub call_read : TellsNoFault served → (HasCleanDisk (state_of new.held) → old.closed ≡ false → (s : OfficeState) → IsAt s (state_of old.held)
       → IsServed (λ response. Readies s asked response new.closed (state_of new.held)) (Some before) (Some after) served)
       → WhenOpenAt state_of old new (λ s. (what : Resource) → asked ≡ reading what → IsRead s what answer)
@@ -179,14 +184,14 @@ module _ {S : Type 0} (settings : HttpSettingsEntry) (state_of : Held S → Stat
   served_again office kept number moment got what answer entry is_open asks there same told = record {
     serves = λ clean was s at right.
         let it = kept_at s kept.reads entry there right in
-        let his = subst (λ (w : Resource). IsRead s w answer) same (subst (λ (a : List ℕ). IsRead s entry.what a) told it) in
-        told_from s what got answer office.closed (state_of office.held) number moment asks his (record { is_open = is_open; at = at });
+        let belongs = subst (λ (w : Resource). IsRead s w answer) same (subst (λ (a : List ℕ). IsRead s entry.what a) told it) in
+        told_from s what got answer office.closed (state_of office.held) number moment asks belongs (record { is_open = is_open; at = at });
     keeps = inr ((reading what, asks, tt), λ clean was s at right. (right, inl (record { is_open = is_open; at = at })));
     turned_away = λ closed. absurd (true≢false (sym closed ∙ is_open));
     clean = λ clean. clean;
   }
 
-  -- and a wrong code is noted behind it
+  -- and then a wrong code is noted
   pub noted_still : (old : ServedOffice S) (exchange : Exchange) (new : OfficeValue S) (kept later : MemoryEntry) → later.reads ≡ kept.reads
       → ServesClient settings state_of old exchange (served_office new kept)
       → ServesClient settings state_of old exchange (served_office new later)
@@ -208,7 +213,7 @@ module _ {S : Type 0} (settings : HttpSettingsEntry) (state_of : Held S → Stat
       → WhenOpenAt state_of old new (λ s. IsReadAt s new.closed (state_of new.held)) → KeepsReads settings state_of (served_office old kept) got (served_office new kept)
   keeps_same old new kept got asked asks still only = inr ((asked, asks, still), λ clean is_open s at right. (right, only clean is_open s at))
 
-  -- this answer may be kept too, and the oldest were let go
+  -- this answer may be kept too, and the oldest were removed
   pub keeps_more : (old new : OfficeValue S) (kept later : MemoryEntry) (got : List ℕ) (what : Resource) (answer told : List ℕ) → told ≡ answer → Asks settings got (reading what)
       → WhenOpenAt state_of old new (λ s. IsRead s what answer) → WhenOpenAt state_of old new (λ s. IsReadAt s new.closed (state_of new.held))
       → (gone left : List ReadEntry) × (kept.reads ≡ gone ++ left) × ((later.reads ≡ left) ⊎ (later.reads ≡ left ++ record { what = what; answer = told } ∷ []))
@@ -228,6 +233,6 @@ module _ {S : Type 0} (settings : HttpSettingsEntry) (state_of : Held S → Stat
     ),
   )
 
--- nothing was told yet
+-- nothing was sent yet
 pub told_zero : {L : Type 0} (stream : Stream L) (now : L) (answer : List ℕ) (sent : ℕ) → sent ≡ 0 → HasTaken (stream.taken now) [] → IsSent stream now answer sent
 told_zero {L} stream now answer sent none fresh = subst (λ (n : ℕ). IsSent stream now answer n) (sym none) (record { within = omega arith; took = fresh })

@@ -4,12 +4,12 @@ use Rattle.std.proofs.lemmas.Bool.{both_ways, eq-eqb, eqb-true}
 use Rattle.std.specs.Str.{bytes_eq}
 use Rattle.sqlite.specs.Held.{Held}
 use Rattle.sqlite.specs.State.{State}
-use Rattle.register.specs.Items.{IsState}
+use Rattle.register.specs.StateConditions.{IsState}
 use Rattle.register.specs.Machine.{Ruling, accepts, after, answered, decided, keeps, outcome_at, part_of, refuses, ruling_at, state_after, step, step_of, subject_of}
 use Rattle.register.specs.Offices.{OfficeState, ReceiptEntry, receipt_at}
 use Rattle.register.specs.Ranges.{is_batch_number, is_clerk, is_id, is_office}
 use Rattle.register.specs.Seen.{seen_by}
-use Rattle.register.specs.Standings.{BallotPaperEntry, WorkEntry}
+use Rattle.register.specs.Status.{BallotPaperEntry, WorkEntry}
 use Rattle.register.specs.declared.command.Command.{Command}
 use Rattle.register.specs.declared.command.Command.TheVariants as command
 use Rattle.register.specs.declared.command.Request.{Request}
@@ -20,19 +20,29 @@ use Rattle.office.specs.Answers.{Told, told_of}
 use Rattle.office.specs.Reads.{found_or}
 use Rattle.connections.specs.declared.client.Listener.{Listener}
 use Rattle.connections.specs.declared.client.Listener.TheVariants.{Clients, Orders}
-use Rattle.wire.specs.Requests.{HttpRequestEntry, Asks, clerk_asked, denied, keying, reading, shown}
+use Rattle.wire.specs.Requests.{HttpRequestEntry, Asks, clerk_asked, console, denied, keying, order, reading, shown}
 use Rattle.wire.specs.Bodies.{KeyingEntry}
+use Rattle.wire.specs.Gates.{HttpSettingsEntry}
 use Rattle.wire.specs.Responses.{ResponseEntry}
 use Rattle.wire.specs.Serving.{IsHandedOn, IsPut, TellsAsked, TellsFor, paper_response, read_response, reading_response, told_response, work_response}
 use Rattle.wire.specs.Told.{IsTold}
 use Rattle.wire.specs.declared.request_error.RequestError.{RequestError}
 use Rattle.wire.specs.declared.serving.Served.{Served}
 use Rattle.wire.specs.declared.target.Resource.{Resource}
-use Rattle.wire.specs.declared.target.Resource.TheVariants.{Candidates, Declaration, Sheet, Work}
+use Rattle.wire.specs.declared.target.Resource.TheVariants.{Candidates, Declaration, Office, Sheet, Work}
 use Rattle.wire.proofs.RequestLemmas.{AsksOneThing-all}
 use Rattle.server.specs.Blind.{AnswersAsSeen, RespondsBySeen, IsAnsweredBySeen, IsStoppedBySeen, IsUnder}
 use Rattle.server.specs.Settings.{ServerSettingsEntry}
-use Rattle.server.specs.Exchanges.{AnswersInTurn, IsAnsweredAt, IsStoppedAt, Exchange}
+use Rattle.server.specs.Exchanges.{AnswersInTurn, AsksNoOrder, IsAnsweredAt, IsClientAnsweredAt, IsStoppedAt, Exchange}
+
+-- ---- requests under a clerk's number
+
+-- such a request asks no order
+pub under_no_order : (settings : HttpSettingsEntry) (clerk : ℕ) (bytes : List ℕ) → IsUnder settings clerk bytes → AsksNoOrder settings bytes
+under_no_order settings clerk bytes under entry asks =
+    let one : under.asked ≡ order entry = AsksOneThing-all settings bytes under.asked (order entry) under.asks asks in
+    let bad : None ≡ Some clerk = sym (ap clerk_asked one) ∙ under.its in
+    absurd (cc bad)
 
 -- ---- what a request makes of a view
 
@@ -42,7 +52,7 @@ told_anywhere s t (accepts change reply) = refl
 told_anywhere s t (keeps reply) = refl
 told_anywhere s t (refuses why) = refl
 
--- whoever is no clerk keys nothing
+-- a request that isn't a clerk's keys nothing
 none_keyed : (s : OfficeState) (actor : ℕ) (id : List ℕ) (c : KeyingCommand) → is_clerk actor ≡ false → state_after s (step s actor id (command.Keying c)) ≡ s
 unfolding step decided
 none_keyed s actor id c no_clerk = go (is_id id) (receipt_at s actor id)
@@ -76,7 +86,7 @@ module _ (itself : SeenIsAlike) (alike : AlikeOfficesAnswerAlike) (seen : SeenIs
   good : is_office clerk ≡ false
   good = no_office clerk is
 
-  -- what the clerk's own request is told
+  -- the response to the clerk's own request
   told_seen : (s : OfficeState) (r : Request) → r.actor ≡ clerk → told_of (step_of s r) ≡ told_of (step_of (seen_by clerk s) r)
   unfolding step
   told_seen s r its =
@@ -126,42 +136,46 @@ module _ (itself : SeenIsAlike) (alike : AlikeOfficesAnswerAlike) (seen : SeenIs
       subst (λ (m : ℕ). reading_response s (Candidates m batch) ≡ reading_response (seen_by clerk s) (Candidates m batch)) (sym same) (paper_seen s batch)
   read_seen s (Sheet ward) its = absurd (cc its)
   read_seen s (Declaration ward) its = absurd (cc its)
+  read_seen s (Office read) its = absurd (cc its)
 
   -- ---- one turn
 
   module _ {S : Type 0} (state_of : Held S → State) (settings : ServerSettingsEntry) where
     -- nothing was handed on
     nothing_sent : (s : OfficeState) (exchange : Exchange) (sent : List Request) → sent ≡ []
-        → (IsUnder settings.clients clerk exchange.got → IsAnsweredAt Clients state_of settings (seen_by clerk s) exchange [])
-        → ((why : RequestError) → Asks settings.clients exchange.got (denied why) → IsAnsweredAt Clients state_of settings (seen_by clerk s) exchange [])
-        → IsAnsweredBySeen state_of settings clerk (seen_by clerk s) exchange (seen_by clerk (after s sent))
+        → (IsUnder settings.clients clerk exchange.got → IsClientAnsweredAt settings (seen_by clerk s) exchange [])
+        → ((why : RequestError) → Asks settings.clients exchange.got (denied why) → IsClientAnsweredAt settings (seen_by clerk s) exchange [])
+        → IsAnsweredBySeen settings clerk (seen_by clerk s) exchange (seen_by clerk (after s sent))
     nothing_sent s exchange sent none answers denies =
         let same : seen_by clerk (after s sent) ≡ seen_by clerk s = ap (λ (rs : List Request). seen_by clerk (after s rs)) none in
         record { own = λ under. ([], answers under, same); denied = denies; other = λ not. same }
 
     -- a keying was handed on, the clerk's own or another's
-    keying_seen : (s : OfficeState) (exchange : Exchange) (served : Served) (n batch : ℕ) (entry : KeyingEntry) (request : Request) → IsState s
+    keying_seen : (s : OfficeState) (exchange : Exchange) (served : Served) (n batch : ℕ) (entry : KeyingEntry) (request : Request) → IsState s → AsksNoOrder settings.clients exchange.got
         → Asks settings.clients exchange.got (keying n batch entry)
         → IsHandedOn n batch entry request → (response : _) → IsTold (told_response (told_of (step_of s request))) response → IsPut (Some []) (Some exchange.answer) response served
-        → IsAnsweredBySeen state_of settings clerk (seen_by clerk s) exchange (seen_by clerk (after s (request ∷ [])))
-    keying_seen s exchange served n batch entry request state asks handed response told put = go (n == clerk) refl
+        → IsAnsweredBySeen settings clerk (seen_by clerk s) exchange (seen_by clerk (after s (request ∷ [])))
+    keying_seen s exchange served n batch entry request state free asks handed response told put = go (n == clerk) refl
       where
-        none_denied : (why : RequestError) → Asks settings.clients exchange.got (denied why) → IsAnsweredAt Clients state_of settings (seen_by clerk s) exchange []
+        none_denied : (why : RequestError) → Asks settings.clients exchange.got (denied why) → IsClientAnsweredAt settings (seen_by clerk s) exchange []
         none_denied why denies = let bad : keying n batch entry ≡ denied why = AsksOneThing-all settings.clients exchange.got (keying n batch entry) (denied why) asks denies in absurd (cc bad)
 
-        go : (b : Bool) → (n == clerk) ≡ b → IsAnsweredBySeen state_of settings clerk (seen_by clerk s) exchange (seen_by clerk (after s (request ∷ [])))
+        go : (b : Bool) → (n == clerk) ≡ b → IsAnsweredBySeen settings clerk (seen_by clerk s) exchange (seen_by clerk (after s (request ∷ [])))
         go true same =
             let its : request.actor ≡ clerk = handed.actor ∙ eqb-true n clerk same in
             record {
               own = λ under. (
                 request ∷ [],
                 inr (
-                  served,
-                  record {
-                    response = response;
-                    ready = inl (keying n batch entry, asks, (request, handed, subst (λ (t : Told). IsTold (told_response t) response) (told_seen s request its) told, refl));
-                    put = put;
-                  },
+                  free,
+                  (
+                    served,
+                    record {
+                      response = response;
+                      ready = inl (keying n batch entry, asks, (request, handed, subst (λ (t : Told). IsTold (told_response t) response) (told_seen s request its) told, refl));
+                      put = put;
+                    },
+                  ),
                 ),
                 own_seen s request state its,
               );
@@ -178,52 +192,61 @@ module _ (itself : SeenIsAlike) (alike : AlikeOfficesAnswerAlike) (seen : SeenIs
               other = λ not. other_seen s request handed.handed state handed.command apart;
             }
 
-    -- what a client asked was answered
-    asked_seen : (s : OfficeState) (exchange : Exchange) (sent : List Request) (served : Served) (asked : HttpRequestEntry) → IsState s → Asks settings.clients exchange.got asked → (response : _)
+    -- what a client asked was answered, which was no order
+    asked_seen : (s : OfficeState) (exchange : Exchange) (sent : List Request) (served : Served) (asked : HttpRequestEntry) → IsState s → AsksNoOrder settings.clients exchange.got
+        → Asks settings.clients exchange.got asked → (response : _)
         → TellsAsked s asked response sent → IsPut (Some []) (Some exchange.answer) response served
-        → IsAnsweredBySeen state_of settings clerk (seen_by clerk s) exchange (seen_by clerk (after s sent))
-    asked_seen s exchange sent served (denied why) state asks response tells put =
-        let answers : IsAnsweredAt Clients state_of settings (seen_by clerk s) exchange [] =
-        inr (served, record { response = response; ready = inl (denied why, asks, (tells.0, refl)); put = put }) in
+        → IsAnsweredBySeen settings clerk (seen_by clerk s) exchange (seen_by clerk (after s sent))
+    asked_seen s exchange sent served (denied why) state free asks response tells put =
+        let answers : IsClientAnsweredAt settings (seen_by clerk s) exchange [] =
+        inr (free, (served, record { response = response; ready = inl (denied why, asks, (tells.0, refl)); put = put })) in
         nothing_sent s exchange sent tells.1 (λ under. answers) (λ other denies. answers)
-    asked_seen s exchange sent served (shown n show) state asks response tells put =
-        let answers : IsAnsweredAt Clients state_of settings (seen_by clerk s) exchange [] =
-        inr (served, record { response = response; ready = inl (shown n show, asks, (tells.0, refl)); put = put }) in
+    asked_seen s exchange sent served (shown n show) state free asks response tells put =
+        let answers : IsClientAnsweredAt settings (seen_by clerk s) exchange [] =
+        inr (free, (served, record { response = response; ready = inl (shown n show, asks, (tells.0, refl)); put = put })) in
         nothing_sent s exchange sent tells.1 (λ under. answers) (λ why denies. answers)
-    asked_seen s exchange sent served (reading what) state asks response tells put = nothing_sent s exchange sent tells.1 answers denies
+    asked_seen s exchange sent served (console show) state free asks response tells put =
+        let answers : IsClientAnsweredAt settings (seen_by clerk s) exchange [] =
+        inr (free, (served, record { response = response; ready = inl (console show, asks, (tells.0, refl)); put = put })) in
+        nothing_sent s exchange sent tells.1 (λ under. answers) (λ why denies. answers)
+    asked_seen s exchange sent served (order entry) state free asks response tells put = absurd (free entry asks)
+    asked_seen s exchange sent served (reading what) state free asks response tells put = nothing_sent s exchange sent tells.1 answers denies
       where
-        answers : IsUnder settings.clients clerk exchange.got → IsAnsweredAt Clients state_of settings (seen_by clerk s) exchange []
+        answers : IsUnder settings.clients clerk exchange.got → IsClientAnsweredAt settings (seen_by clerk s) exchange []
         answers under =
             let one = AsksOneThing-all settings.clients exchange.got (reading what) under.asked asks under.asks in
             let same = read_seen s what (ap clerk_asked one ∙ under.its) in
-            inr (served, record { response = response; ready = inl (reading what, asks, (subst (λ (e : ResponseEntry). IsTold e response) same tells.0, refl)); put = put })
+            inr (free, (served, record { response = response; ready = inl (reading what, asks, (subst (λ (e : ResponseEntry). IsTold e response) same tells.0, refl)); put = put }))
 
-        denies : (why : RequestError) → Asks settings.clients exchange.got (denied why) → IsAnsweredAt Clients state_of settings (seen_by clerk s) exchange []
+        denies : (why : RequestError) → Asks settings.clients exchange.got (denied why) → IsClientAnsweredAt settings (seen_by clerk s) exchange []
         denies why its = let bad : reading what ≡ denied why = AsksOneThing-all settings.clients exchange.got (reading what) (denied why) asks its in absurd (cc bad)
-    asked_seen s exchange sent served (keying n batch entry) state asks response (request, handed, told, is_sent) put =
-        subst (λ (rs : List Request). IsAnsweredBySeen state_of settings clerk (seen_by clerk s) exchange (seen_by clerk (after s rs))) (sym is_sent)
-        (keying_seen s exchange served n batch entry request state asks handed response told put)
+    asked_seen s exchange sent served (keying n batch entry) state free asks response (request, handed, told, is_sent) put =
+        subst (λ (rs : List Request). IsAnsweredBySeen settings clerk (seen_by clerk s) exchange (seen_by clerk (after s rs))) (sym is_sent)
+        (keying_seen s exchange served n batch entry request state free asks handed response told put)
 
-    client_seen : (s : OfficeState) (exchange : Exchange) (sent : List Request) → IsState s → IsAnsweredAt Clients state_of settings s exchange sent
-        → IsAnsweredBySeen state_of settings clerk (seen_by clerk s) exchange (seen_by clerk (after s sent))
+    client_seen : (s : OfficeState) (exchange : Exchange) (sent : List Request) → IsState s → IsClientAnsweredAt settings s exchange sent
+        → IsAnsweredBySeen settings clerk (seen_by clerk s) exchange (seen_by clerk (after s sent))
     client_seen s exchange sent state (inl (back, none)) = nothing_sent s exchange sent none (λ under. inl (back, refl)) (λ why denies. inl (back, refl))
-    client_seen s exchange sent state (inr (served, it)) = by it.ready
+    client_seen s exchange sent state (inr (free, (served, it))) = by it.ready
       where
-        by : TellsFor settings.clients (Some exchange.got) s sent it.response → IsAnsweredBySeen state_of settings clerk (seen_by clerk s) exchange (seen_by clerk (after s sent))
-        by (inl (asked, asks, tells)) = asked_seen s exchange sent served asked state asks it.response tells it.put
+        by : TellsFor settings.clients (Some exchange.got) s sent it.response → IsAnsweredBySeen settings clerk (seen_by clerk s) exchange (seen_by clerk (after s sent))
+        by (inl (asked, asks, tells)) = asked_seen s exchange sent served asked state free asks it.response tells it.put
         by (inr (fault, none)) =
-            let answers : IsAnsweredAt Clients state_of settings (seen_by clerk s) exchange [] =
-            inr (served, record { response = it.response; ready = inr (fault, refl); put = it.put }) in
+            let answers : IsClientAnsweredAt settings (seen_by clerk s) exchange [] =
+            inr (free, (served, record { response = it.response; ready = inr (fault, refl); put = it.put })) in
             nothing_sent s exchange sent none (λ under. answers) (λ why denies. answers)
 
     turn_seen : (listener : Listener) (s : OfficeState) (exchange : Exchange) (sent : List Request) → IsState s → IsAnsweredAt listener state_of settings s exchange sent
         → RespondsBySeen listener state_of settings clerk (seen_by clerk s) exchange (seen_by clerk (after s sent))
-    turn_seen Clients s exchange sent state told = client_seen s exchange sent state told
+    turn_seen Clients s exchange sent state (inl told) = inl (client_seen s exchange sent state told)
+    turn_seen Clients s exchange sent state (inr (last, tells)) = inr (record { s = s; seen = refl; sent = sent; last = last; tells = tells; made = refl })
     turn_seen Orders s exchange sent state (last, tells) = record { s = s; seen = refl; sent = sent; last = last; tells = tells; made = refl }
 
     stop_seen : (listener : Listener) (s : OfficeState) (exchange : Exchange) (answered last : List Request) → IsStoppedAt listener state_of settings s exchange answered last
         → IsStoppedBySeen listener state_of settings clerk (seen_by clerk s) exchange
-    stop_seen Clients s exchange answered last it = it.0
+    stop_seen Clients s exchange answered last (inl it) = inl (it.no_order, it.told)
+    stop_seen Clients s exchange answered last (inr it) =
+        inr (seen_by clerk (after s answered), record { s = s; seen = refl; sent = answered; last = last; tells = it; made = refl })
     stop_seen Orders s exchange answered last it = (seen_by clerk (after s answered), record { s = s; seen = refl; sent = answered; last = last; tells = it; made = refl })
 
     -- ---- one after the other

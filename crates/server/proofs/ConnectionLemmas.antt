@@ -1,4 +1,4 @@
--- All who came to a room, whoever comes in, goes on or leaves.
+-- All connections that were accepted, as others are accepted, serviced or closed.
 use Rattle.std.proofs.Common.{◌≡◌, ◌<◌, ◌≤◌, ◌+◌, ◌-◌, ◌∙◌, ◌⊎◌, ◌∷◌, ◌++◌, ◌==◌, ℕ, Bool, List, [], None, Option, Some, All, AllPairs, IsSomeAnd, cond}
 use Rattle.std.proofs.Common.{ap, append-nil, arith, drop, eq-eqb, get_or, inl, inr, length, length-set, map, ne_eqb, option_map, refl, remove, set, subst, sym, suc, take}
 use Rattle.std.proofs.lemmas.Bool.{cases_eq, cases_order}
@@ -40,7 +40,7 @@ same_under number exchanges more others =
     filter-append (λ (v : Exchange). v.number == number) exchanges more ∙ ap (λ (vs : List Exchange). exchanges_of number exchanges ++ vs)
     (none_under number more others) ∙ append-nil (exchanges_of number exchanges)
 
--- a visit of his more, who had none
+-- one more exchange of a connection that had none
 pub first_under : (number : ℕ) (exchanges : List Exchange) (exchange : Exchange) → exchanges_of number exchanges ≡ [] → exchange.number ≡ number
     → exchanges_of number (exchanges ++ exchange ∷ []) ≡ exchange ∷ []
 first_under number exchanges exchange none is =
@@ -49,27 +49,27 @@ first_under number exchanges exchange none is =
 module _ {L : Type 0} (settings : ServerSettingsEntry) (stream : Stream L) where
   -- ---- one client
 
-  -- how it went with him so far, by what was gathered of him and his answer
-  pub went_so : (came : Accepted L) (now : L) (got : List ℕ) (answer : Option PendingResponse) (his : List Exchange) → IsServedSo stream came.stream now got answer
-      → HasExchangeFor (option_map (λ (a : PendingResponse). a.bytes.items) answer) his
-      → ((exchange : Exchange) → his ≡ exchange ∷ [] → IsGathered settings stream came exchange) → HadExchange settings stream (record { came = came; last = now }) his
-  went_so came now got None his own had gathered = subst (λ (vs : List Exchange). HadExchange settings stream (record { came = came; last = now }) vs) (sym had) own.untold
-  went_so came now got (Some answer) his own (exchange, is, same) gathered =
+  -- its course so far, by what was read of it and by its answer
+  pub went_so : (came : Accepted L) (now : L) (got : List ℕ) (answer : Option PendingResponse) (belongs : List Exchange) → IsServedSo stream came.stream now got answer
+      → HasExchangeFor (option_map (λ (a : PendingResponse). a.bytes.items) answer) belongs
+      → ((exchange : Exchange) → belongs ≡ exchange ∷ [] → IsGathered settings stream came exchange) → HadExchange settings stream (record { came = came; last = now }) belongs
+  went_so came now got None belongs own had gathered = subst (λ (vs : List Exchange). HadExchange settings stream (record { came = came; last = now }) vs) (sym had) own.untold
+  went_so came now got (Some answer) belongs own (exchange, is, same) gathered =
       subst (λ (vs : List Exchange). HadExchange settings stream (record { came = came; last = now }) vs) (sym is)
       (gathered exchange is, (answer.sent, subst (λ (bytes : List ℕ). IsSent stream now bytes answer.sent) (sym same) own))
 
-  pub gathered_for : (connection : ServedConnection L) (his : List Exchange) (exchange : Exchange) → HadExchange settings stream connection his
-      → his ≡ exchange ∷ [] → IsGathered settings stream connection.came exchange
-  gathered_for connection his exchange went is = let it = subst (λ (vs : List Exchange). HadExchange settings stream connection vs) is went in it.0
+  pub gathered_for : (connection : ServedConnection L) (belongs : List Exchange) (exchange : Exchange) → HadExchange settings stream connection belongs
+      → belongs ≡ exchange ∷ [] → IsGathered settings stream connection.came exchange
+  gathered_for connection belongs exchange went is = let it = subst (λ (vs : List Exchange). HadExchange settings stream connection vs) is went in it.0
 
-  -- he is as he was, whatever visits others had
+  -- it is unchanged, whatever exchanges others had
   stands_still : (exchanges more : List Exchange) (connection : ServedConnection L) (client : Client L) → All (λ (v : Exchange). v.number ≡ client.number → ⊥) more
       → IsOpenConnection stream exchanges connection client
       → IsOpenConnection stream (exchanges ++ more) connection client
   stands_still exchanges more connection client others it =
-      record { listener = it.listener; last = it.last; own = it.own; his = subst (HasExchangeFor (answer_of client)) (sym (same_under client.number exchanges more others)) it.his }
+      record { listener = it.listener; last = it.last; own = it.own; belongs = subst (HasExchangeFor (answer_of client)) (sym (same_under client.number exchanges more others)) it.belongs }
 
-  -- ---- one went on
+  -- ---- one was serviced
 
   module _ (all_connections : List (ServedConnection L)) (exchanges more : List Exchange) (clients : List (Client L)) (place : ℕ) (old new : Client L)
       (within : place < length clients) (is : old ≡ get_or clients place old)
@@ -105,11 +105,11 @@ module _ {L : Type 0} (settings : ServerSettingsEntry) (stream : Stream L) where
     others : (k : ℕ) → (k ≡ old.number → ⊥) → All (λ (v : Exchange). v.number ≡ k → ⊥) more
     others k ne = All-weaker (λ (v : Exchange). v.number ≡ old.number) (λ (v : Exchange). v.number ≡ k → ⊥) (λ v is_his is_other. ne (sym is_other ∙ is_his)) more mine
 
-    -- who he is, of those who came
+    -- which one it is, of those accepted
     abbrev pub his_guest : ServedConnection L
     his_guest = get_or all_connections old.number (record { came = record { listener = old.listener; stream = old.stream }; last = old.stream })
 
-    -- all who came, with his line as it is now
+    -- all that were accepted, with its stream as it is now
     abbrev pub all_now : List (ServedConnection L)
     all_now = set all_connections old.number (record { came = his_guest.came; last = new.stream })
 
@@ -130,11 +130,11 @@ module _ {L : Type 0} (settings : ServerSettingsEntry) (stream : Stream L) where
         ∙ ap (λ (c : Accepted L). set (map (λ (g : ServedConnection L). g.came) all_connections) old.number c) (sym came_at) ∙ set-get_or
         (map (λ (g : ServedConnection L). g.came) all_connections) old.number (record { listener = old.listener; stream = old.stream })
 
-    -- how it went with all of them, where it went so with him
+    -- the course of all of them, given its own
     pub went_still : AllHadExchanges settings stream all_connections exchanges → HadExchange settings stream (record { came = his_guest.came; last = new.stream })
         (exchanges_of old.number (exchanges ++ more))
         → AllHadExchanges settings stream all_now (exchanges ++ more)
-    went_still went his = record {
+    went_still went belongs = record {
       each = λ k d lt. by k d lt (cases_eq k old.number);
       known = All-append (λ (v : Exchange). v.number < length all_now) exchanges more
           (All-weaker (λ (v : Exchange). v.number < length all_connections) (λ (v : Exchange). v.number < length all_now) (λ v less. omega (arith, less, long)) exchanges went.known)
@@ -144,7 +144,7 @@ module _ {L : Type 0} (settings : ServerSettingsEntry) (stream : Stream L) where
         by : (k : ℕ) (d : ServedConnection L) → k < length all_now → (k ≡ old.number) ⊎ (k ≡ old.number → ⊥) → HadExchange settings stream (get_or all_now k d) (exchanges_of k (exchanges ++ more))
         by k d lt (inl e) =
             subst (λ (j : ℕ). HadExchange settings stream (get_or all_now j d) (exchanges_of j (exchanges ++ more))) (sym e)
-            (subst (λ (g : ServedConnection L). HadExchange settings stream g (exchanges_of old.number (exchanges ++ more))) (sym (at_his d)) his)
+            (subst (λ (g : ServedConnection L). HadExchange settings stream g (exchanges_of old.number (exchanges ++ more))) (sym (at_his d)) belongs)
         by k d lt (inr ne) =
             subst (λ (g : ServedConnection L). HadExchange settings stream g (exchanges_of k (exchanges ++ more))) (sym (at_other k d ne))
             (subst (λ (vs : List Exchange). HadExchange settings stream (get_or all_connections k d) vs) (sym (same_under k exchanges more (others k ne))) (went.each k d (omega (arith, lt, long))))
@@ -157,17 +157,18 @@ module _ {L : Type 0} (settings : ServerSettingsEntry) (stream : Stream L) where
     abbrev StandsIn : Client L → Type 0
     StandsIn c = (connection : ServedConnection L) → IsOpenConnection stream (exchanges ++ more) (get_or all_now c.number connection) c
 
-    -- how it stands with those who are in, where it stands so with him
+    -- the state of the open ones, given its own
     pub stand_still : All (λ (c : Client L). (connection : ServedConnection L) → IsOpenConnection stream exchanges (get_or all_connections c.number connection) c) clients
         → IsOpenConnection stream (exchanges ++ more) (record { came = his_guest.came; last = new.stream }) new
         → All (λ (c : Client L). (connection : ServedConnection L) → IsOpenConnection stream (exchanges ++ more) (get_or all_now c.number connection) c) (set clients place new)
-    stand_still stand his = λ k d lt. by k d lt (cases_eq k place)
+    stand_still stand belongs = λ k d lt. by k d lt (cases_eq k place)
       where
         by : (k : ℕ) (d : Client L) → k < length (set clients place new) → (k ≡ place) ⊎ (k ≡ place → ⊥) → StandsIn (get_or (set clients place new) k d)
         by k d lt (inl e) =
             subst (λ (j : ℕ). StandsIn (get_or (set clients place new) j d)) (sym e)
             (subst StandsIn (sym (get_or-set_same clients place new d within))
-            (λ connection. subst (λ (g : ServedConnection L). IsOpenConnection stream (exchanges ++ more) g new) (sym (ap (λ (n : ℕ). get_or all_now n connection) number ∙ at_his connection)) his))
+            (λ connection. subst (λ (g : ServedConnection L). IsOpenConnection stream (exchanges ++ more) g new) (sym (ap (λ (n : ℕ). get_or all_now n connection) number ∙ at_his connection))
+            belongs))
         by k d lt (inr ne) =
             let at : k < length clients = omega (arith, lt, length-set clients place new) in
             let other = other_number k d at ne in
@@ -184,14 +185,14 @@ module _ {L : Type 0} (settings : ServerSettingsEntry) (stream : Stream L) where
         in_still is_in = record {
           place = is_in.place;
           within = omega (arith, is_in.within, length-set clients place new);
-          his = λ c. number_kept is_in.place c ∙ is_in.his c;
+          belongs = λ c. number_kept is_in.place c ∙ is_in.belongs c;
         }
 
         by : (k ≡ old.number) ⊎ (k ≡ old.number → ⊥) → IsIn (set clients place new) k ⊎ HasLeft stream gone (exchanges ++ more) k (get_or all_now k d)
         by (inl e) = inl (record {
           place = place;
           within = omega (arith, within, length-set clients place new);
-          his = λ c. ap (λ (x : Client L). x.number) (get_or-set_same clients place new c within) ∙ number ∙ sym e;
+          belongs = λ c. ap (λ (x : Client L). x.number) (get_or-set_same clients place new c within) ∙ number ∙ sym e;
         })
         by (inr ne) = either (left k d (omega (arith, lt, long)))
           where
@@ -212,7 +213,7 @@ module _ {L : Type 0} (settings : ServerSettingsEntry) (stream : Stream L) where
       subst (λ (n : ℕ). AreIn settings stream all_connections exchanges gone n clients_then) (sym same_came)
       (subst (λ (cs : List (Client L)). AreIn settings stream all_connections exchanges gone came cs) (sym same_clients) are)
 
-  -- one went on: all who came are there as before, and those who are in
+  -- one was serviced: all that were accepted are there as before, and so are the open ones
   pub one_went_on : (all_connections : List (ServedConnection L)) (exchanges more : List Exchange) (gone : List (Removed L)) (came : ℕ) (clients : List (Client L))
       (place : ℕ) (old new : Client L) → AreIn settings stream all_connections exchanges gone came clients
       → place < length clients → old ≡ get_or clients place old → new.listener ≡ old.listener → new.number ≡ old.number → All (λ (v : Exchange). v.number ≡ old.number) more
@@ -229,15 +230,15 @@ module _ {L : Type 0} (settings : ServerSettingsEntry) (stream : Stream L) where
       let stood : IsOpenConnection stream exchanges connection old =
       subst (λ (c : Client L). IsOpenConnection stream exchanges (get_or all_connections c.number some_guest) c) (sym (here old)) (are.stand place old within some_guest) in
       let (own, had, gathered) = goes connection stood (are.went.each old.number some_guest less) in
-      let his : HadExchange settings stream (record { came = connection.came; last = new.stream }) (exchanges_of old.number (exchanges ++ more)) =
+      let belongs : HadExchange settings stream (record { came = connection.came; last = new.stream }) (exchanges_of old.number (exchanges ++ more)) =
       went_so connection.came new.stream new.got.items new.answer (exchanges_of old.number (exchanges ++ more)) own had gathered in
       let stands : IsOpenConnection stream (exchanges ++ more) (record { came = connection.came; last = new.stream }) new =
-      record { listener = listener ∙ stood.listener; last = refl; own = own; his = subst (λ (n : ℕ). HasExchangeFor (answer_of new) (exchanges_of n (exchanges ++ more))) (sym number) had } in (
+      record { listener = listener ∙ stood.listener; last = refl; own = own; belongs = subst (λ (n : ℕ). HasExchangeFor (answer_of new) (exchanges_of n (exchanges ++ more))) (sym number) had } in (
         all_now all_connections exchanges more clients place old new within is number are.apart are.known mine,
         all_came all_connections exchanges more clients place old new within is number are.apart are.known mine,
         record {
           count = length-set all_connections old.number (record { came = connection.came; last = new.stream }) ∙ are.count;
-          went = went_still all_connections exchanges more clients place old new within is number are.apart are.known mine are.went his;
+          went = went_still all_connections exchanges more clients place old new within is number are.apart are.known mine are.went belongs;
           apart = apart_still all_connections exchanges more clients place old new within is number are.apart are.known mine;
           known = known_still all_connections exchanges more clients place old new within is number are.apart are.known mine;
           stand = stand_still all_connections exchanges more clients place old new within is number are.apart are.known mine are.stand stands;
@@ -246,7 +247,7 @@ module _ {L : Type 0} (settings : ServerSettingsEntry) (stream : Stream L) where
         },
       )
 
-  -- ---- one came in
+  -- ---- one was accepted
 
   abbrev pub with_one : List (ServedConnection L) → Accepted L → List (ServedConnection L)
   with_one all_connections start = all_connections ++ record { came = start; last = start.stream } ∷ []
@@ -254,7 +255,7 @@ module _ {L : Type 0} (settings : ServerSettingsEntry) (stream : Stream L) where
   one_longer : (all_connections : List (ServedConnection L)) (start : Accepted L) → length (with_one all_connections start) ≡ length all_connections + 1
   one_longer all_connections start = length_push all_connections (record { came = start; last = start.stream })
 
-  -- whoever comes has had no turn, and was told nothing
+  -- a new connection has had no exchange, and nothing was sent to it
   came_in : (all_connections : List (ServedConnection L)) (exchanges : List Exchange) (start : Accepted L) → AllHadExchanges settings stream all_connections exchanges
       → HasTaken (stream.taken start.stream) []
       → AllHadExchanges settings stream (with_one all_connections start) exchanges
@@ -290,7 +291,7 @@ module _ {L : Type 0} (settings : ServerSettingsEntry) (stream : Stream L) where
       subst (λ (g : ServedConnection L). IsOpenConnection stream exchanges g (get_or clients k d))
       (sym (get_or_append_left all_connections (record { came = start; last = start.stream } ∷ []) connection (get_or clients k d).number (known k d lt))) (stand k d lt connection)
 
-  -- whoever was in or had left is so still
+  -- a connection that was open or closed is so still
   left_on : (all_connections : List (ServedConnection L)) (exchanges : List Exchange) (gone : List (Removed L)) (clients : List (Client L)) (start : Accepted L) (client : Client L)
       → client.number ≡ length all_connections
       → ((k : ℕ) (d : ServedConnection L) → k < length all_connections → IsIn clients k ⊎ HasLeft stream gone exchanges k (get_or all_connections k d))
@@ -301,14 +302,14 @@ module _ {L : Type 0} (settings : ServerSettingsEntry) (stream : Stream L) where
       in_still is_in = record {
         place = is_in.place;
         within = omega (arith, is_in.within, length_push clients client);
-        his = λ c. ap (λ (x : Client L). x.number) (get_or_append_left clients (client ∷ []) c is_in.place is_in.within) ∙ is_in.his c;
+        belongs = λ c. ap (λ (x : Client L). x.number) (get_or_append_left clients (client ∷ []) c is_in.place is_in.within) ∙ is_in.belongs c;
       }
 
       by : (k ≡ length all_connections) ⊎ (k ≡ length all_connections → ⊥) → IsIn (clients ++ client ∷ []) k ⊎ HasLeft stream gone exchanges k (get_or (with_one all_connections start) k d)
       by (inl e) = inl (record {
         place = length clients;
         within = omega (arith, length_push clients client);
-        his = λ c. ap (λ (x : Client L). x.number) (get_or_push clients client c (length clients) refl) ∙ at ∙ sym e;
+        belongs = λ c. ap (λ (x : Client L). x.number) (get_or_push clients client c (length clients) refl) ∙ at ∙ sym e;
       })
       by (inr ne) = either (left k d (omega (arith, lt, ne, one_longer all_connections start)))
         where
@@ -319,7 +320,7 @@ module _ {L : Type 0} (settings : ServerSettingsEntry) (stream : Stream L) where
               let less : k < length all_connections = omega (arith, lt, ne, one_longer all_connections start) in
               inr (subst (λ (x : ServedConnection L). HasLeft stream gone exchanges k x) (sym (get_or_append_left all_connections (record { came = start; last = start.stream } ∷ []) d k less)) it)
 
-  -- it came in
+  -- it was accepted
   pub one_entered : (all_connections : List (ServedConnection L)) (exchanges : List Exchange) (gone : List (Removed L)) (came : ℕ) (clients : List (Client L))
       (start : Accepted L) (client : Client L) → AreIn settings stream all_connections exchanges gone came clients
       → HasTaken (stream.taken start.stream) [] → client.listener ≡ start.listener → client.stream ≡ start.stream → client.number ≡ came → client.answer ≡ None → IsOf stream start.stream client
@@ -340,7 +341,7 @@ module _ {L : Type 0} (settings : ServerSettingsEntry) (stream : Stream L) where
         stand = All-push (λ (c : Client L). (g : ServedConnection L) → IsOpenConnection stream exchanges (get_or (with_one all_connections start) c.number g) c) clients client
             (stand_on all_connections start exchanges clients are.known are.stand)
             (λ g. subst (λ (x : ServedConnection L). IsOpenConnection stream exchanges x client)
-            (sym (get_or_push all_connections (record { came = start; last = start.stream }) g client.number (sym at))) (record { listener = listener; last = sym over; own = own; his = had }));
+            (sym (get_or_push all_connections (record { came = start; last = start.stream }) g client.number (sym at))) (record { listener = listener; last = sym over; own = own; belongs = had }));
         sum = omega (arith, are.sum, length_push clients client, one_longer all_connections start);
         left = left_on all_connections exchanges gone clients start client at are.left;
       }
@@ -355,7 +356,7 @@ module _ {L : Type 0} (settings : ServerSettingsEntry) (stream : Stream L) where
   why_holds exchanges connection client TimedOut stood may = tt
   why_holds exchanges connection client Evicted stood may = tt
   why_holds exchanges connection client Closing stood may = tt
-  why_holds exchanges connection client Done stood may = whole client.answer refl stood.own stood.his may
+  why_holds exchanges connection client Done stood may = whole client.answer refl stood.own stood.belongs may
     where
       whole : (answer : Option PendingResponse) → client.answer ≡ answer → IsServedSo stream connection.came.stream client.stream client.got.items client.answer
           → HasExchangeFor (option_map (λ (a : PendingResponse). a.bytes.items) client.answer) (exchanges_of client.number exchanges)
@@ -372,7 +373,7 @@ module _ {L : Type 0} (settings : ServerSettingsEntry) (stream : Stream L) where
   rest P xs n all = All-append P (take n xs) (drop (suc n) xs) (All-take P n xs all) (All-drop P (suc n) xs all)
 
   module _ (clients : List (Client L)) (place : ℕ) (client : Client L) (within : place < length clients) (here : (d : Client L) → client ≡ get_or clients place d) where
-    -- whoever is at another place is in still
+    -- a connection at another place is still open
     in_without : (k : ℕ) → (k ≡ client.number → ⊥) → IsIn clients k → IsIn (remove clients place) k
     in_without k ne is_in = by (cases_order is_in.place place)
       where
@@ -380,18 +381,18 @@ module _ {L : Type 0} (settings : ServerSettingsEntry) (stream : Stream L) where
         fewer = length-remove clients place within
 
         by : (is_in.place ≡ place) ⊎ ((is_in.place < place) ⊎ (place < is_in.place)) → IsIn (remove clients place) k
-        by (inl same) = absurd (ne (sym (is_in.his client) ∙ ap (λ (j : ℕ). (get_or clients j client).number) same ∙ sym (ap (λ (c : Client L). c.number) (here client))))
+        by (inl same) = absurd (ne (sym (is_in.belongs client) ∙ ap (λ (j : ℕ). (get_or clients j client).number) same ∙ sym (ap (λ (c : Client L). c.number) (here client))))
         by (inr (inl below)) = record {
           place = is_in.place;
           within = omega (arith, below, within, fewer);
-          his = λ c. ap (λ (x : Client L). x.number) (get_or-remove_below clients place c is_in.place below within) ∙ is_in.his c;
+          belongs = λ c. ap (λ (x : Client L). x.number) (get_or-remove_below clients place c is_in.place below within) ∙ is_in.belongs c;
         }
         by (inr (inr above)) = record {
           place = is_in.place - 1;
           within = let inside = is_in.within in omega (arith, above, inside, fewer);
-          his = λ c.
+          belongs = λ c.
               ap (λ (x : Client L). x.number) (get_or-remove_above clients place c (is_in.place - 1) (omega (arith, above)) within)
-              ∙ ap (λ (j : ℕ). (get_or clients j c).number) (before_again is_in.place above) ∙ is_in.his c;
+              ∙ ap (λ (j : ℕ). (get_or clients j c).number) (before_again is_in.place above) ∙ is_in.belongs c;
         }
           where
             before_again : (n : ℕ) → place < n → n - 1 + 1 ≡ n
@@ -426,7 +427,7 @@ module _ {L : Type 0} (settings : ServerSettingsEntry) (stream : Stream L) where
       by k d (inr ne) (inl is_in) = inl (in_without clients place client within here k ne is_in)
       by k d (inr ne) (inr it) = inr (record { why = it.why; back = Contains-append_left gone (removed_of client why ∷ []) _ it.back; holds = it.holds })
 
-  -- nobody came yet
+  -- none was accepted yet
   pub none_in : AreIn settings stream [] [] [] 0 []
   none_in = record {
     count = refl;

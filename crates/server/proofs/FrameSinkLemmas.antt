@@ -1,4 +1,4 @@
--- What goes out of an order, one frame behind the other.
+-- The output of an order, frame after frame.
 use Rattle.std.proofs.Common.{◌≡◌, ◌∙◌, ◌<◌, ◌^◌, ◌++◌, ◌⊎◌, Bool, false, true, ◌&&◌, cond, ℕ, List, [], None}
 use Rattle.std.proofs.Common.{Option, Some, ap, arith, drop, fold, inl, inr, length, length-append, refl, subst, sym, take}
 use Rattle.std.proofs.Common.{leb}
@@ -107,7 +107,7 @@ module _ {L : Type 0} (stream : Stream L) where
 
   -- ---- one frame more
 
-  -- the line took more of it
+  -- the stream accepted more of it
   pub out_more : (old new : L) (before after : PendingResponse) → Delivers stream old new before.bytes.items before.sent after.sent
       → after.bytes.items ≡ before.bytes.items → IsGoingOut stream old before
       → IsGoingOut stream new after
@@ -117,7 +117,7 @@ module _ {L : Type 0} (stream : Stream L) where
     told = subst (λ (bytes : List ℕ). IsSent stream new bytes after.sent) (sym same) (told_more stream old new before.bytes.items before.sent after.sent goes.told delivers);
   }
 
-  -- more was put behind it, of which the line took nothing yet
+  -- more was appended, of which the stream has accepted nothing yet
   told_still : (now : L) (before after : PendingResponse) (more : List ℕ) → after.bytes.items ≡ before.bytes.items ++ more → after.sent ≡ before.sent → IsSent stream now before.bytes.items before.sent
       → IsSent stream now after.bytes.items after.sent
   told_still now before after more put still told =
@@ -142,7 +142,7 @@ module _ {L : Type 0} (stream : Stream L) where
         says.output,
       )
 
-  -- more frames were appended, of which the line took nothing yet
+  -- more frames were appended, of which the stream has accepted nothing yet
   told_begun : (now : L) (before after : PendingResponse) → take (length before.bytes.items) after.bytes.items ≡ before.bytes.items → after.sent ≡ before.sent
       → IsSent stream now before.bytes.items before.sent
       → IsSent stream now after.bytes.items after.sent

@@ -1,4 +1,4 @@
--- What clients and orders who have their turns one after the other leave of an office.
+-- What clients and orders that are processed one after the other leave of an office.
 use Rattle.std.proofs.Common.{◌≡◌, ◌≤◌, ◌+◌, ◌∙◌, ◌⊎◌, ◌∷◌, ◌++◌, append_assoc, drop, true, ℕ, Bool, List, [], Some}
 use Rattle.std.proofs.Common.{arith, inl, inr, length, length-append, refl, sym, subst, suc, take, ap}
 use Rattle.std.specs.Prelude.{false}
@@ -13,11 +13,11 @@ use Rattle.register.specs.declared.command.Request.{Request}
 use Rattle.tables.specs.Faults.{fault_number}
 use Rattle.tables.specs.declared.fault.Fault.{Fault}
 use Rattle.tables.specs.declared.fault.Fault.TheVariants.{Memory}
-use Rattle.store.specs.Offices.{IsAt, LeavesState}
+use Rattle.store.specs.StateTables.{IsAt, LeavesState}
 use Rattle.office.specs.Answers.{IsMemoryOrStore, IsOpenAt, IsReadAt, told_of}
 use Rattle.office.specs.Values.{OfficeValue}
 use Rattle.office.proofs.RunLemmas.{beginning}
-use Rattle.wire.specs.Requests.{HttpRequestEntry, Asks, denied, keying, reading, shown}
+use Rattle.wire.specs.Requests.{HttpRequestEntry, Asks, console, denied, keying, order, reading, shown}
 use Rattle.wire.specs.Responses.{ResponseEntry, fault_response}
 use Rattle.wire.specs.Serving.{FaultLeaves, IsAnswered, IsServed, ReadiesFor, TellsAsked, TellsFault, TellsFor, told_response}
 use Rattle.wire.specs.Told.{IsTold, IsWritten}
@@ -30,11 +30,12 @@ use Rattle.desk.specs.Pages.{Cut, Page}
 use Rattle.desk.proofs.KeptLemmas.{kept_done}
 use Rattle.desk.proofs.OpenLemmas.{after_next, open_done}
 use Rattle.server.specs.ServedOrders.{IsOrderOutcome, IsFramed, TellsOrder, TellsSo, folder_of}
+use Rattle.server.specs.ConsoleOrders.{IsInResponse, TellsConsole}
 use Rattle.wire.specs.Gates.{HttpSettingsEntry}
 use Rattle.server.specs.Reads.{AreReadAt, ServedOffice, IsRead, ReadEntry, with_none_kept}
 use Rattle.server.specs.Settings.{ServerSettingsEntry}
-use Rattle.server.specs.Exchanges.{AnswersInTurn, AreTurnedAway, ChangesNothing, EndsSo, IsAnsweredAt, IsKeptOf, IsKeptWaiting, IsLastFor, IsStoppedAt}
-use Rattle.server.specs.Exchanges.{IsToldClosed, IsSentAway, IsWithoutFile, KeepsReads, ServesAt, ServesClient, ServesExchange, Exchange}
+use Rattle.server.specs.Exchanges.{AnswersInTurn, AreTurnedAway, AsksNoOrder, ChangesNothing, EndsSo, IsAnsweredAt, KeepsExchanges, IsKeptWaiting, IsLastFor, IsStoppedAt}
+use Rattle.server.specs.Exchanges.{IsToldClosed, IsSentAway, IsWithoutFile, KeepsReads, ServesAsked, ServesAt, ServesClient, ServesExchange, Exchange}
 use Rattle.desk.specs.declared.orders.Job.{Job}
 use Rattle.server.specs.declared.served_order.ServedOrder.{ServedOrder}
 use Rattle.server.specs.declared.served_order.ServedOrder.TheVariants as asked
@@ -69,6 +70,10 @@ ready_answered settings bytes s (shown clerk show) answer response closed st ask
     inl ([], inl (shown clerk show, asks, (subst (λ a. IsTold a response) it.is.1 tells, refl)), subst (λ x. IsOpenAt x closed st) it.is.0 it.open_at)
 ready_answered settings bytes s (reading what) answer response closed st asks tells it =
     inl ([], inl (reading what, asks, (subst (λ a. IsTold a response) it.is.1 tells, refl)), subst (λ x. IsOpenAt x closed st) it.is.0 it.open_at)
+ready_answered settings bytes s (console show) answer response closed st asks tells it =
+    inl ([], inl (console show, asks, (subst (λ a. IsTold a response) it.is.1 tells, refl)), subst (λ x. IsOpenAt x closed st) it.is.0 it.open_at)
+ready_answered settings bytes s (order entry) answer response closed st asks tells it =
+    inl ([], inl (order entry, asks, (subst (λ a. IsTold a response) it.is.1 tells, refl)), subst (λ x. IsOpenAt x closed st) it.is.0 it.open_at)
 ready_answered settings bytes s (keying clerk batch entry) answer response closed st asks tells it =
     let (outcome, is, next, told) = it.is in
     let same = is.each is.request is.is in
@@ -78,7 +83,7 @@ ready_answered settings bytes s (keying clerk batch entry) answer response close
       subst (λ x. IsOpenAt x closed st) (next ∙ ap (state_after s) same) it.open_at,
     )
 
--- a fault that is want of memory is told as that
+-- a failed allocation is reported as that
 tells_memory : (fault : Fault) (response : _) → fault ≡ Memory → IsTold (fault_response (fault_number fault)) response → IsWritten (fault_response 101) response
 tells_memory fault response is tells = by (subst (λ (f : Fault). IsTold (fault_response (fault_number f)) response) is tells)
   where
@@ -97,6 +102,8 @@ ready_failed : (settings : HttpSettingsEntry) (bytes : List ℕ) (s : OfficeStat
     → ReadyLeaves settings bytes s (λ sent. TellsFor settings (Some bytes) s sent response) (TellsFault response) closed st
 ready_failed settings bytes s (denied why) fault response closed st asks tells leaves = absurd leaves
 ready_failed settings bytes s (shown clerk show) fault response closed st asks tells leaves = absurd leaves
+ready_failed settings bytes s (console show) fault response closed st asks tells leaves = absurd leaves
+ready_failed settings bytes s (order entry) fault response closed st asks tells leaves = absurd leaves
 ready_failed settings bytes s (reading what) fault response closed st asks tells (inl kept) = inl ([], inr (tells_memory fault response kept.memory tells, refl), kept.open_at)
 ready_failed settings bytes s (reading what) fault response closed st asks tells (inr shut) = inr (
   [],
@@ -131,7 +138,7 @@ ready_leaves settings bytes s response closed st (inl ready) =
       | inr failed ↦ ready_failed settings bytes s ready.asked failed.0 response closed st ready.asks (subst (λ a. IsTold a response) failed.1 tells) failed.2
     ]
 
--- what a client who was served leaves
+-- what a served client leaves
 abbrev ClientLeaves : HttpSettingsEntry → OfficeState → Exchange → Bool → State → Type 0
 ClientLeaves settings s exchange closed st =
     ((sent : List Request) × EndsSo exchange (IsServed (TellsFor settings (Some exchange.got) s sent)) × IsOpenAt (after s sent) closed st)
@@ -194,7 +201,7 @@ module _ {S : Type 0} (state_of : Held S → State) (folder : Folder) (s : Offic
 
 -- ---- one after the other
 
--- what one who had his turn leaves: what was answered for him, the office open behind it, and the answers that are kept right at its state; or a fault closed it
+-- what a processed request leaves: its answer, the office, still open, and the cached answers, right at its state; or a fault closed it
 abbrev TurnLeaves : {S : Type 0} → Listener → (Held S → State) → ServerSettingsEntry → OfficeState → Exchange → List ReadEntry → Bool → State → Type 0
 TurnLeaves listener state_of settings s exchange reads closed st =
     ((sent : List Request) × IsAnsweredAt listener state_of settings s exchange sent × AreReadAt (after s sent) reads × IsOpenAt (after s sent) closed st)
@@ -216,37 +223,63 @@ nothing_sent settings s exchange asked sent asks still (served, it) = by it.read
     of (denied why) is tells = tells.1
     of (shown clerk show) is tells = tells.1
     of (keying clerk batch entry) is tells = absurd (subst ChangesNothing (sym is) still)
+    of (console show) is tells = tells.1
+    of (order entry) is tells = absurd (subst ChangesNothing (sym is) still)
 
     by : TellsFor settings (Some exchange.got) s sent it.response → sent ≡ []
     by (inl (other, so, tells)) = of other (AsksOneThing-all settings exchange.got other asked so asks) tells
     by (inr (fault, none)) = none
 
 module _ {S : Type 0} (settings : ServerSettingsEntry) (state_of : Held S → State) where
-  -- a client who must wait leaves all as it was
+  -- a client that must wait leaves all unchanged
   stays_clean : (old new : ServedOffice S) → new ≡ old → HasCleanDisk (state_of new.office.held) → HasCleanDisk (state_of old.office.held)
   stays_clean old new stays clean = subst (λ (d : ServedOffice S). HasCleanDisk (state_of d.office.held)) stays clean
 
-  -- a client that is turned back is told so, and all stays as it was
+  -- a client that is rejected gets that response, and all is unchanged
   turned_back : (exchange : Exchange) (old new : ServedOffice S) → IsKeptWaiting settings.clients old exchange new ⊎ IsWithoutFile settings old exchange new
       → IsSentAway settings exchange × (new ≡ old)
   turned_back exchange old new (inl waits) = (inl waits.told, waits.stays)
   turned_back exchange old new (inr gone) = (inr (gone.told, gone.unknown), gone.stays)
 
+  asked_clean : (exchange : Exchange) (old new : ServedOffice S) → ServesAsked settings state_of old exchange new
+      → HasCleanDisk (state_of new.office.held) → HasCleanDisk (state_of old.office.held)
+  asked_clean exchange old new (inl (free, it)) clean = it.clean clean
+  asked_clean exchange old new (inr (it, emptied)) clean = it.follows.tells.clean clean
+
+  -- a client that is let in finds the office closed
+  asked_away : (exchange : Exchange) (old new : ServedOffice S) → ServesAsked settings state_of old exchange new
+      → old.office.closed ≡ true → IsToldClosed Clients settings exchange × (new.office ≡ old.office)
+  asked_away exchange old new (inl (free, it)) closed = let (told, stays) = it.turned_away closed in (inl (inr (free, told)), stays)
+  asked_away exchange old new (inr (it, emptied)) closed =
+      let had = it.follows.tells in
+      let (page, stays) = had.turned_away closed in (
+        inr (record {
+          entry = it.entry;
+          asks = it.asks;
+          files = it.follows.files;
+          asked = it.follows.asked;
+          is = it.follows.is;
+          cut = had.cut;
+          told = subst (λ (p : Page). IsInResponse had.cut p exchange.answer) page had.told;
+        }),
+        stays,
+      )
+
   clean_at : (listener : Listener) (exchange : Exchange) (old new : ServedOffice S) → ServesAt listener settings state_of old exchange new
       → HasCleanDisk (state_of new.office.held) → HasCleanDisk (state_of old.office.held)
   clean_at Clients exchange old new (inl it) clean = stays_clean old new (turned_back exchange old new it).1 clean
-  clean_at Clients exchange old new (inr it) clean = it.serves.clean clean
+  clean_at Clients exchange old new (inr it) clean = asked_clean exchange old new it.serves clean
   clean_at Orders exchange old new it clean = it.0.tells.clean clean
 
   away_at : (listener : Listener) (exchange : Exchange) (old new : ServedOffice S) → ServesAt listener settings state_of old exchange new
       → old.office.closed ≡ true → IsToldClosed listener settings exchange × (new.office ≡ old.office)
-  away_at Clients exchange old new (inl it) closed = let back = turned_back exchange old new it in (inl back.0, ap (λ (d : ServedOffice S). d.office) back.1)
-  away_at Clients exchange old new (inr it) closed = let (told, stays) = it.serves.turned_away closed in (inr told, stays)
+  away_at Clients exchange old new (inl it) closed = let back = turned_back exchange old new it in (inl (inl back.0), ap (λ (d : ServedOffice S). d.office) back.1)
+  away_at Clients exchange old new (inr it) closed = asked_away exchange old new it.serves closed
   away_at Orders exchange old new (it, emptied, same) closed =
       let (page, stays) = it.tells.turned_away closed in
       (record { files = it.files; asked = it.asked; is = it.is; cut = it.tells.cut; told = subst (λ (p : Page). IsFramed it.tells.cut p exchange.answer) page it.tells.told }, stays)
 
-  -- what is kept behind a client who was served is right at the state after him
+  -- what is cached after a served client is right at the state after it
   kept_right : (s : OfficeState) (exchange : Exchange) (old new : ServedOffice S) → ServesClient settings.clients state_of old exchange new
       → HasCleanDisk (state_of new.office.held) → old.office.closed ≡ false
       → IsAt s (state_of old.office.held) → AreReadAt s old.kept.reads → (sent : List Request) → EndsSo exchange (IsServed (TellsFor settings.clients (Some exchange.got) s sent))
@@ -259,14 +292,40 @@ module _ {S : Type 0} (settings : ServerSettingsEntry) (state_of : Held S → St
           let still = keeps clean is_open s at right in
           subst (λ (rs : List Request). AreReadAt (after s rs) new.kept.reads) (sym (nothing_sent settings.clients s exchange asked sent asks nothing told)) still.0
 
-  -- a client was served
-  served_leaves : (s : OfficeState) (exchange : Exchange) (old new : ServedOffice S) → ServesClient settings.clients state_of old exchange new
+  -- a client that asks no order was served
+  served_leaves : (s : OfficeState) (exchange : Exchange) (old new : ServedOffice S) → AsksNoOrder settings.clients exchange.got → ServesClient settings.clients state_of old exchange new
       → HasCleanDisk (state_of new.office.held) → old.office.closed ≡ false
       → IsAt s (state_of old.office.held) → AreReadAt s old.kept.reads → TurnLeaves Clients state_of settings s exchange new.kept.reads new.office.closed (state_of new.office.held)
-  served_leaves s exchange old new it clean is_open at right =
+  served_leaves s exchange old new free it clean is_open at right =
       elim (client_leaves settings.clients s exchange new.office.closed (state_of new.office.held) (it.serves clean is_open s at right)) [
-        | inl (sent, told, open_at) ↦ inl (sent, inr told, kept_right s exchange old new it clean is_open at right sent told, open_at)
-        | inr (last, ends, is_last, (is_closed, leaves)) ↦ inr ([], last, (ends, refl, is_last), is_closed, leaves)
+        | inl (sent, told, open_at) ↦ inl (sent, inl (inr (free, told)), kept_right s exchange old new it clean is_open at right sent told, open_at)
+        | inr (last, ends, is_last, (is_closed, leaves)) ↦ inr ([], last, inl (record { no_order = free; told = ends; none = refl; is_last = is_last }), is_closed, leaves)
+      ]
+
+  -- so it was, or its order was followed
+  asked_leaves : (s : OfficeState) (exchange : Exchange) (old new : ServedOffice S) → ServesAsked settings state_of old exchange new
+      → HasCleanDisk (state_of new.office.held) → old.office.closed ≡ false
+      → IsAt s (state_of old.office.held) → AreReadAt s old.kept.reads → TurnLeaves Clients state_of settings s exchange new.kept.reads new.office.closed (state_of new.office.held)
+  asked_leaves s exchange old new (inl (free, it)) clean is_open at right = served_leaves s exchange old new free it clean is_open at right
+  asked_leaves s exchange old new (inr (it, emptied)) clean is_open at right =
+      let had = it.follows in
+      let told = had.tells in
+      let tells : (sent last : List Request) → TellsSo state_of (folder_of had.files) s had.asked told.cut told.page sent last
+      → TellsConsole state_of settings s exchange.got exchange.answer sent last =
+      λ sent last so. record {
+        entry = it.entry;
+        asks = it.asks;
+        files = had.files;
+        asked = had.asked;
+        is = had.is;
+        cut = told.cut;
+        page = told.page;
+        told = told.told;
+        tells = so;
+      } in
+      elim (order_leaves state_of (folder_of had.files) s old.office new.office had.asked told.cut told.page (told.does clean is_open s at)) [
+        | inl (sent, last, so, open_at) ↦ inl (sent, inr (last, tells sent last so), none_read (after s sent) new.kept.reads emptied, open_at)
+        | inr (sent, last, so, is_closed, leaves) ↦ inr (sent, last, inr (tells sent last so), is_closed, leaves)
       ]
 
   turn_leaves : (listener : Listener) (s : OfficeState) (exchange : Exchange) (old new : ServedOffice S) → ServesAt listener settings state_of old exchange new
@@ -275,8 +334,8 @@ module _ {S : Type 0} (settings : ServerSettingsEntry) (state_of : Held S → St
   turn_leaves Clients s exchange old new (inl it) clean is_open at right =
       let back = turned_back exchange old new it in
       subst (λ (d : ServedOffice S). TurnLeaves Clients state_of settings s exchange d.kept.reads d.office.closed (state_of d.office.held)) (sym back.1)
-      (inl ([], inl (back.0, refl), right, record { is_open = is_open; at = at }))
-  turn_leaves Clients s exchange old new (inr it) clean is_open at right = served_leaves s exchange old new it.serves clean is_open at right
+      (inl ([], inl (inl (back.0, refl)), right, record { is_open = is_open; at = at }))
+  turn_leaves Clients s exchange old new (inr it) clean is_open at right = asked_leaves s exchange old new it.serves clean is_open at right
   turn_leaves Orders s exchange old new (it, emptied, same) clean is_open at right =
       let told = it.tells in
       let tells : (sent last : List Request) → TellsSo state_of (folder_of it.files) s it.asked told.cut told.page sent last → TellsOrder state_of settings s exchange.got exchange.answer sent last =
@@ -299,7 +358,7 @@ module _ {S : Type 0} (settings : ServerSettingsEntry) (state_of : Held S → St
       let others = turned_away exchanges mid new rest (ap (λ (o : OfficeValue S). o.closed) stays ∙ closed) in
       ((away, others.0), others.1 ∙ stays)
 
-  -- what is kept of those who have their turns from a state on
+  -- what is cached of those that are processed from a state on
   pub record Keeps (s : OfficeState) (exchanges : List Exchange) (closed : Bool) (st : State) : Type 0 where
     pub answered : List Request
     pub last : List Request
@@ -313,7 +372,7 @@ module _ {S : Type 0} (settings : ServerSettingsEntry) (state_of : Held S → St
       let more = behind (after_one s r) sent rest n x it in
       (suc more.0, omega (arith, more.1), omega (arith, more.2), omega (arith, more.3), more.4)
 
-  -- one was answered, and the others go on behind him
+  -- one was answered, and the others follow
   goes_on : (s : OfficeState) (sent : List Request) (exchange : Exchange) (exchanges : List Exchange) (closed : Bool) (st : State) → (others : Keeps (after s sent) exchanges closed st)
       → AnswersInTurn state_of settings s (exchange ∷ exchanges) (sent ++ others.answered) others.last → Keeps s (exchange ∷ exchanges) closed st
   goes_on s sent exchange exchanges closed st others in_turn = record {
@@ -328,7 +387,7 @@ module _ {S : Type 0} (settings : ServerSettingsEntry) (state_of : Held S → St
         others.leaves;
   }
 
-  -- the office is closed since his turn
+  -- the office is closed since then
   shut : (s : OfficeState) (answered last : List Request) (exchanges : List Exchange) (closed : Bool) (st : State) → closed ≡ true → AnswersInTurn state_of settings s exchanges answered last
       → LeavesState st (IsAfterSome s (answered ++ last) (length answered)) → Keeps s exchanges closed st
   shut s answered last exchanges closed st is_closed in_turn leaves = record {
@@ -366,7 +425,7 @@ module _ {S : Type 0} (settings : ServerSettingsEntry) (state_of : Held S → St
   pub kept_of : (earlier : List Request) (exchanges : List Exchange) (old : OfficeValue S) (new : ServedOffice S)
       → FoldsTo (ServesExchange settings state_of) (with_none_kept old) exchanges new
       → HasCleanDisk (state_of new.office.held) → old.closed ≡ false → IsAt (after empty_office earlier) (state_of old.held)
-      → IsKeptOf state_of settings earlier exchanges new.office.closed (state_of new.office.held)
+      → KeepsExchanges state_of settings earlier exchanges new.office.closed (state_of new.office.held)
   kept_of earlier exchanges old new each clean is_open at =
       let it = keeps (after empty_office earlier) exchanges (with_none_kept old) new each clean is_open at (none_read (after empty_office earlier) [] refl) in
       record {

@@ -5,6 +5,7 @@ pub mod ReadLemmas
 pub mod OrderLemmas
 pub mod KeptLemmas
 pub mod AnswerLemmas
+pub mod ConsoleLemmas
 pub mod ServicingLemmas
 pub mod ConnectionLemmas
 pub mod ServerLemmas

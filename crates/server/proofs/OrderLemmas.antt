@@ -19,14 +19,14 @@ use Rattle.order_protocol.specs.declared.order_message.MessagePart.{MessagePart}
 use Rattle.order_protocol.proofs.MessageParts.{handed_again}
 use Rattle.desk.specs.Pages.{Cut, IsShown, Outputs, Page, Shows, Tells, cut_behind, cut_error, uncut}
 use Rattle.desk.specs.declared.lines.Failure.TheVariants.{Office}
-use Rattle.server.specs.ServedOrders.{AsksSo, IsOrderOutcome, FollowsOrder, IsForFile, IsMessage, IsUnread, TellsAsked, folder_of, shut_page, untold, words_in}
+use Rattle.server.specs.ServedOrders.{AsksSo, Follows, IsOrderOutcome, FollowsOrder, IsForFile, IsMessage, IsUnread, IsResponseToOrder, folder_of, shut_page, untold, words_in}
 use Rattle.server.specs.FrameSinks.{IsEnded}
 use Rattle.server.specs.Settings.{ServerSettingsEntry}
 use Rattle.server.specs.declared.served_order.ServedOrder.{ServedOrder}
 use Rattle.server.specs.declared.served_order.ServedOrder.TheVariants as asked
 use Rattle.server.specs.declared.server_settings.FileNumbers.{FileNumbers}
 
--- ---- what is told
+-- ---- what is sent
 
 -- two outputs that took nothing yet
 pub none_told : (o : Outputs) → o.out ≡ Some [] → o.out_failed ≡ 0 → o.err ≡ Some [] → o.err_failed ≡ 0 → o ≡ untold
@@ -40,19 +40,46 @@ taken_known : (new : Option (List ℕ)) (bytes : List ℕ) → Appends (Some [])
 taken_known None bytes it = absurd it
 taken_known (Some said) bytes it = (said, refl)
 
--- however far a page was told, it is known what the output took
+-- however far a page was printed, it is known what the output accepted
 shown_said : (cut : Cut) (told : Outputs) (page : Page) (status : ℕ) → IsShown cut untold told page status → (said : List ℕ) × (told.out ≡ Some said)
 shown_said uncut told page status it = taken_known told.out page.out it.out
 shown_said (cut_behind took) told page status it = taken_known told.out took it.out
 shown_said cut_error told page status it = taken_known told.out page.out it.out
 
--- what is asked had its turn, and its page was told in frames
+-- what is asked had its turn, and so much of its page was sent so
+pub follows_asked : {S : Type 0} (state_of : Held S → State) (old new : OfficeValue S) (files : List MessagePartEntry) (what : ServedOrder) (before after : Outputs) (status : ℕ)
+    (IsSent : Cut → Page → Type 0) → before ≡ untold → ((cut : Cut) (page : Page) → IsShown cut untold after page status → IsSent cut page)
+    → Tells before after status (λ cut page. WhenOpenAt state_of old new (λ s. IsOrderOutcome (state_of old.held) new.closed (state_of new.held) (folder_of files) s what cut page)
+    × (old.closed ≡ true → page ≡ shut_page what)) → (old.closed ≡ true → new ≡ old) → (HasCleanDisk (state_of new.held) → HasCleanDisk (state_of old.held))
+    → Follows state_of old files what IsSent new
+follows_asked {S} state_of old new files what before after status IsSent start sends it stays clean = record {
+  cut = it.cut;
+  page = it.page;
+  told = sends it.cut it.page (subst (λ (o : Outputs). IsShown it.cut o after it.page status) start it.shown);
+  does = it.is.0;
+  turned_away = λ closed. (it.is.1 closed, stays closed);
+  clean = clean;
+}
+
+-- the same, sent in another way
+pub follows_sent : {S : Type 0} (state_of : Held S → State) (old new : OfficeValue S) (files : List MessagePartEntry) (what : ServedOrder) (IsSent IsSentToo : Cut → Page → Type 0)
+    → ((cut : Cut) (page : Page) → IsSent cut page → IsSentToo cut page) → Follows state_of old files what IsSent new → Follows state_of old files what IsSentToo new
+follows_sent {S} state_of old new files what IsSent IsSentToo turns it = record {
+  cut = it.cut;
+  page = it.page;
+  told = turns it.cut it.page it.told;
+  does = it.does;
+  turned_away = it.turned_away;
+  clean = it.clean;
+}
+
+-- what is asked was processed, and its page was sent in frames
 pub tells_asked : {L S : Type 0} (stream : Stream L) (state_of : Held S → State) (old new : OfficeValue S) (files : List MessagePartEntry) (what : ServedOrder)
     (before after : Outputs) (status : ℕ) (err : List ℕ)
     (now : L) (answer : PendingResponse) → before ≡ untold → after.err ≡ Some err → ((said : List ℕ) → after.out ≡ Some said → IsEnded stream said status err now answer)
     → Tells before after status (λ cut page. WhenOpenAt state_of old new (λ s. IsOrderOutcome (state_of old.held) new.closed (state_of new.held) (folder_of files) s what cut page)
     × (old.closed ≡ true → page ≡ shut_page what)) → (old.closed ≡ true → new ≡ old) → (HasCleanDisk (state_of new.held) → HasCleanDisk (state_of old.held))
-    → TellsAsked state_of old files what answer.bytes.items new × IsSent stream now answer.bytes.items answer.sent
+    → IsResponseToOrder state_of old files what answer.bytes.items new × IsSent stream now answer.bytes.items answer.sent
 tells_asked {L} {S} stream state_of old new files what before after status err now answer start is_err ends it stays clean =
     let shown : IsShown it.cut untold after it.page status = subst (λ (o : Outputs). IsShown it.cut o after it.page status) start it.shown in
     let (said, took) = shown_said it.cut after it.page status shown in
@@ -68,7 +95,7 @@ tells_asked {L} {S} stream state_of old new files what before after status err n
       end.told,
     )
 
--- a page that is told of a closed office
+-- the page of a closed office
 pub tells_shut : {S : Type 0} (state_of : Held S → State) (office : OfficeValue S) (files : List MessagePartEntry) (what : ServedOrder) (before after : Outputs) (status : ℕ) → office.closed ≡ true
     → Shows before after (shut_page what) status
     → Tells before after status (λ cut page. WhenOpenAt state_of office office (λ s. IsOrderOutcome (state_of office.held) office.closed (state_of office.held) (folder_of files) s what cut page)
@@ -80,7 +107,7 @@ tells_shut {S} state_of office files what before after status closed shows = rec
   is = (λ clean is_open s at. absurd (true≢false (sym closed ∙ is_open)), λ was. refl);
 }
 
--- a page that is told of an open one
+-- the page of an open one
 pub tells_open : {S : Type 0} (state_of : Held S → State) (old new : OfficeValue S) (files : List MessagePartEntry) (what : ServedOrder) (before after : Outputs) (status : ℕ) → old.closed ≡ false
     → Tells before after status (λ cut page. WhenOpenAt state_of old new (λ s. IsOrderOutcome (state_of old.held) new.closed (state_of new.held) (folder_of files) s what cut page))
     → Tells before after status (λ cut page. WhenOpenAt state_of old new (λ s. IsOrderOutcome (state_of old.held) new.closed (state_of new.held) (folder_of files) s what cut page)
@@ -115,7 +142,7 @@ no_text file got h message bad = inr (
       bad (ap (list_all is_utf8) (sym (words_read h)) ∙ subst (λ (x : OrderMessageEntry). list_all is_utf8 (words_in x) ≡ true) (same_order got o (order_message_entry h) is message) text),
 )
 
--- its words weren't read: memory was wanting, or they are no text
+-- its words weren't read: an allocation failed, or they are no text
 pub words_unread : (file : FileNumbers) (got : List ℕ) (h : OrderMessage) (words : List MessagePart) (fault : Fault) → IsMessage got (order_message_entry h) → words ≡ h.words.items
     → (fault ≡ Memory) ⊎ ((fault ≡ Store) × (list_all is_utf8 (map (λ (p : MessagePart). p.name.now) words) ≡ true → ⊥)) → IsUnread file got (asked.Refused (Office fault))
 words_unread file got h words fault message same (inl wanting) = inl (ap (λ (f : Fault). asked.Refused (Office f)) wanting)
@@ -127,7 +154,7 @@ words_unread file got h words fault message same (inr (store, bad)) =
 pub no_order : (file : FileNumbers) (got message : List ℕ) → message ≡ drop 8 got → ((h : OrderMessageEntry) → Fits h → message ≡ encoding_of h → ⊥) → IsUnread file got (asked.Refused (Office Store))
 no_order file got message is none = inr (refl, λ h it for_file text. none h it.fits (is ∙ it.is))
 
--- no order was read: memory was wanting, or its bytes spell none
+-- no order was read: an allocation failed, or its bytes aren't an order
 pub order_unread : (file : FileNumbers) (got message : List ℕ) (fault : Fault) → message ≡ drop 8 got
     → (fault ≡ Memory) ⊎ ((fault ≡ Store) × ((h : OrderMessageEntry) → Fits h → message ≡ encoding_of h → ⊥)) → IsUnread file got (asked.Refused (Office fault))
 order_unread file got message fault is (inl wanting) = inl (ap (λ (f : Fault). asked.Refused (Office f)) wanting)
@@ -135,14 +162,14 @@ order_unread file got message fault is (inr (store, none)) = subst (λ (f : Faul
 
 -- what isn't read is refused
 pub follows_unread : {S : Type 0} (settings : ServerSettingsEntry) (state_of : Held S → State) (old new : OfficeValue S) (got frames : List ℕ) (files : List MessagePartEntry) (what : ServedOrder)
-    → IsUnread settings.file got what → files ≡ [] → TellsAsked state_of old files what frames new → FollowsOrder settings state_of old got frames new
+    → IsUnread settings.file got what → files ≡ [] → IsResponseToOrder state_of old files what frames new → FollowsOrder settings state_of old got frames new
 follows_unread {S} settings state_of old new got frames files what unread none tells = record { files = files; asked = what; is = inr (unread, none); tells = tells }
 
 -- what is read is followed, by the words and with the files as they were read
 pub follows_read : {S : Type 0} (settings : ServerSettingsEntry) (state_of : Held S → State) (old new : OfficeValue S) (got frames : List ℕ) (h : OrderMessage)
     (files : List MessagePart) (what : ServedOrder)
-    → IsMessage got (order_message_entry h) → IsForFile settings.file (order_message_entry h) → files ≡ h.files.items → AsksSo settings.whole (order_message_entry h) what
-    → TellsAsked state_of old (message_part_entries files) what frames new → FollowsOrder settings state_of old got frames new
+    → IsMessage got (order_message_entry h) → IsForFile settings.file (order_message_entry h) → files ≡ h.files.items → AsksSo settings.whole (words_in (order_message_entry h)) what
+    → IsResponseToOrder state_of old (message_part_entries files) what frames new → FollowsOrder settings state_of old got frames new
 follows_read {S} settings state_of old new got frames h files what message for_file same asks tells =
     record { files = message_part_entries files; asked = what; is = inl (order_message_entry h, message, for_file, ap message_part_entries same, asks); tells = tells }
 

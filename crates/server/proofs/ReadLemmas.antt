@@ -6,7 +6,7 @@ use Rattle.server.specs.Reads.{ReadEntry, read_entry}
 use Rattle.wire.specs.declared.target.Resource.{Resource}
 use Rattle.server.specs.declared.read_cache.CachedRead.{CachedRead}
 
--- the oldest was let go
+-- the oldest was removed
 pub gone_more : (first : List ReadEntry) (answers left : List CachedRead) (gone : List ReadEntry) → first ≡ gone ++ map read_entry answers → left ≡ remove answers 0
     → (more : List ReadEntry) × (first ≡ more ++ map read_entry left)
 gone_more first [] left gone is rest = (gone, is ∙ ap (λ (kept : List CachedRead). gone ++ map read_entry kept) (sym rest))

@@ -26,7 +26,7 @@ use Rattle.connections.specs.declared.network.AcceptOutcome.TheVariants.{Full, O
 use Rattle.connections.specs.declared.removed.Removed.{Removed}
 use Rattle.connections.specs.declared.removed.CloseReason.{CloseReason}
 use Rattle.connections.specs.declared.removed.CloseReason.TheVariants.{Broken as broken_off, Closing, Done, Evicted, TimedOut, Unreadable}
-use Rattle.connections.specs.declared.table.ConnectionTable.{ConnectionTable}
+use Rattle.connections.specs.declared.connection_table.ConnectionTable.{ConnectionTable}
 use Rattle.connections.proofs.StreamLemmas.{heard_more}
 use Rattle.server.specs.ServedConnections.{AreIn, ServedConnection, HasExchangeFor, HasLeft, IsGathered, IsIn, IsSound, IsOpenConnection, HadExchange, exchanges_of}
 use Rattle.connections.specs.Closing.{AreClosedByRule, EndsFor, IsClosed, IsClosedByRule, IsClosedForBytes, MayBeClosed, timeout_rule, timeout}
@@ -45,7 +45,7 @@ use Rattle.server.proofs.ServicingLemmas.{is_heard}
 
 -- ---- a place
 
--- one was taken out of his place, and stands there again as another
+-- a connection was taken out of its place, and is there again, changed
 set_again : {X : Type 0} (xs : List X) (place : ℕ) (x : X) → place < length xs → insert (remove xs place) place x ≡ set xs place x
 set_again [] place x within = absurd (omega (arith, within))
 set_again (y ∷ ys) zero x within = refl
@@ -56,14 +56,14 @@ remove_set [] place x within = absurd (omega (arith, within))
 remove_set (y ∷ ys) zero x within = refl
 remove_set {X} (y ∷ ys) (suc place) x within = ap (λ (zs : List X). y ∷ zs) (remove_set ys place x (omega (arith, within)))
 
--- one stands in a place again, for which there was room
+-- a connection is in its place again, for which there was room
 pub few_again : {L : Type 0} (old new : List (Client L)) (place : ℕ) (client : Client L) → place ≤ length old → length old < most_clients → new ≡ insert old place client → length new ≤ most_clients
 few_again {L} old new place client within few is =
     let more = length-insert old place client within in
     let long = ap (λ (cs : List (Client L)). length cs) is in
     omega (arith, few, more, long)
 
--- ---- those that came in, and those that were handed back
+-- ---- connections that were accepted, and those that were closed
 
 grows_none : {X : Type 0} (count : Option (List X)) → count ≡ option_map (λ (xs : List X). xs ++ []) count
 grows_none None = refl
@@ -80,7 +80,7 @@ grows_then {X} old mid new first next a b = b ∙ ap (option_map (λ (xs : List 
 clients_append : {L : Type 0} (first next : List (Accepted L)) → clients_among (first ++ next) ≡ clients_among first + clients_among next
 clients_append first next = sum_by-append (λ accepted. count_at accepted.listener) first next
 
--- nobody came in at doors, and nobody was handed back
+-- no connection was accepted, and none was closed
 abbrev pub IsStill : {L : Type 0} → NetworkEntry L → NetworkEntry L → Type 0
 IsStill before later = (later.came ≡ before.came) × (later.left ≡ before.left)
 
@@ -103,7 +103,7 @@ pub known_still : {L : Type 0} (result : Option ℕ) (before later : NetworkEntr
 known_still None before later is none = is
 known_still (Some number) before later is none = absurd (none number refl)
 
--- one of those that are in went on
+-- one of the open connections was serviced
 pub still_comes : {L : Type 0} (stream : Stream L) (turns : List ResponseAt) (old new : Client L) (result : Result (Option CloseReason) Broken) (gate : Option ℕ) (before later : NetworkEntry L)
     → IsServiceOutcome stream turns old new result (with_gate gate before) later → IsStill before later
 still_comes {L} stream turns old new (Ok None) gate before later (inl (none, since, is)) =
@@ -118,7 +118,7 @@ still_comes {L} stream turns old new (Err broken) gate before later (since, is) 
 pub still_known : {L : Type 0} (before later : NetworkEntry L) → later ≡ before → IsStill before later
 still_known {L} before later is = (ap (λ (d : NetworkEntry L). d.came) is, ap (λ (d : NetworkEntry L). d.left) is)
 
--- who may leave where it ends so
+-- which connections may be closed for this outcome
 may_leave : {L : Type 0} (stream : Stream L) (why : CloseReason) (client : Client L) → EndsFor stream why client → MayBeClosed stream why client
 may_leave stream Done client ends = ends
 may_leave stream broken_off client ends = ends
@@ -127,14 +127,14 @@ may_leave stream TimedOut client ends = absurd ends
 may_leave stream Evicted client ends = absurd ends
 may_leave stream Closing client ends = absurd ends
 
--- the system had no room for one more
+-- the system had no descriptor for one more
 pub still_full : {L : Type 0} (before later : NetworkEntry L) → later ≡ after_accept Full before → IsStill before later
 still_full {L} before later is = (ap (λ (d : NetworkEntry L). d.came) is, ap (λ (d : NetworkEntry L). d.left) is)
 
 -- ---- the steps of a round
 
 module _ {L : Type 0} (gated : Bool) (stream : Stream L) where
-  -- late ones were closed, and more came in
+  -- late ones were closed, and more were accepted
   pub course_round : (from : Option ℕ) (before now gone later : NetworkEntry L) (old left new : ConnectionTable L) (moment : ℕ) → now ≡ with_moment before moment
       → AreClosedByRule (IsClosedByRule (timeout_rule moment)) now gone old left → All (λ (c : Client L). moment - c.since < timeout) left.clients.items
       → Trace gated stream [] (Some moment) (Some moment) gone later left.clients.items new.clients.items → Trace gated stream [] from (Some moment) before later old.clients.items new.clients.items
@@ -151,9 +151,9 @@ module _ {L : Type 0} (gated : Bool) (stream : Stream L) where
   course_wait (Err broken) from to before mid later old new is trace = trace_then gated stream [] [] from to to before mid later old new new trace (course_fails gated stream to mid later new is)
 
 module _ {L : Type 0} (settings : ServerSettingsEntry) (stream : Stream L) where
-  -- ---- a room
+  -- ---- a table
 
-  -- nobody came in, and whoever is in is still who it was, or was handed back
+  -- no connection was accepted, and each open one is unchanged, or was closed
   pub goes_with : (before later : NetworkEntry L) (old new : ConnectionTable L) (gone : List (Removed L)) → later.came ≡ before.came
       → RemovesMore before.left later.left gone → new.counted ≡ old.counted + 0
       → ((all_connections : List (ServedConnection L)) (exchanges : List Exchange) (left : List (Removed L)) → AreIn settings stream all_connections exchanges left old.came old.clients.items
@@ -194,7 +194,7 @@ module _ {L : Type 0} (settings : ServerSettingsEntry) (stream : Stream L) where
         );
   }
 
-  -- some were let go
+  -- some were closed
   module _ (Goes : List (Client L) → Removed L → List (Client L) → Type 0) (outs : Outs Goes) where
     stay : (gone : List (Removed L)) (all_connections : List (ServedConnection L)) (exchanges : List Exchange) (left : List (Removed L)) (came : ℕ) (old new : List (Client L))
         → FoldsTo Goes old gone new
@@ -224,7 +224,7 @@ module _ {L : Type 0} (settings : ServerSettingsEntry) (stream : Stream L) where
         stay it.gone all_connections exchanges left new.came old.clients.items new.clients.items it.each
         (subst (λ (n : ℕ). AreIn settings stream all_connections exchanges left n old.clients.items) (sym it.came) are))
 
-  -- late ones were closed, and more came in
+  -- late ones were closed, and more were accepted
   pub goes_round : (before now gone later : NetworkEntry L) (old left new : ConnectionTable L) (moment : ℕ) → now ≡ with_moment before moment
       → AreClosedByRule (IsClosedByRule (timeout_rule moment)) now gone old left
       → GoesOn settings stream [] gone later left new → GoesOn settings stream [] before later old new
@@ -253,7 +253,7 @@ module _ {L : Type 0} (settings : ServerSettingsEntry) (stream : Stream L) where
       are_same settings stream all_connections exchanges (left ++ removed_of client why ∷ []) old.came new.came (remove old.clients.items place) new.clients.items same_came items
       (one_left settings stream all_connections exchanges left old.came old.clients.items place client why are within here may))
 
-  -- one came in
+  -- one was accepted
   pub goes_more : (before later : NetworkEntry L) (old new : ConnectionTable L) (start : Accepted L) (now : ℕ) → later ≡ after_accept (One start) before → HasTaken (stream.taken start.stream) []
       → new.came ≡ old.came + 1 → new.counted ≡ old.counted + count_at start.listener
       → (client : Client L) × (new.clients.items ≡ old.clients.items ++ client ∷ []) × IsNew start old.came now client × IsOf stream start.stream client
@@ -274,9 +274,9 @@ module _ {L : Type 0} (settings : ServerSettingsEntry) (stream : Stream L) where
     );
   }
 
-  -- ---- one goes on
+  -- ---- one is serviced
 
-  -- he has the answer that he had, or none as before
+  -- it has the answer that it had, or none as before
   had_still : (connection : ServedConnection L) (exchanges : List Exchange) (old new : Client L) → answer_of new ≡ answer_of old
       → ((start : L) → IsOf stream start old → IsOf stream start new) → IsOpenConnection stream exchanges connection old
       → HadExchange settings stream connection (exchanges_of old.number exchanges)
@@ -285,11 +285,11 @@ module _ {L : Type 0} (settings : ServerSettingsEntry) (stream : Stream L) where
   had_still connection exchanges old new same is stood went =
       let under = same_under old.number exchanges [] (All-nil (λ (v : Exchange). v.number ≡ old.number → ⊥)) in (
         is connection.came.stream stood.own,
-        subst (λ (vs : List Exchange). HasExchangeFor (answer_of new) vs) (sym under) (subst (λ (a : Option (List ℕ)). HasExchangeFor a (exchanges_of old.number exchanges)) (sym same) stood.his),
+        subst (λ (vs : List Exchange). HasExchangeFor (answer_of new) vs) (sym under) (subst (λ (a : Option (List ℕ)). HasExchangeFor a (exchanges_of old.number exchanges)) (sym same) stood.belongs),
         λ exchange one. gathered_for settings stream connection (exchanges_of old.number exchanges) exchange went (sym under ∙ one),
       )
 
-  -- he had his turn, of whom all was heard
+  -- its request was processed, which is complete
   had_turn : {S : Type 0} (state_of : Held S → State) (connection : ServedConnection L) (exchanges : List Exchange) (now : ℕ) (old new : Client L) (before later : ServedOffice S)
       → (turn : HasResponded settings stream state_of now old new before later)
       → ((start : L) → IsOf stream start old → IsOf stream start new) → IsOpenConnection stream exchanges connection old
@@ -297,7 +297,7 @@ module _ {L : Type 0} (settings : ServerSettingsEntry) (stream : Stream L) where
       × ((exchange : Exchange) → exchanges_of old.number (exchanges ++ turn.exchange ∷ []) ≡ exchange ∷ [] → IsGathered settings stream connection.came exchange)
   had_turn state_of connection exchanges now old new before later turn is stood =
       let none : exchanges_of old.number exchanges ≡ [] =
-      subst (λ (a : Option PendingResponse). HasExchangeFor (option_map (λ (x : PendingResponse). x.bytes.items) a) (exchanges_of old.number exchanges)) turn.unanswered stood.his in
+      subst (λ (a : Option PendingResponse). HasExchangeFor (option_map (λ (x : PendingResponse). x.bytes.items) a) (exchanges_of old.number exchanges)) turn.unanswered stood.belongs in
       let first = first_under old.number exchanges turn.exchange none turn.number in
       let gathered : IsGathered settings stream connection.came turn.exchange = record {
         listener = turn.listener ∙ stood.listener;
@@ -306,19 +306,19 @@ module _ {L : Type 0} (settings : ServerSettingsEntry) (stream : Stream L) where
         come = subst (λ (d : Listener). HasComeAt d settings (stream.held turn.received) turn.exchange.got) stood.listener turn.come;
       } in (
         is connection.came.stream stood.own,
-        subst (λ (a : Option (List ℕ)). HasExchangeFor a (exchanges_of old.number (exchanges ++ turn.exchange ∷ []))) (sym turn.his) (turn.exchange, first, refl),
+        subst (λ (a : Option (List ℕ)). HasExchangeFor a (exchanges_of old.number (exchanges ++ turn.exchange ∷ []))) (sym turn.belongs) (turn.exchange, first, refl),
         λ exchange one. let same : turn.exchange ≡ exchange = cc (first, one) in subst (λ (v : Exchange). IsGathered settings stream connection.came v) same gathered,
       )
 
-  -- a room in which one is another now
+  -- a table in which one is changed
   abbrev pub room_with : ConnectionTable L → ℕ → Client L → ConnectionTable L
   room_with table place client = record table { clients = with_item table.clients place client }
 
-  -- one went on, with these visits
+  -- one was serviced, with these exchanges
   abbrev pub ServesJust : {S : Type 0} → (Held S → State) → List Exchange → NetworkEntry L → NetworkEntry L → ConnectionTable L → ConnectionTable L → ServedOffice S → ServedOffice S → Type 0
   ServesJust state_of exchanges before later old new at behind = (it : GoesOnServing settings stream state_of before later old new at behind) × (it.exchanges ≡ exchanges)
 
-  -- he went on, and stands in his place again
+  -- it was serviced, and is in its place again
   pub goes_on_at : {S : Type 0} (state_of : Held S → State) (before later : NetworkEntry L) (table after : ConnectionTable L) (place : ℕ) (old new : Client L)
       (at behind : ServedOffice S) (now : ℕ) (exchanges : List Exchange) → IsStill before later
       → place < length table.clients.items → old ≡ get_or table.clients.items place old → new.listener ≡ old.listener → new.number ≡ old.number
@@ -433,7 +433,7 @@ module _ {L : Type 0} (settings : ServerSettingsEntry) (stream : Stream L) where
         serves_none before later old new office (goes_without IsClosedForBytes bytes_outs before later old new gone)
         (λ from. (from, course_closes gated stream IsClosedForBytes from (bytes_due gated stream from) before later old new gone))
 
-    -- ---- one that was named went on
+    -- ---- one that was reported was serviced
 
     -- the visits that it had are its turns
     had_turns : (gate : Option ℕ) (exchanges : List Exchange) (old new : Client L) (at behind : ServedOffice S)
@@ -441,7 +441,7 @@ module _ {L : Type 0} (settings : ServerSettingsEntry) (stream : Stream L) where
         → HadResponses gated gate (map response_at exchanges) old new
     had_turns gate [] old new at behind (same, answer) at_gate = answer
     had_turns gate (exchange ∷ []) old new at behind (turn, one) at_gate =
-        (sym (ap (λ (v : Exchange). v.number) one) ∙ turn.number, turn.unanswered, turn.his ∙ ap (λ (v : Exchange). Some v.answer) one, at_gate)
+        (sym (ap (λ (v : Exchange). v.number) one) ∙ turn.number, turn.unanswered, turn.belongs ∙ ap (λ (v : Exchange). Some v.answer) one, at_gate)
     had_turns gate (exchange ∷ other ∷ more) old new at behind never at_gate = absurd never
 
     module _ (before ready : NetworkEntry L) (table : ConnectionTable L) (place number : ℕ) (old new : Client L) (at behind : ServedOffice S)
@@ -528,7 +528,7 @@ module _ {L : Type 0} (settings : ServerSettingsEntry) (stream : Stream L) where
         → GoesOn settings stream [] mid later went new → CourseBy [] mid later went.clients.items new.clients.items → ServesOn settings stream state_of before later old new at behind
     serves_more before mid later old went new at behind on more trace = serves_then before mid later old went new at behind behind on (serves_none mid later went new behind more trace)
 
-    -- there was no room, so nobody came in
+    -- there was no room, so none was accepted
     pub nobody_served : (before : NetworkEntry L) (most : Option ℕ) (at : OfficeValue S) → ServesConnections settings stream state_of before before most at at (Err ended.Memory)
     nobody_served before most at = record {
       all_connections = [];
@@ -572,7 +572,7 @@ module _ {L : Type 0} (settings : ServerSettingsEntry) (stream : Stream L) where
         → HasCleanDisk (state_of behind.office.held) → HasCleanDisk (state_of at.held)
     serving_clean before later old new at kept behind on clean = let (to, it, trace) = on None in cleans settings state_of it.exchanges (served_office at kept) behind it.each clean
 
-    -- where it is sound with a room, it is so later
+    -- if it is sound with a table, it is so later
     pub sound_later : (before later : NetworkEntry L) (old new : ConnectionTable L) (at behind : ServedOffice S) → ServesOn settings stream state_of before later old new at behind
         → IsSound settings stream old → IsSound settings stream new
     sound_later before later old new at behind on (all_connections, exchanges, left, are) =
@@ -582,7 +582,7 @@ module _ {L : Type 0} (settings : ServerSettingsEntry) (stream : Stream L) where
     none_is_in : (k : ℕ) (clients : List (Client L)) → clients ≡ [] → IsIn clients k → ⊥
     none_is_in k clients none it = let some = it.within in let zero : length clients ≡ 0 = ap (λ (cs : List (Client L)). length cs) none in omega (arith, some, zero)
 
-    -- all that came since the doors were opened, where nobody was in before, and those that were in at the end were closed
+    -- all that were accepted since the network was opened, if none was open before, and those open at the end were closed
     pub hall_serves : (before end later : NetworkEntry L) (most : Option ℕ) (old went new : ConnectionTable L) (at : OfficeValue S) (kept : MemoryEntry)
         (behind : ServedOffice S) (result : Result (Unit {0}) ServeError)
         → kept ≡ (with_none_kept at).kept → ServesOn settings stream state_of before end old went (served_office at kept) behind → AreClosedByRule IsClosed end later went new
@@ -629,13 +629,13 @@ module _ {L : Type 0} (settings : ServerSettingsEntry) (stream : Stream L) where
         out gone exchanges k connection (inl is_in) = absurd (none_is_in k new.clients.items empty is_in)
         out gone exchanges k connection (inr left) = left
 
--- ---- who was told nothing
+-- ---- connections to which nothing was sent
 
--- a room with nobody in it is sound
+-- an empty table is sound
 pub sound_empty : {L : Type 0} (settings : ServerSettingsEntry) (stream : Stream L) (table : ConnectionTable L) → table.clients.items ≡ [] → table.came ≡ 0 → IsSound settings stream table
 sound_empty {L} settings stream table none first = ([], [], [], are_same settings stream [] [] [] 0 table.came [] table.clients.items first none (none_in settings stream))
 
--- of those who are in a room that is sound, whoever has no answer was told nothing
+-- in a sound table nothing was sent to a connection that has no answer
 pub untold_at : {L : Type 0} (settings : ServerSettingsEntry) (stream : Stream L) (table : ConnectionTable L) (place : ℕ) (client : Client L)
     → IsSound settings stream table → place < length table.clients.items
     → client ≡ get_or table.clients.items place client → HasSentNothing stream client
@@ -657,12 +657,12 @@ pub most_all : (connections : Option ℕ) (most came : ℕ) → most ≡ unwrap_
 most_all None most came is few all = tt
 most_all (Some n) most came is few all = omega (arith, is, few, all)
 
--- no more came than were to come, where some were closed behind that
+-- no more were accepted than were to be, if some were closed after that
 pub few_closed : (connections : Option ℕ) (most none came closed : ℕ) → most ≡ unwrap_or connections (2 ^ 64 - 1) → none ≡ 0 → (none ≤ most → came ≤ most)
     → closed ≡ came → IfSome connections (λ n. closed ≤ n)
 few_closed connections most none came closed is first few same = let all = few (omega (arith, first)) in most_few connections most closed is (omega (arith, all, same))
 
--- and all came, if nothing failed
+-- and all were accepted, if nothing failed
 pub all_closed : {E : Type 0} (result : Result (Unit {0}) E) (connections : Option ℕ) (most none came closed : ℕ) → most ≡ unwrap_or connections (2 ^ 64 - 1)
     → none ≡ 0 → (none ≤ most → came ≤ most) → closed ≡ came → OnOk result (most ≤ came)
     → OnOk result (IfSome connections (λ n. closed ≡ n))
@@ -673,7 +673,7 @@ all_closed (Err why) connections most none came closed is first few same all = t
 -- ---- calls of the doors
 
 module _ {L : Type 0} where
-  -- one of those that are in went on: no call failed, or the clock did
+  -- one of the open connections was serviced: no call failed, or the clock did
   pub called_well : (stream : Stream L) (turns : List ResponseAt) (old new : Client L) (next : Option CloseReason) (gate : Option ℕ) (before later : NetworkEntry L)
       → IsServiceOutcome stream turns old new (Ok next) (with_gate gate before) later → IsUnfailed before later
   called_well stream turns old new None gate before later (inl (none, since, is)) =

@@ -1,4 +1,4 @@
--- A client who goes on, part by part.
+-- A client that is serviced, part by part.
 use Rattle.std.specs.Io.KnownBytes.{IsAtEnd}
 use Rattle.std.proofs.Common.{◌≡◌, ◌≤◌, ◌∙◌, ◌∷◌, ◌++◌, ℕ, Bool, List, [], false, true, None, Option, Some, ap, inl, inr, is_some, length, map, option_map, refl, subst, sym, true≢false}
 use Rattle.std.specs.Prelude.{Err, IfSome, Ok, Result, not}
@@ -30,13 +30,14 @@ use Rattle.connections.proofs.StreamLemmas.{heard_more, told_more, told_none}
 use Rattle.server.specs.Settings.{ServerSettingsEntry}
 use Rattle.server.specs.Servicing.{Services, HasComeAt, HasResponded, HasExchanges, IsAtGate, IsCome, IsLostOnly, LooksAtGate, MayHaveResponded, WasServiced, answer_of, moment_of, response_at}
 use Rattle.server.specs.Reads.{ServedOffice}
-use Rattle.server.specs.Exchanges.{EndsIn, IsGoneResponse, IsWaitResponse, ServesExchange, Exchange}
+use Rattle.server.specs.Endings.{EndsIn}
+use Rattle.server.specs.Exchanges.{IsGoneResponse, IsWaitResponse, ServesExchange, Exchange}
 
 pub none_from : {X : Type 0} (found : Option X) → is_some found ≡ false → found ≡ None
 none_from None is = refl
 none_from (Some x) is = absurd (cc is)
 
--- an answer that is as it was, of which more may have been told
+-- an answer that is unchanged, of which more may have been sent
 pub same_answer : (old new : PendingResponse) (before : Option PendingResponse) → before ≡ Some old → new.bytes.items ≡ old.bytes.items
     → option_map (λ (a : PendingResponse). a.bytes.items) (Some new) ≡ option_map (λ (a : PendingResponse). a.bytes.items) before
 same_answer old new before is same = ap Some same ∙ sym (ap (option_map (λ (a : PendingResponse). a.bytes.items)) is)
@@ -66,7 +67,7 @@ lasts_for its seen got parsed same lasts full =
 pub no_answer : {L : Type 0} (old new : Client L) → old.answer ≡ None → new.answer ≡ None → answer_of new ≡ answer_of old
 no_answer old new none still = ap (option_map (λ (a : PendingResponse). a.bytes.items)) (still ∙ sym none)
 
--- one thing was told, from the first byte on, by the clauses of the call that told it
+-- one response was sent, from the first byte on, by the clauses of the call that sent it
 pub told_first : (response : ResponseEntry) (answer before after : List ℕ) (served : Ending) → before ≡ [] → answer ≡ after → IsServed (IsWritten response) (Some before) (Some after) served
     → EndsIn answer (IsServed (IsWritten response))
 told_first response answer before after served is_before is_answer it = (
@@ -96,38 +97,38 @@ pub left_as : (was why : CloseReason) → Leaves was ≡ Leaves why → was ≡ 
 left_as was why is = cc is
 
 module _ {L : Type 0} (stream : Stream L) where
-  -- who has no answer was heard, and told nothing
+  -- a connection without an answer was read, and nothing was sent to it
   pub is_heard : (start : L) (client : Client L) → client.answer ≡ None → IsOf stream start client → IsReceived stream start client.stream client.got.items
   is_heard start client none of = subst (λ (a : Option PendingResponse). IsServedSo stream start client.stream client.got.items a) none of
 
   pub of_heard : (start : L) (client : Client L) → client.answer ≡ None → IsReceived stream start client.stream client.got.items → IsOf stream start client
   of_heard start client none received = subst (λ (a : Option PendingResponse). IsServedSo stream start client.stream client.got.items a) (sym none) received
 
-  -- more was heard of him
+  -- more of its request was read
   pub heard_on : (start : L) (old new : Client L) → old.answer ≡ None → Receives stream old.stream new.stream old.got.items new.got.items → IsOf stream start old
       → IsReceived stream start new.stream new.got.items
   heard_on start old new none receives of = heard_more stream start old.stream new.stream old.got.items new.got.items (is_heard start old none of) receives
 
-  -- more of his answer was told him
+  -- more of its answer was sent
   pub told_on : (start old now : L) (got : List ℕ) (before : Option PendingResponse) (answer told : PendingResponse) → before ≡ Some answer
       → Delivers stream old now answer.bytes.items answer.sent told.sent
       → told.bytes.items ≡ answer.bytes.items → IsServedSo stream start old got before → IsServedSo stream start now got (Some told)
   told_on start old now got before answer told is delivers same of =
-      let his = subst (λ (a : Option PendingResponse). IsServedSo stream start old got a) is of in
-      subst (λ (bytes : List ℕ). IsSent stream now bytes told.sent) (sym same) (told_more stream old now answer.bytes.items answer.sent told.sent his delivers)
+      let belongs = subst (λ (a : Option PendingResponse). IsServedSo stream start old got a) is of in
+      subst (λ (bytes : List ℕ). IsSent stream now bytes told.sent) (sym same) (told_more stream old now answer.bytes.items answer.sent told.sent belongs delivers)
 
-  -- he has an answer now, of which nothing was told
+  -- it has an answer now, of which nothing was sent
   pub told_nothing : (start now : L) (got answer : List ℕ) (sent : ℕ) → sent ≡ 0 → IsReceived stream start now got → IsSent stream now answer sent
   told_nothing start now got answer sent none received = subst (λ (n : ℕ). IsSent stream now answer n) (sym none) (told_none stream start now got answer received)
 
-  -- he has his turn, of whom all was heard
+  -- its request is processed, which is complete
   pub has_turn : {S : Type 0} (settings : ServerSettingsEntry) (state_of : Held S → State) (now : ℕ) (old mid new : Client L) (before later : ServedOffice S) → old.answer ≡ None
       → Receives stream old.stream mid.stream old.got.items mid.got.items → mid.listener ≡ old.listener → mid.number ≡ old.number
       → HasComeAt old.listener settings (stream.held mid.stream) mid.got.items
       → (exchange : Exchange) × (exchange.listener ≡ mid.listener) × (exchange.number ≡ mid.number) × (exchange.moment ≡ now) × (exchange.got ≡ mid.got.items)
       × ServesExchange settings state_of before exchange later × (answer_of new ≡ Some exchange.answer)
       → HasResponded settings stream state_of now old new before later
-  has_turn settings state_of now old mid new before later none receives listener number come (exchange, same, mine, at, got, served, his) = record {
+  has_turn settings state_of now old mid new before later none receives listener number come (exchange, same, mine, at, got, served, belongs) = record {
     exchange = exchange;
     listener = same ∙ listener;
     number = mine ∙ number;
@@ -137,7 +138,7 @@ module _ {L : Type 0} (stream : Stream L) where
     own = subst (λ (bytes : List ℕ). Receives stream old.stream mid.stream old.got.items bytes) (sym got) receives;
     come = subst (λ (bytes : List ℕ). HasComeAt old.listener settings (stream.held mid.stream) bytes) (sym got) come;
     served = served;
-    his = his;
+    belongs = belongs;
   }
 
   -- what became of one that had its turn, and of one that had none
@@ -155,7 +156,7 @@ module _ {L : Type 0} (stream : Stream L) where
   attends_none settings state_of now Served old new before later apart same answer = absurd (apart refl)
   attends_none settings state_of now (Leaves why) old new before later apart same answer = inr (same, answer)
 
-  -- one that can't be heard leaves as broken or unheard
+  -- one that can't be read is closed as broken or unread
   pub ends_lost : {A : Type 0} (result : Result A CloseReason) (why : CloseReason) (client : Client L) → result ≡ Err why → IsLostOnly result
       → (result ≡ Err Broken → HasFailed (stream.failed client.stream)) → client.answer ≡ None
       → EndsFor stream why client
@@ -187,7 +188,7 @@ module _ {L : Type 0} (stream : Stream L) where
       → Comes settings state_of now (Ok None) before later old new at behind
   went_served settings state_of now serviced old mid new at behind before later attends is same shown =
       let turn : HasResponded settings stream state_of now old mid at behind = subst (λ (a : Serviced). Services settings stream state_of now a old mid at behind) is attends in
-      let his : HasResponded settings stream state_of now old new at behind = record {
+      let belongs : HasResponded settings stream state_of now old new at behind = record {
         exchange = turn.exchange;
         listener = turn.listener;
         number = turn.number;
@@ -197,9 +198,9 @@ module _ {L : Type 0} (stream : Stream L) where
         own = turn.own;
         come = turn.come;
         served = turn.served;
-        his = same ∙ turn.his;
+        belongs = same ∙ turn.belongs;
       } in
-      (turn.exchange ∷ [], (his, refl), inr ((response_at turn.exchange, refl), shown))
+      (turn.exchange ∷ [], (belongs, refl), inr ((response_at turn.exchange, refl), shown))
 
   -- so it did, and the clock failed
   pub went_stopped : {S : Type 0} (settings : ServerSettingsEntry) (state_of : Held S → State) (now : ℕ) (serviced : Serviced) (broken : Failure)

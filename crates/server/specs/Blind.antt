@@ -2,13 +2,13 @@
 use Rattle.std.specs.Prelude.{◌≡◌, ◌⊎◌, ⊤, Bool, false, true, List, [], ◌∷◌, Option, Result, Some, map, ℕ}
 use Rattle.sqlite.specs.Held.{Held}
 use Rattle.sqlite.specs.State.{HasCleanDisk, State}
-use Rattle.register.specs.Items.{IsState}
+use Rattle.register.specs.StateConditions.{IsState}
 use Rattle.register.specs.Machine.{after}
 use Rattle.register.specs.Offices.{OfficeState, empty_office}
 use Rattle.register.specs.Ranges.{is_clerk}
 use Rattle.register.specs.Seen.{seen_by}
 use Rattle.register.specs.declared.command.Request.{Request}
-use Rattle.store.specs.Offices.{IsAt}
+use Rattle.store.specs.StateTables.{IsAt}
 use Rattle.office.specs.Values.{OfficeValue}
 use Rattle.connections.specs.Streams.{Stream}
 use Rattle.connections.specs.Tables.{NetworkEntry}
@@ -21,9 +21,10 @@ use Rattle.wire.specs.Serving.{IsServed, TellsFault}
 use Rattle.wire.specs.Told.{IsTold}
 use Rattle.wire.specs.declared.request_error.RequestError.{RequestError}
 use Rattle.server.specs.ServedOrders.{TellsOrder}
+use Rattle.server.specs.ConsoleOrders.{TellsConsole}
 use Rattle.server.specs.Servers.{ServesConnections}
 use Rattle.server.specs.Settings.{ServerSettingsEntry}
-use Rattle.server.specs.Exchanges.{AnswersInTurn, AreTurnedAway, EndsSo, IsAnsweredAt, IsKeptOf, IsToldClosed, Exchange}
+use Rattle.server.specs.Exchanges.{AnswersInTurn, AreTurnedAway, AsksNoOrder, EndsSo, IsClientAnsweredAt, KeepsExchanges, IsToldClosed, Exchange}
 use Rattle.server.specs.declared.serve_error.ServeError.{ServeError}
 
 -- ---- one request, next to a clerk's view of the office
@@ -34,15 +35,19 @@ pub record IsUnder (settings : HttpSettingsEntry) (clerk : ℕ) (bytes : List �
   pub asks : Asks settings bytes asked
   pub its : clerk_asked asked ≡ Some clerk
 
--- A client was served, next to a clerk's view of the office. If it asked under the clerk's number, the view alone determines the response, as the office's machine and its
--- reads answer there, and the client's own request makes the next view. A request that is rejected is answered by its own bytes. A client that didn't ask under the clerk's
--- number leaves the view as it was. This says nothing of the responses to other clerks and to public reads.
-pub record IsAnsweredBySeen {S : Type 0} (state_of : Held S → State) (settings : ServerSettingsEntry) (clerk : ℕ) (view : OfficeState) (exchange : Exchange) (next : OfficeState) : Type 0 where
-  pub own : IsUnder settings.clients clerk exchange.got → (sent : List Request) × IsAnsweredAt Clients state_of settings view exchange sent × (next ≡ after view sent)
-  pub denied : (why : RequestError) → Asks settings.clients exchange.got (denied why) → IsAnsweredAt Clients state_of settings view exchange []
+-- The law: a request for something under a clerk's number asks no order.
+abbrev pub ClerksAskNoOrder : Type 0
+ClerksAskNoOrder = (settings : HttpSettingsEntry) (clerk : ℕ) (bytes : List ℕ) → IsUnder settings clerk bytes → AsksNoOrder settings bytes
+
+-- A client that asks no order was served, next to a clerk's view of the office. If it asked under the clerk's number, the view alone determines the response, as the office's
+-- machine and its reads answer there, and the client's own request makes the next view. A request that is rejected is answered by its own bytes. A client that didn't ask under
+-- the clerk's number leaves the view as it was. This says nothing of the responses to other clerks and to public reads.
+pub record IsAnsweredBySeen (settings : ServerSettingsEntry) (clerk : ℕ) (view : OfficeState) (exchange : Exchange) (next : OfficeState) : Type 0 where
+  pub own : IsUnder settings.clients clerk exchange.got → (sent : List Request) × IsClientAnsweredAt settings view exchange sent × (next ≡ after view sent)
+  pub denied : (why : RequestError) → Asks settings.clients exchange.got (denied why) → IsClientAnsweredAt settings view exchange []
   pub other : (IsUnder settings.clients clerk exchange.got → ⊥) → next ≡ view
 
--- An order was followed at a state of which the clerk has this view, and the next view is that of the state after the order's requests.
+-- An order that was handed over was followed at a state of which the clerk has this view, and the next view is that of the state after the order's requests.
 pub record IsFollowedBySeen {S : Type 0} (state_of : Held S → State) (settings : ServerSettingsEntry) (clerk : ℕ) (view : OfficeState) (exchange : Exchange) (next : OfficeState) : Type 0 where
   pub s : OfficeState
   pub seen : seen_by clerk s ≡ view
@@ -51,14 +56,24 @@ pub record IsFollowedBySeen {S : Type 0} (state_of : Held S → State) (settings
   pub tells : TellsOrder state_of settings s exchange.got exchange.answer sent last
   pub made : next ≡ seen_by clerk (after s sent)
 
+-- the same of an order that a client asks, which is an order of the console
+pub record IsConsoleBySeen {S : Type 0} (state_of : Held S → State) (settings : ServerSettingsEntry) (clerk : ℕ) (view : OfficeState) (exchange : Exchange) (next : OfficeState) : Type 0 where
+  pub s : OfficeState
+  pub seen : seen_by clerk s ≡ view
+  pub sent : List Request
+  pub last : List Request
+  pub tells : TellsConsole state_of settings s exchange.got exchange.answer sent last
+  pub made : next ≡ seen_by clerk (after s sent)
+
 -- the request of a client, or of an order, was processed between one view and the next
 abbrev pub RespondsBySeen : {S : Type 0} → Listener → (Held S → State) → ServerSettingsEntry → ℕ → OfficeState → Exchange → OfficeState → Type 0
-RespondsBySeen Clients state_of settings clerk view exchange next = IsAnsweredBySeen state_of settings clerk view exchange next
+RespondsBySeen Clients state_of settings clerk view exchange next = IsAnsweredBySeen settings clerk view exchange next ⊎ IsConsoleBySeen state_of settings clerk view exchange next
 RespondsBySeen Orders state_of settings clerk view exchange next = IsFollowedBySeen state_of settings clerk view exchange next
 
--- a fault closed the office: a client's response is the fault, and an order's output is that of a state of which the clerk has this view
+-- A fault closed the office. The response to a client that asks no order is the fault, and an order's output is that of a state of which the clerk has this view.
 abbrev pub IsStoppedBySeen : {S : Type 0} → Listener → (Held S → State) → ServerSettingsEntry → ℕ → OfficeState → Exchange → Type 0
-IsStoppedBySeen Clients state_of settings clerk view exchange = EndsSo exchange (IsServed TellsFault)
+IsStoppedBySeen Clients state_of settings clerk view exchange =
+    (AsksNoOrder settings.clients exchange.got × EndsSo exchange (IsServed TellsFault)) ⊎ ((next : OfficeState) × IsConsoleBySeen state_of settings clerk view exchange next)
 IsStoppedBySeen Orders state_of settings clerk view exchange = (next : OfficeState) × IsFollowedBySeen state_of settings clerk view exchange next
 
 -- All requests are processed in turn, and the clerk's view determines the responses to the clerk. The view changes by the clerk's own requests and by orders, and by
@@ -78,7 +93,7 @@ ClerksAreAnsweredAsSeen state_of =
 -- The same of requests to an office that earlier requests led to, by what is kept of them.
 abbrev pub KeptAreAnsweredAsSeen : {S : Type 0} → (Held S → State) → Type 0
 KeptAreAnsweredAsSeen {S} state_of =
-    (settings : ServerSettingsEntry) (earlier : List Request) (exchanges : List Exchange) (closed : Bool) (held : Held S) → IsKeptOf state_of settings earlier exchanges closed (state_of held)
+    (settings : ServerSettingsEntry) (earlier : List Request) (exchanges : List Exchange) (closed : Bool) (held : Held S) → KeepsExchanges state_of settings earlier exchanges closed (state_of held)
     → (clerk : ℕ) → is_clerk clerk ≡ true → AnswersAsSeen state_of settings clerk (seen_by clerk (after empty_office earlier)) exchanges
 
 -- The same of a server, for any requests that it processed as it promises.
@@ -98,12 +113,12 @@ AreOwn settings clerk (exchange ∷ exchanges) own =
     (IsUnder settings clerk exchange.got × ((later : List Exchange) × (own ≡ exchange ∷ later) × AreOwn settings clerk exchanges later))
     ⊎ ((IsUnder settings clerk exchange.got → ⊥) × AreOwn settings clerk exchanges own)
 
--- each of some exchanges is a client's
-abbrev pub AreClients : List Exchange → Type 0
-AreClients [] = ⊤
-AreClients (exchange ∷ exchanges) = (exchange.listener ≡ Clients) × AreClients exchanges
+-- each of some exchanges is that of a client that asks no order
+abbrev pub AreClients : HttpSettingsEntry → List Exchange → Type 0
+AreClients settings [] = ⊤
+AreClients settings (exchange ∷ exchanges) = (exchange.listener ≡ Clients) × AsksNoOrder settings exchange.got × AreClients settings exchanges
 
--- a client got no answer: a fault came, the office was closed or its file gone, or the client has to wait
+-- a client got no answer: there was a fault, the office was closed or its file gone, or the client has to wait
 abbrev pub IsUnanswered : ServerSettingsEntry → Exchange → Type 0
 IsUnanswered settings exchange = EndsSo exchange (IsServed TellsFault) ⊎ IsToldClosed Clients settings exchange
 
@@ -119,12 +134,12 @@ AreAnsweredAlike settings [] others = others ≡ []
 AreAnsweredAlike settings (one ∷ ones) [] = ⊥
 AreAnsweredAlike settings (one ∷ ones) (two ∷ twos) = (AreSentTheSame one two × AreAnsweredAlike settings ones twos) ⊎ (IsUnanswered settings one ⊎ IsUnanswered settings two)
 
--- The law: two offices look alike to a clerk, and both serve clients only. Under the clerk's number both receive the same bytes, in the same order. Then both send the
--- clerk the same, whatever other clerks send.
+-- The law: two offices look alike to a clerk, and both serve only clients that ask no orders. Under the clerk's number both receive the same bytes, in the same order. Then
+-- both send the clerk the same, whatever other clerks send.
 abbrev pub ClerksCannotTell : {S : Type 0} → (Held S → State) → Type 0
 ClerksCannotTell state_of =
     (settings : ServerSettingsEntry) (clerk : ℕ) (s t : OfficeState) (exchanges others own same : List Exchange) (answered last told next : List Request)
     → is_clerk clerk ≡ true → IsState s → IsState t → seen_by clerk s ≡ seen_by clerk t
     → AnswersInTurn state_of settings s exchanges answered last → AnswersInTurn state_of settings t others told next
-    → AreClients exchanges → AreClients others → AreOwn settings.clients clerk exchanges own → AreOwn settings.clients clerk others same
+    → AreClients settings.clients exchanges → AreClients settings.clients others → AreOwn settings.clients clerk exchanges own → AreOwn settings.clients clerk others same
     → map (λ (exchange : Exchange). exchange.got) own ≡ map (λ (exchange : Exchange). exchange.got) same → AreAnsweredAlike settings own same

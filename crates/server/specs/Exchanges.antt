@@ -11,14 +11,17 @@ use Rattle.office.specs.Values.{OfficeValue}
 use Rattle.connections.specs.declared.client.Listener.{Listener}
 use Rattle.connections.specs.declared.client.Listener.TheVariants.{Clients, Orders}
 use Rattle.wire.specs.Bodies.{KeyingEntry}
-use Rattle.wire.specs.Requests.{HttpRequestEntry, Asks, denied, keying, reading, shown}
+use Rattle.wire.specs.ConsoleOrders.{ConsoleOrderEntry}
+use Rattle.wire.specs.Requests.{HttpRequestEntry, Asks, console, denied, keying, order, reading, shown}
 use Rattle.wire.specs.Gates.{HttpSettingsEntry, IsAuthentication, AuthenticationEntry}
 use Rattle.wire.specs.Responses.{fault_response, waits_response}
 use Rattle.wire.specs.Told.{IsTold, IsWritten}
 use Rattle.wire.specs.Serving.{IsHandedOn, IsServed, Readies, ReadiesClosed, ReadiesFor, TellsFault, TellsFor, closed_response}
 use Rattle.wire.specs.declared.serving.Served.{Served}
 use Rattle.wire.specs.declared.target.Resource.{Resource}
+use Rattle.server.specs.Endings.{EndsIn}
 use Rattle.server.specs.ServedOrders.{FollowsOrder, IsTurnedAway, TellsOrder}
+use Rattle.server.specs.ConsoleOrders.{FollowsConsole, IsConsoleTurnedAway, TellsConsole}
 use Rattle.server.specs.Reads.{AreReadAt, ServedOffice, limit_after, must_wait}
 use Rattle.server.specs.Settings.{ServerSettingsEntry}
 
@@ -34,9 +37,6 @@ pub record Exchange : Type 0 where
 -- ---- one request, in an office that has the origin of a proxy or none, and its file
 
 -- a response was written, from its first byte on, and ended so
-abbrev pub EndsIn : List ℕ → (Option (List ℕ) → Option (List ℕ) → Served → Type 0) → Type 0
-EndsIn answer IsEnd = (served : Served) × IsEnd (Some []) (Some answer) served
-
 abbrev pub EndsSo : Exchange → (Option (List ℕ) → Option (List ℕ) → Served → Type 0) → Type 0
 EndsSo exchange IsEnd = EndsIn exchange.answer IsEnd
 
@@ -46,12 +46,18 @@ pub record HasAnswered {S : Type 0} (state_of : Held S → State) (old : OfficeV
   pub turned_away : old.closed ≡ true → EndsIn answer (IsServed (IsTold (closed_response asked))) × (new ≡ old)
   pub clean : HasCleanDisk (state_of new.held) → HasCleanDisk (state_of old.held)
 
--- the request changes nothing: it isn't a keying
+-- the request changes nothing: it is neither a keying nor an order
 abbrev pub ChangesNothing : HttpRequestEntry → Type 0
 ChangesNothing (denied why) = ⊤
 ChangesNothing (shown clerk show) = ⊤
 ChangesNothing (reading what) = ⊤
 ChangesNothing (keying clerk batch entry) = ⊥
+ChangesNothing (console show) = ⊤
+ChangesNothing (order entry) = ⊥
+
+-- these bytes ask no order of the console
+abbrev pub AsksNoOrder : HttpSettingsEntry → List ℕ → Type 0
+AsksNoOrder settings bytes = (entry : ConsoleOrderEntry) → Asks settings bytes (order entry) → ⊥
 
 -- what processing a request leaves of the cache: it is empty; or the request changes nothing, and if the cache was right at the state, it still is
 abbrev pub KeepsReads : {S : Type 0} → HttpSettingsEntry → (Held S → State) → ServedOffice S → List ℕ → ServedOffice S → Type 0
@@ -96,20 +102,27 @@ pub record IsKeptWaiting {S : Type 0} (settings : HttpSettingsEntry) (old : Serv
   pub told : IsWaitResponse exchange
   pub stays : new ≡ old
 
--- otherwise the client is served; and if its code was wrong, that is counted
-pub record IsLetIn {S : Type 0} (settings : HttpSettingsEntry) (state_of : Held S → State) (old : ServedOffice S) (exchange : Exchange) (new : ServedOffice S) : Type 0 where
+-- A client that asks no order is served. An order that a client asks is followed, and the cache is emptied.
+abbrev pub ServesAsked : {S : Type 0} → ServerSettingsEntry → (Held S → State) → ServedOffice S → Exchange → ServedOffice S → Type 0
+ServesAsked settings state_of old exchange new =
+    (AsksNoOrder settings.clients exchange.got × ServesClient settings.clients state_of old exchange new)
+    ⊎ (FollowsConsole settings state_of old.office exchange.got exchange.answer new.office × (new.kept.reads ≡ []))
+
+-- otherwise the client is served as it asks; and if its code was wrong, that is counted
+pub record IsLetIn {S : Type 0} (settings : ServerSettingsEntry) (state_of : Held S → State) (old : ServedOffice S) (exchange : Exchange) (new : ServedOffice S) : Type 0 where
   pub authentication : Option AuthenticationEntry
-  pub is : IsAuthentication settings exchange.got authentication
+  pub is : IsAuthentication settings.clients exchange.got authentication
   pub free : must_wait authentication exchange.moment old.kept.limit ≡ false
-  pub serves : ServesClient settings state_of old exchange new
+  pub serves : ServesAsked settings state_of old exchange new
   pub noted : new.kept.limit ≡ limit_after authentication exchange.moment old.kept.limit
 
 -- the request of a client was processed: it must wait, or the file is gone, or it is let in
 abbrev pub RespondsToClient : {S : Type 0} → ServerSettingsEntry → (Held S → State) → ServedOffice S → Exchange → ServedOffice S → Type 0
 RespondsToClient settings state_of old exchange new =
-    (IsKeptWaiting settings.clients old exchange new ⊎ IsWithoutFile settings old exchange new) ⊎ IsLetIn settings.clients state_of old exchange new
+    (IsKeptWaiting settings.clients old exchange new ⊎ IsWithoutFile settings old exchange new) ⊎ IsLetIn settings state_of old exchange new
 
--- The request of a connection of this listener was processed: a client's as above; or an order is followed, the cache is emptied, and no wrong code is counted.
+-- The request of a connection of this listener was processed: a client's as above; or an order that is handed over is followed, the cache is emptied, and no wrong code is
+-- counted.
 abbrev pub ServesAt : {S : Type 0} → Listener → ServerSettingsEntry → (Held S → State) → ServedOffice S → Exchange → ServedOffice S → Type 0
 ServesAt Clients settings state_of old exchange new = RespondsToClient settings state_of old exchange new
 ServesAt Orders settings state_of old exchange new =
@@ -126,9 +139,11 @@ IsLastFor settings bytes last =
     (last ≡ [])
     ⊎ ((clerk batch : ℕ) × (entry : KeyingEntry) × (request : Request) × Asks settings bytes (keying clerk batch entry) × IsHandedOn clerk batch entry request × (last ≡ request ∷ []))
 
--- a client that asks a closed office anything gets the response that it is closed; or it is turned away
+-- A client that asks a closed office anything gets the response that it is closed; or it is sent away. Of an order of the console the response is what a closed office prints.
 abbrev pub IsToldClosed : Listener → ServerSettingsEntry → Exchange → Type 0
-IsToldClosed Clients settings exchange = IsSentAway settings exchange ⊎ EndsSo exchange (IsServed (ReadiesClosed settings.clients (Some exchange.got)))
+IsToldClosed Clients settings exchange =
+    (IsSentAway settings exchange ⊎ (AsksNoOrder settings.clients exchange.got × EndsSo exchange (IsServed (ReadiesClosed settings.clients (Some exchange.got)))))
+    ⊎ IsConsoleTurnedAway settings exchange.got exchange.answer
 IsToldClosed Orders settings exchange = IsTurnedAway settings exchange.got exchange.answer
 
 -- the same of each of these
@@ -136,15 +151,31 @@ abbrev pub AreTurnedAway : ServerSettingsEntry → List Exchange → Type 0
 AreTurnedAway settings [] = ⊤
 AreTurnedAway settings (exchange ∷ exchanges) = IsToldClosed exchange.listener settings exchange × AreTurnedAway settings exchanges
 
--- A request is processed at a state, and these commands were answered for it. A client's is none, or one keying, and then its response is the office's reply to it. A
--- client that must wait has none. An order's are those that its output has.
+-- A client that asks no order is served at a state, and these commands were answered for it: none, or one keying, and then its response is the office's reply to it. A client
+-- that is sent away has none.
+abbrev pub IsClientAnsweredAt : ServerSettingsEntry → OfficeState → Exchange → List Request → Type 0
+IsClientAnsweredAt settings s exchange sent =
+    (IsSentAway settings exchange × (sent ≡ []))
+    ⊎ (AsksNoOrder settings.clients exchange.got × EndsSo exchange (IsServed (TellsFor settings.clients (Some exchange.got) s sent)))
+
+-- A request is processed at a state, and these commands were answered for it: a client's as above; and those that the output of an order has, of the console or handed over.
 abbrev pub IsAnsweredAt : {S : Type 0} → Listener → (Held S → State) → ServerSettingsEntry → OfficeState → Exchange → List Request → Type 0
-IsAnsweredAt Clients state_of settings s exchange sent = (IsSentAway settings exchange × (sent ≡ [])) ⊎ EndsSo exchange (IsServed (TellsFor settings.clients (Some exchange.got) s sent))
+IsAnsweredAt Clients state_of settings s exchange sent =
+    IsClientAnsweredAt settings s exchange sent ⊎ ((last : List Request) × TellsConsole state_of settings s exchange.got exchange.answer sent last)
 IsAnsweredAt Orders state_of settings s exchange sent = (last : List Request) × TellsOrder state_of settings s exchange.got exchange.answer sent last
 
--- A fault, which is the response, closed the office during a request: these commands were answered for it, and one more may be kept or not.
+-- a fault, which is the response, closed the office while a client that asks no order was served: no command was answered for it, and its keying may be kept or not
+pub record IsClientStopped (settings : ServerSettingsEntry) (exchange : Exchange) (answered last : List Request) : Type 0 where
+  pub no_order : AsksNoOrder settings.clients exchange.got
+  pub told : EndsSo exchange (IsServed TellsFault)
+  pub none : answered ≡ []
+  pub is_last : IsLastFor settings.clients exchange.got last
+
+-- A fault closed the office during a request: these commands were answered for it, and one more may be kept or not. The response to a client is the fault, and the output of
+-- an order says so.
 abbrev pub IsStoppedAt : {S : Type 0} → Listener → (Held S → State) → ServerSettingsEntry → OfficeState → Exchange → List Request → List Request → Type 0
-IsStoppedAt Clients state_of settings s exchange answered last = EndsSo exchange (IsServed TellsFault) × (answered ≡ []) × IsLastFor settings.clients exchange.got last
+IsStoppedAt Clients state_of settings s exchange answered last =
+    IsClientStopped settings exchange answered last ⊎ TellsConsole state_of settings s exchange.got exchange.answer answered last
 IsStoppedAt Orders state_of settings s exchange answered last = TellsOrder state_of settings s exchange.got exchange.answer answered last
 
 -- All requests are processed in turn, each as the office's machine says at the state at which it is processed, and these commands were answered for them. Or a fault closed
@@ -158,7 +189,7 @@ AnswersInTurn state_of settings s (exchange ∷ exchanges) answered last =
 
 -- What is kept of the requests that were processed, after earlier ones. An open office is at the state after all that were answered. Whatever a stop leaves is the state
 -- after the accepted requests of a beginning. That beginning contains every earlier request, every one that was answered, and at most one more.
-pub record IsKeptOf {S : Type 0} (state_of : Held S → State) (settings : ServerSettingsEntry) (earlier : List Request) (exchanges : List Exchange) (closed : Bool) (st : State) : Type 0 where
+pub record KeepsExchanges {S : Type 0} (state_of : Held S → State) (settings : ServerSettingsEntry) (earlier : List Request) (exchanges : List Exchange) (closed : Bool) (st : State) : Type 0 where
   pub answered : List Request
   pub last : List Request
   pub in_turn : AnswersInTurn state_of settings (after empty_office earlier) exchanges answered last

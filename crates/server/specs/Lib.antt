@@ -1,5 +1,7 @@
 pub mod Settings
 pub mod ServedOrders
+pub mod Endings
+pub mod ConsoleOrders
 pub mod FrameSinks
 pub mod Reads
 pub mod Exchanges

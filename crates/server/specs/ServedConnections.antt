@@ -8,7 +8,7 @@ use Rattle.connections.specs.declared.client.Accepted.{Accepted}
 use Rattle.connections.specs.declared.removed.Removed.{Removed}
 use Rattle.connections.specs.declared.removed.CloseReason.{CloseReason}
 use Rattle.connections.specs.declared.removed.CloseReason.TheVariants.{Done, Broken, Unreadable, TimedOut, Evicted, Closing}
-use Rattle.connections.specs.declared.table.ConnectionTable.{ConnectionTable}
+use Rattle.connections.specs.declared.connection_table.ConnectionTable.{ConnectionTable}
 use Rattle.server.specs.Settings.{ServerSettingsEntry}
 use Rattle.server.specs.Servicing.{HasComeAt, answer_of}
 use Rattle.server.specs.Exchanges.{Exchange}
@@ -66,19 +66,19 @@ pub record HasLeft {L : Type 0} (stream : Stream L) (gone : List (Removed L)) (e
 pub record IsIn {L : Type 0} (clients : List (Client L)) (number : ℕ) : Type 0 where
   pub place : ℕ
   pub within : place < length clients
-  pub his : (client : Client L) → (slice_index_or clients place client).number ≡ number
+  pub belongs : (client : Client L) → (slice_index_or clients place client).number ≡ number
 
 -- the exchanges of a connection that has this response, or none yet
 abbrev pub HasExchangeFor : Option (List ℕ) → List Exchange → Type 0
-HasExchangeFor None his = his ≡ []
-HasExchangeFor (Some answer) his = (exchange : Exchange) × (his ≡ exchange ∷ []) × (exchange.answer ≡ answer)
+HasExchangeFor None own = own ≡ []
+HasExchangeFor (Some answer) own = (exchange : Exchange) × (own ≡ exchange ∷ []) × (exchange.answer ≡ answer)
 
 -- An open connection: its listener, its stream, what was received of it and what was sent to it are its own, and its response is that of its exchange.
 pub record IsOpenConnection {L : Type 0} (stream : Stream L) (exchanges : List Exchange) (connection : ServedConnection L) (client : Client L) : Type 0 where
   pub listener : client.listener ≡ connection.came.listener
   pub last : connection.last ≡ client.stream
   pub own : IsOf stream connection.came.stream client
-  pub his : HasExchangeFor (answer_of client) (exchanges_of client.number exchanges)
+  pub belongs : HasExchangeFor (answer_of client) (exchanges_of client.number exchanges)
 
 -- All connections that were accepted, so many, and those of them that are open, each under a number of its own. Each of the others was handed back, once.
 pub record AreIn {L : Type 0} (settings : ServerSettingsEntry) (stream : Stream L) (all_connections : List (ServedConnection L)) (exchanges : List Exchange) (gone : List (Removed L)) (came : ℕ)

@@ -1,7 +1,8 @@
--- An order that is handed over to the server: what its message asks, the outcome, and its output in frames.
-use Rattle.std.specs.Prelude.{◌≡◌, ◌⊎◌, ⊤, Bool, true, List, [], ◌∷◌, None, Some, bytes_eq, drop, if◌then◌else◌, length, map, option_map, take, ◌≤◌, ◌+◌, Option, ℕ}
+-- An order that is handed over to the server: what its message asks, the outcome, and its output in frames. An order of the console shares what its words ask, and how
+-- that is followed.
+use Rattle.std.specs.Prelude.{◌≡◌, ◌⊎◌, ⊤, Bool, true, List, [], ◌∷◌, None, Some, bytes_eq, drop, if◌then◌else◌, length, map, option_map, take, ◌≤◌, ◌<◌, ◌+◌, Option, ℕ}
 use Rattle.std.specs.Int.{from_be_bytes, w64}
-use Rattle.std.specs.List.{list_all}
+use Rattle.std.specs.List.{Contains, list_all}
 use Rattle.std.specs.Str.{is_utf8}
 use Rattle.clap.specs.Words.{Text, subcommand_of}
 use Rattle.sqlite.specs.Held.{Held}
@@ -50,9 +51,9 @@ pub record HasCameWhole (bytes : List ℕ) : Type 0 where
 abbrev pub words_in : OrderMessageEntry → List Text
 words_in h = map (λ piece. piece.name) h.words
 
--- its words mean this order
-abbrev pub MeansOrder : OrderMessageEntry → Order → Type 0
-MeansOrder h o = meaning (subcommand_of office_words (words_in h)) ≡ Some (told o)
+-- these words mean this order
+abbrev pub MeansOrder : List Text → Order → Type 0
+MeansOrder words o = meaning (subcommand_of office_words words) ≡ Some (told o)
 
 -- the order comes from this version of the program, and is for the file that is served
 pub record IsForFile (file : FileNumbers) (h : OrderMessageEntry) : Type 0 where
@@ -65,18 +66,19 @@ abbrev pub IsForNone : Order → Type 0
 IsForNone (order.Perform task.Init) = ⊤
 IsForNone (order.Perform task.Migrate) = ⊤
 IsForNone (order.Serve port connections origin codes) = ⊤
-IsForNone (order.Codes path clerks) = ⊤
+IsForNone (order.Codes path clerks with_office) = ⊤
 IsForNone other = ⊥
 
--- What an order asks that is for this file: a job, a copy, the journal. Or why it isn't followed: its words are no order; or the file is gone, which isn't known to be whole.
-abbrev pub AsksSo : Option Bool → OrderMessageEntry → ServedOrder → Type 0
-AsksSo whole h (asked.Do job) = MeansOrder h (order.Perform (task.InOffice job))
-AsksSo whole h (asked.Copy path) = MeansOrder h (order.Copy path)
-AsksSo whole h asked.Journal = MeansOrder h order.Journal
-AsksSo whole h (asked.Refused failure) =
-    ((failure ≡ BeingServed) × ((o : Order) × MeansOrder h o × IsForNone o))
-    ⊎ ((failure ≡ FileGone) × ((job : Job) × MeansOrder h (order.Perform (task.InOffice job))) × (whole ≡ Some true → ⊥))
-AsksSo whole h (asked.Misread fault) = IsNoneMeant (meaning (subcommand_of office_words (words_in h))) fault
+-- What the words of an order ask that is for this file: a job, a copy, the journal. Or why it isn't followed: they are no order; or the file is gone, which isn't known to be
+-- whole.
+abbrev pub AsksSo : Option Bool → List Text → ServedOrder → Type 0
+AsksSo whole words (asked.Do job) = MeansOrder words (order.Perform (task.InOffice job))
+AsksSo whole words (asked.Copy path) = MeansOrder words (order.Copy path)
+AsksSo whole words asked.Journal = MeansOrder words order.Journal
+AsksSo whole words (asked.Refused failure) =
+    ((failure ≡ BeingServed) × ((o : Order) × MeansOrder words o × IsForNone o))
+    ⊎ ((failure ≡ FileGone) × ((job : Job) × MeansOrder words (order.Perform (task.InOffice job))) × (whole ≡ Some true → ⊥))
+AsksSo whole words (asked.Misread fault) = IsNoneMeant (meaning (subcommand_of office_words words)) fault
 
 -- No order is decoded: an allocation failed; or the bytes are no message of text, or that of another version of the program, or for another file.
 abbrev pub IsUnread : FileNumbers → List ℕ → ServedOrder → Type 0
@@ -87,7 +89,7 @@ IsUnread file got what =
 -- these bytes ask this, with the files that came with it
 abbrev pub AsksOrder : ServerSettingsEntry → List ℕ → List MessagePartEntry → ServedOrder → Type 0
 AsksOrder settings got files what =
-    ((h : OrderMessageEntry) × IsMessage got h × IsForFile settings.file h × (files ≡ h.files) × AsksSo settings.whole h what) ⊎ (IsUnread settings.file got what × (files ≡ []))
+    ((h : OrderMessageEntry) × IsMessage got h × IsForFile settings.file h × (files ≡ h.files) × AsksSo settings.whole (words_in h) what) ⊎ (IsUnread settings.file got what × (files ≡ []))
 
 -- ---- its files
 
@@ -136,6 +138,10 @@ IsOrderOutcome old closed st folder s asked.Journal cut page = IsJournalTold s p
 IsOrderOutcome old closed st folder s (asked.Refused failure) cut page = (page ≡ failed failure) × IsOpenAt s closed st
 IsOrderOutcome old closed st folder s (asked.Misread fault) cut page = (page ≡ words_page fault) × IsOpenAt s closed st
 
+-- a path is a name alone, without a folder
+abbrev pub IsBareName : Text → Type 0
+IsBareName path = (0 < length path) × (Contains path 47 → ⊥)
+
 -- the page of a closed office: that it is closed, of anything it would do; and otherwise why the order isn't followed
 abbrev pub shut_page : ServedOrder → Page
 shut_page (asked.Do job) = closed_page
@@ -144,22 +150,27 @@ shut_page asked.Journal = closed_page
 shut_page (asked.Refused failure) = failed failure
 shut_page (asked.Misread fault) = words_page fault
 
--- What is asked with these files was done, and these frames are the response. If the office was open, they have the outcome as far as its outputs accepted it, with what it
--- left. If the office was closed, they say so.
-pub record TellsAsked {S : Type 0} (state_of : Held S → State) (old : OfficeValue S) (files : List MessagePartEntry) (asked : ServedOrder) (frames : List ℕ) (new : OfficeValue S) : Type 0 where
+-- What is asked with these files was done, and so much of its page was sent so. If the office was open, the page has the outcome as far as its outputs accepted it, with what
+-- it left. If the office was closed, the page says so.
+pub record Follows {S : Type 0} (state_of : Held S → State) (old : OfficeValue S) (files : List MessagePartEntry) (asked : ServedOrder) (IsSent : Cut → Page → Type 0) (new : OfficeValue S)
+    : Type 0 where
   pub cut : Cut
   pub page : Page
-  pub told : IsFramed cut page frames
+  pub told : IsSent cut page
   pub does : WhenOpenAt state_of old new (λ s. IsOrderOutcome (state_of old.held) new.closed (state_of new.held) (folder_of files) s asked cut page)
   pub turned_away : old.closed ≡ true → (page ≡ shut_page asked) × (new ≡ old)
   pub clean : HasCleanDisk (state_of new.held) → HasCleanDisk (state_of old.held)
+
+-- what is asked was done, and these frames are the response
+abbrev pub IsResponseToOrder : {S : Type 0} → (Held S → State) → OfficeValue S → List MessagePartEntry → ServedOrder → List ℕ → OfficeValue S → Type 0
+IsResponseToOrder state_of old files asked frames new = Follows state_of old files asked (λ cut page. IsFramed cut page frames) new
 
 -- the order that these bytes ask was processed, and these frames are the response
 pub record FollowsOrder {S : Type 0} (settings : ServerSettingsEntry) (state_of : Held S → State) (old : OfficeValue S) (got frames : List ℕ) (new : OfficeValue S) : Type 0 where
   pub files : List MessagePartEntry
   pub asked : ServedOrder
   pub is : AsksOrder settings got files asked
-  pub tells : TellsAsked state_of old files asked frames new
+  pub tells : IsResponseToOrder state_of old files asked frames new
 
 -- ---- its output at a state
 

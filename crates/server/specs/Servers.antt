@@ -6,7 +6,7 @@ use Rattle.sqlite.specs.State.{HasCleanDisk, State}
 use Rattle.register.specs.Machine.{after}
 use Rattle.register.specs.Offices.{empty_office}
 use Rattle.register.specs.declared.command.Request.{Request}
-use Rattle.store.specs.Offices.{IsAt}
+use Rattle.store.specs.StateTables.{IsAt}
 use Rattle.office.specs.Values.{OfficeValue}
 use Rattle.streams.specs.declared.streams.Broken.{Broken}
 use Rattle.connections.specs.Closing.{AreClosedByRule, IsClosed, IsClosedForBytes, with_all_removed}
@@ -18,14 +18,14 @@ use Rattle.connections.specs.declared.client.Client.{Client}
 use Rattle.connections.specs.declared.client.Accepted.{Accepted}
 use Rattle.connections.specs.declared.removed.Removed.{Removed}
 use Rattle.connections.specs.declared.removed.CloseReason.{CloseReason}
-use Rattle.connections.specs.declared.table.ConnectionTable.{ConnectionTable}
+use Rattle.connections.specs.declared.connection_table.ConnectionTable.{ConnectionTable}
 use Rattle.server.specs.ServedConnections.{AreIn, ServedConnection, HasLeft, AllHadExchanges}
 use Rattle.server.specs.declared.serve_error.ServeError.{ServeError}
 use Rattle.server.specs.declared.serve_error.ServeError.TheVariants as ended
 use Rattle.server.specs.Reads.{ServedOffice, MemoryEntry, served_office, with_none_kept}
 use Rattle.server.specs.Settings.{ServerSettingsEntry}
 use Rattle.server.specs.Servicing.{response_at}
-use Rattle.server.specs.Exchanges.{IsKeptOf, ServesExchange, Exchange}
+use Rattle.server.specs.Exchanges.{KeepsExchanges, ServesExchange, Exchange}
 
 -- these connections were accepted
 abbrev pub AcceptsMore : {L : Type 0} → Option (List (Accepted L)) → Option (List (Accepted L)) → List (Accepted L) → Type 0
@@ -65,13 +65,13 @@ ServesOn settings stream state_of before later old new at behind =
 abbrev pub IsNumbered : {L : Type 0} → List (Client L) → ℕ → ℕ → Type 0
 IsNumbered {L} clients place number = (client : Client L) → (slice_index_or clients place client).number ≡ number
 
--- a connection stands at its place of the table again
+-- a connection is at its place of the table again
 pub record StandsAgain {L : Type 0} (place : ℕ) (client : Client L) (old new : ConnectionTable L) : Type 0 where
   pub clients : new.clients.items ≡ insert old.clients.items place client
   pub came : new.came ≡ old.came
   pub counted : new.counted ≡ old.counted
 
--- What became of a connection that was serviced, and taken out of the table for that. It was closed for its reason. Or it stands at its place again, and then connections
+-- The outcome of servicing a connection, which was taken out of the table for that. It was closed for its reason. Or it is at its place again, and then connections
 -- were closed while too many bytes were in memory.
 abbrev pub IsSettled : {L : Type 0} → Option CloseReason → ℕ → Client L → NetworkEntry L → NetworkEntry L → ConnectionTable L → ConnectionTable L → Type 0
 IsSettled (Some why) place client before later old new = (later ≡ with_removed before (removed_of client why)) × (new ≡ old)
@@ -130,4 +130,4 @@ pub record ServesConnections {L S : Type 0} (settings : ServerSettingsEntry) (st
   pub kept : MemoryEntry
   pub each : FoldsTo (ServesExchange settings state_of) (with_none_kept old) exchanges (served_office new kept)
   pub keeps : HasCleanDisk (state_of new.held) → old.closed ≡ false → (earlier : List Request) → IsAt (after empty_office earlier) (state_of old.held)
-      → IsKeptOf state_of settings earlier exchanges new.closed (state_of new.held)
+      → KeepsExchanges state_of settings earlier exchanges new.closed (state_of new.held)

@@ -60,7 +60,7 @@ pub record HasResponded {L S : Type 0} (settings : ServerSettingsEntry) (stream 
   pub own : Receives stream old.stream received old.got.items exchange.got
   pub come : HasComeAt old.listener settings (stream.held received) exchange.got
   pub served : ServesExchange settings state_of before exchange later
-  pub his : answer_of new ≡ Some exchange.answer
+  pub belongs : answer_of new ≡ Some exchange.answer
 
 -- the exchanges of a connection while it was serviced at a moment: one if its request was processed, and otherwise none
 abbrev pub HasExchanges : {L S : Type 0} → ServerSettingsEntry → Stream L → (Held S → State) → ℕ → List Exchange → Client L → Client L → ServedOffice S → ServedOffice S → Type 0

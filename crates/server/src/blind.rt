@@ -2,7 +2,7 @@
 
 ghost use Rattle.sqlite.specs.Held.{state};
 ghost use Rattle.connections.specs.Streams.{stream_of};
-ghost use Rattle.server.specs.Blind.{ClerksAreAnsweredAsSeen, ClerksCannotTell, ServersAnswerAsSeen, KeptAreAnsweredAsSeen};
+ghost use Rattle.server.specs.Blind.{ClerksAreAnsweredAsSeen, ClerksAskNoOrder, ClerksCannotTell, ServersAnswerAsSeen, KeptAreAnsweredAsSeen};
 
 use connections::Network;
 use laws::clerks_are_blind;
@@ -11,10 +11,11 @@ use sqlite::Alter;
 
 /// The law of blind keying, for a server. What that clerk sees alone determines the response to each request under a clerk's
 /// number: the wards and their phases, the candidates, the batches, the clerk's own keyings and receipts. Nothing that another
-/// clerk sends changes it. An order may, since it is the office's.
+/// clerk sends changes it. An order may, since it is the office's; no request under a clerk's number is an order.
 ///
-/// So take two services whose offices look alike to a clerk, and that receive no orders. If both receive the same bytes under the
-/// clerk's number, in the same order, both send the clerk the same, whatever other clerks keyed.
+/// So take two services whose offices look alike to a clerk, and that receive no orders, neither handed over nor from the
+/// console. If both receive the same bytes under the clerk's number, in the same order, both send the clerk the same, whatever
+/// other clerks keyed.
 ///
 /// The law doesn't cover faults, nor the responses that the client must wait (429) and that the file is gone (113). It says
 /// nothing of how long a response takes, nor of public reads: a stage sheet or a declaration.
@@ -22,6 +23,7 @@ pub fn clerks_are_answered_as_seen<S: Alter>()
     ensures own { ClerksAreAnsweredAsSeen (state S.Store) }
     ensures kept { KeptAreAnsweredAsSeen (state S.Store) }
     ensures alike { ClerksCannotTell (state S.Store) }
+    ensures apart { ClerksAskNoOrder }
 {
     // for their laws
     clerks_are_blind();

@@ -1,21 +1,23 @@
-//! The response to an order: it is processed in the open office, and its output is sent in frames.
+//! The response to an order that is handed over: it is processed in the open office, and its output is sent in frames.
+//! `console_order` shares how an order is processed.
 
-ghost use Rattle.std.specs.Prelude.{◌≡◌, ⊤, ◌-◌, ◌^◌, ◌<◌, ℕ, List, [], true};
+ghost use Rattle.std.specs.Prelude.{◌≡◌, ⊤, ◌-◌, ◌^◌, ◌<◌, ℕ, IfSome, List, [], None, true};
+ghost use Rattle.clap.specs.Words.{Text};
 ghost use Rattle.sqlite.specs.State.{HasCleanDisk};
 ghost use Rattle.sqlite.specs.Held.{state};
 ghost use Rattle.office.specs.Answers.{IsReadAt, WhenOpenAt};
 ghost use Rattle.connections.specs.Streams.{HasTaken, stream_of};
 ghost use Rattle.connections.specs.Clients.{IsSent};
-ghost use Rattle.order_protocol.specs.Messages.{OrderMessageEntry, order_message_entry, message_part_entries};
+ghost use Rattle.order_protocol.specs.Messages.{order_message_entry, message_part_entries};
 ghost use Rattle.desk.specs.Pages.{Shows, Tells, outputs_of};
 ghost use Rattle.server.specs.Settings.{settings_in};
-ghost use Rattle.server.specs.ServedOrders.{AsksSo, IsOrderOutcome, FollowsOrder, HasCameWhole, IsCopyTold, IsMessage, TellsAsked, folder_of, shut_page};
+ghost use Rattle.server.specs.ServedOrders.{AsksSo, IsBareName, IsOrderOutcome, FollowsOrder, HasCameWhole, IsCopyTold, IsMessage, IsResponseToOrder, folder_of, shut_page};
 
 use crate::frame_sink::FrameSink;
 use crate::order_arrival::LENGTH;
+use crate::served_file::{Destination, ServedFile};
 use crate::served_order::{ServedOrder, is_for_file, read_message, served_order_by, words_of};
 use crate::server_settings::ServerSettings;
-use crate::side_jobs::{Destination, SideJobs};
 use connections::{PendingResponse, Stream, VecSink};
 use desk::{Failure, Folder, follow, tell_failure, tell_words};
 use office::Office;
@@ -25,11 +27,12 @@ use std::alloc::{AllocError, Global};
 use store::Fault;
 use streams::Sink;
 
-/// The files that came with an order, and the folder in which it was typed. At any other path there is no file.
+/// The files that came with an order, and the folder in which it was typed: `None` for an order of the console. At any other path
+/// there is no file.
 #[derive(Clone, Copy)]
-struct AttachedFiles<'b> {
-    folder: &'b [u8],
-    files: &'b [MessagePart<'b>],
+pub struct AttachedFiles<'b> {
+    pub folder: Option<&'b [u8]>,
+    pub files: &'b [MessagePart<'b>],
 }
 
 impl<'b> Folder for AttachedFiles<'b> {
@@ -48,14 +51,14 @@ impl<'b> Folder for AttachedFiles<'b> {
 }
 
 /// An order that is processed: what it asks, the files that came with it, and what it needs besides the office.
-struct Handing<'t, A> {
-    alloc: Global,
-    side_jobs: &'t A,
-    asked: &'t ServedOrder<'t>,
-    attached: AttachedFiles<'t>,
+pub struct OrderContext<'t, A> {
+    pub alloc: Global,
+    pub served_file: &'t A,
+    pub asked: &'t ServedOrder<'t>,
+    pub attached: AttachedFiles<'t>,
 }
 
-impl<A> Clone for Handing<'_, A> {
+impl<A> Clone for OrderContext<'_, A> {
     ghost is_clone = { λ x y. y ≡ x };
 
     ghost is_infallible = { λ _. ⊤ };
@@ -65,7 +68,7 @@ impl<A> Clone for Handing<'_, A> {
     }
 }
 
-impl<A> Copy for Handing<'_, A> {}
+impl<A> Copy for OrderContext<'_, A> {}
 
 /// Prints what a closed office says of an order: that it is closed, of what is followed; and why anything else isn't.
 fn print_closed<O: Sink, E: Sink>(asked: &ServedOrder<'_>, out: &mut O, err: &mut E) -> u8
@@ -82,9 +85,39 @@ fn print_closed<O: Sink, E: Sink>(asked: &ServedOrder<'_>, out: &mut O, err: &mu
     }
 }
 
-/// Copies the office for an order, to a path as seen from the order's folder. There is no folder if its name isn't UTF-8.
-fn copy_for_order<A: SideJobs, S: Alter, O: Sink, E: Sink>(
-    order: &Handing<'_, A>,
+/// Returns whether a path is a name alone: it isn't empty, and has no `/`.
+fn is_bare_name(path: &str) -> bool
+    ensures { result ≡ true → IsBareName path.now }
+{
+    if path.is_empty() {
+        return false;
+    }
+    !path.as_bytes().contains(&b'/')
+}
+
+/// Returns the destination of a copy: a path, as seen from the folder in which the order was typed. From the console that folder
+/// is empty, and the path is a name alone. `None` if it is none, or if the folder's name isn't UTF-8.
+fn destination_of<'t>(folder: Option<&'t [u8]>, path: &'t str) -> Option<Destination<'t>>
+    ensures { folder.entry ≡ None → IfSome result (λ to. (to.folder.now ≡ []) × IsBareName to.path.now) }
+{
+    match folder {
+        Some(folder) => match str::from_utf8(folder) {
+            Ok(folder) => Some(Destination { folder, path }),
+            Err(_) => None,
+        },
+        None => {
+            if is_bare_name(path) {
+                Some(Destination { folder: "", path })
+            } else {
+                None
+            }
+        }
+    }
+}
+
+/// Copies the office for an order, to a path as seen from the order's folder, if there is such a path.
+fn copy_for_order<A: ServedFile, S: Alter, O: Sink, E: Sink>(
+    order: &OrderContext<'_, A>,
     path: &str,
     office: &mut Office<S>,
     out: &mut O,
@@ -96,18 +129,15 @@ fn copy_for_order<A: SideJobs, S: Alter, O: Sink, E: Sink>(
         (λ _ page. WhenOpenAt (state S.Store) office.old office.new (λ s. IsCopyTold s page × IsReadAt s office.new.closed (state S.Store office.new.held))) }
     ensures clean { HasCleanDisk (state S.Store office.new.held) → HasCleanDisk (state S.Store office.old.held) }
 {
-    match str::from_utf8(order.attached.folder) {
-        Ok(folder) => {
-            let to = Destination { folder, path };
-            order.side_jobs.copy(office, to, out, err)
-        }
-        Err(_) => tell_failure(Failure::CopyFailed, err),
+    match destination_of(order.attached.folder, path) {
+        Some(to) => order.served_file.copy(office, to, out, err),
+        None => tell_failure(Failure::CopyFailed, err),
     }
 }
 
 /// Does what an order asks in an office that is open, and returns the status.
-fn do_open<A: SideJobs, S: Alter, O: Sink, E: Sink>(
-    order: &Handing<'_, A>,
+fn do_open<A: ServedFile, S: Alter, O: Sink, E: Sink>(
+    order: &OrderContext<'_, A>,
     office: &mut Office<S>,
     out: &mut O,
     err: &mut E,
@@ -125,14 +155,14 @@ fn do_open<A: SideJobs, S: Alter, O: Sink, E: Sink>(
         ServedOrder::Misread(fault) => tell_words(fault, out, err),
         ServedOrder::Do(job) => follow(order.alloc, office, job, &order.attached, out, err),
         ServedOrder::Copy(path) => copy_for_order(order, path, office, out, err),
-        ServedOrder::Journal => order.side_jobs.journal(office, out, err),
+        ServedOrder::Journal => order.served_file.journal(office, out, err),
     }
 }
 
 /// Does what an order asks in the office, which is open or closed, and returns the status. A closed office reports that it is
 /// closed, for anything it would do otherwise.
-fn do_asked<A: SideJobs, S: Alter, O: Sink, E: Sink>(
-    order: &Handing<'_, A>,
+pub fn do_asked<A: ServedFile, S: Alter, O: Sink, E: Sink>(
+    order: &OrderContext<'_, A>,
     office: &mut Office<S>,
     out: &mut O,
     err: &mut E,
@@ -156,14 +186,14 @@ fn do_asked<A: SideJobs, S: Alter, O: Sink, E: Sink>(
 /// Does what an order asks, and sends its output in frames on its stream, which is returned. What the stream doesn't accept now
 /// stays in the response, which is sent side by side with others. If the allocation for the last frame fails, the response ends
 /// without it.
-fn respond_to_asked<L: Stream, A: SideJobs, S: Alter>(
-    order: &Handing<'_, A>,
+fn respond_to_asked<L: Stream, A: ServedFile, S: Alter>(
+    order: &OrderContext<'_, A>,
     stream: L,
     office: &mut Office<S>,
 ) -> (L, PendingResponse)
     requires { HasTaken (L.taken stream) [] }
     ensures told { IsSent (stream_of L.held L.taken L.failed) result.0 result.1.bytes.items result.1.sent }
-    ensures followed { TellsAsked (state S.Store) office.old (message_part_entries order.now.attached.files.now) order.now.asked.now result.1.bytes.items office.new }
+    ensures followed { IsResponseToOrder (state S.Store) office.old (message_part_entries order.now.attached.files.now) order.now.asked.now result.1.bytes.items office.new }
 {
     let mut out = FrameSink::new(order.alloc, stream);
     let mut err = VecSink::new(order.alloc);
@@ -172,12 +202,12 @@ fn respond_to_asked<L: Stream, A: SideJobs, S: Alter>(
 }
 
 /// Returns what an order asks; or that it isn't followed, if it asks for a job and the office's file is gone or replaced.
-fn unless_gone<'w, A: SideJobs>(asked: ServedOrder<'w>, side_jobs: &A) -> ServedOrder<'w>
-    ensures { (h : OrderMessageEntry) → AsksSo (A.whole side_jobs.now) h asked.entry → AsksSo (A.whole side_jobs.now) h result }
+pub fn unless_gone<'w, A: ServedFile>(asked: ServedOrder<'w>, served_file: &A) -> ServedOrder<'w>
+    ensures { (words : List Text) → AsksSo (A.whole served_file.now) words asked.entry → AsksSo (A.whole served_file.now) words result }
 {
     match asked {
         ServedOrder::Do(job) => {
-            if side_jobs.is_whole() {
+            if served_file.is_whole() {
                 ServedOrder::Do(job)
             } else {
                 ServedOrder::Refused(Failure::FileGone)
@@ -188,23 +218,23 @@ fn unless_gone<'w, A: SideJobs>(asked: ServedOrder<'w>, side_jobs: &A) -> Served
 }
 
 /// Responds to an order that isn't followed, with this fault.
-fn tell_refused<L: Stream, A: SideJobs, S: Alter>(
+fn tell_refused<L: Stream, A: ServedFile, S: Alter>(
     alloc: Global,
-    side_jobs: &A,
+    served_file: &A,
     fault: Fault,
     stream: L,
     office: &mut Office<S>,
 ) -> (L, PendingResponse)
     requires { HasTaken (L.taken stream) [] }
     ensures told { IsSent (stream_of L.held L.taken L.failed) result.0 result.1.bytes.items result.1.sent }
-    ensures followed { TellsAsked (state S.Store) office.old [] (ServedOrder.Refused (Failure.Office fault)) result.1.bytes.items office.new }
+    ensures followed { IsResponseToOrder (state S.Store) office.old [] (ServedOrder.Refused (Failure.Office fault)) result.1.bytes.items office.new }
 {
-    let order = Handing {
+    let order = OrderContext {
         alloc,
-        side_jobs,
+        served_file,
         asked: &ServedOrder::Refused(Failure::Office(fault)),
         attached: AttachedFiles {
-            folder: &[],
+            folder: None,
             files: &[],
         },
     };
@@ -212,7 +242,7 @@ fn tell_refused<L: Stream, A: SideJobs, S: Alter>(
 }
 
 /// Responds to an order whose message was decoded: prints what it asks, or why it isn't followed.
-fn respond_to_message<L: Stream, A: SideJobs, S: Alter>(
+fn respond_to_message<L: Stream, A: ServedFile, S: Alter>(
     alloc: Global,
     server_settings: ServerSettings<'_, A>,
     message: &OrderMessage<'_>,
@@ -227,7 +257,7 @@ fn respond_to_message<L: Stream, A: SideJobs, S: Alter>(
     if !is_for_file(message, server_settings.file) {
         return tell_refused(
             alloc,
-            server_settings.side_jobs,
+            server_settings.served_file,
             Fault::Store,
             stream,
             office,
@@ -235,15 +265,21 @@ fn respond_to_message<L: Stream, A: SideJobs, S: Alter>(
     }
     let words = match words_of(alloc, &message.words) {
         Ok(words) => words,
-        Err(fault) => return tell_refused(alloc, server_settings.side_jobs, fault, stream, office),
+        Err(fault) => return tell_refused(
+            alloc,
+            server_settings.served_file,
+            fault,
+            stream,
+            office,
+        ),
     };
-    let asked = unless_gone(served_order_by(alloc, &words), server_settings.side_jobs);
-    let order = Handing {
+    let asked = unless_gone(served_order_by(alloc, &words), server_settings.served_file);
+    let order = OrderContext {
         alloc,
-        side_jobs: server_settings.side_jobs,
+        served_file: server_settings.served_file,
         asked: &asked,
         attached: AttachedFiles {
-            folder: message.folder,
+            folder: Some(message.folder),
             files: &message.files,
         },
     };
@@ -256,7 +292,7 @@ fn respond_to_message<L: Stream, A: SideJobs, S: Alter>(
 /// The response is fault 102, as for a file that another program holds, if the bytes are no message, or if the order is from
 /// another version of the program or for another file. For `init`, `migrate` and `serve` it is that the office is being served
 /// (111).
-pub fn answer_order<L: Stream, A: SideJobs, S: Alter>(
+pub fn answer_order<L: Stream, A: ServedFile, S: Alter>(
     alloc: Global,
     server_settings: ServerSettings<'_, A>,
     got: &[u8],
@@ -270,6 +306,6 @@ pub fn answer_order<L: Stream, A: SideJobs, S: Alter>(
 {
     match read_message(alloc, &got[LENGTH..]) {
         Ok(message) => respond_to_message(alloc, server_settings, &message, stream, office),
-        Err(fault) => tell_refused(alloc, server_settings.side_jobs, fault, stream, office),
+        Err(fault) => tell_refused(alloc, server_settings.served_file, fault, stream, office),
     }
 }

@@ -7,7 +7,7 @@ ghost use Rattle.std.specs.List.{Contains};
 ghost use Rattle.server.specs.Reads.{ReadEntry, reads_in};
 
 use std::alloc::Global;
-use wire::Resource;
+use wire::{OfficeRead, Resource};
 
 /// The most bytes of cached responses.
 const MAX_KEPT: usize = 16 << 20;
@@ -29,6 +29,28 @@ pub struct ReadCache {
     pub bytes: usize,
 }
 
+/// Returns whether the console reads the same.
+fn is_same_office_read(one: OfficeRead, other: OfficeRead) -> bool
+    ensures { result ≡ true → one ≡ other }
+{
+    match (one, other) {
+        (OfficeRead::Wards, OfficeRead::Wards) => true,
+        (OfficeRead::Ward { ward }, OfficeRead::Ward { ward: other }) => ward == other,
+        (OfficeRead::Batches { ward }, OfficeRead::Batches { ward: other }) => ward == other,
+        (OfficeRead::Doubtful { ward }, OfficeRead::Doubtful { ward: other }) => ward == other,
+        (OfficeRead::Differences { batch }, OfficeRead::Differences { batch: other }) => {
+            batch == other
+        }
+        (OfficeRead::Papers { batch }, OfficeRead::Papers { batch: other }) => batch == other,
+        (OfficeRead::Receipts { actor: None }, OfficeRead::Receipts { actor: None }) => true,
+        (
+            OfficeRead::Receipts { actor: Some(actor) },
+            OfficeRead::Receipts { actor: Some(other) },
+        ) => actor == other,
+        _ => false,
+    }
+}
+
 /// Returns whether the same is read.
 fn is_same(one: Resource, other: Resource) -> bool
     ensures { result ≡ true → one ≡ other }
@@ -44,6 +66,7 @@ fn is_same(one: Resource, other: Resource) -> bool
         ) => clerk == theirs && batch == too,
         (Resource::Sheet { ward }, Resource::Sheet { ward: other }) => ward == other,
         (Resource::Declaration { ward }, Resource::Declaration { ward: other }) => ward == other,
+        (Resource::Office(read), Resource::Office(other)) => is_same_office_read(read, other),
         _ => false,
     }
 }

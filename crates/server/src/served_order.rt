@@ -59,7 +59,7 @@ pub fn words_of<'b>(alloc: Global, words: &[MessagePart<'b>]) -> Result<Vec<&'b 
     Ok(texts)
 }
 
-/// Returns whether an order comes from this version of the program, and is for the file that is served.
+/// Returns whether an order is from this version of the program, and for the file that is served.
 pub fn is_for_file(handed: &OrderMessage<'_>, file: FileNumbers) -> bool
     ensures { (result ≡ true) ↔ IsForFile file (order_message_entry handed.now) }
 {
@@ -71,7 +71,7 @@ pub fn is_for_file(handed: &OrderMessage<'_>, file: FileNumbers) -> bool
 /// Returns what an order asks that is for the file that is served. `init`, `migrate` and `serve` are refused, because the office
 /// is being served.
 pub fn served_order_by<'w>(alloc: Global, words: &'w [&'w str]) -> ServedOrder<'w>
-    ensures { (whole : Option Bool) (h : OrderMessageEntry) → map (λ p. p.name) h.words ≡ map (λ word. word.now) words.entry.now → AsksSo whole h result }
+    ensures { (whole : Option Bool) → AsksSo whole (map (λ word. word.now) words.entry.now) result }
 {
     match order(alloc, words) {
         Ok(Order::Perform(Task::InOffice(job))) => ServedOrder::Do(job),

@@ -18,13 +18,15 @@ ghost use Rattle.wire.specs.Requests.{Asks, http_request_entry, reading};
 ghost use Rattle.wire.specs.declared.target.Resource.{Resource};
 ghost use Rattle.codes.specs.RateLimits.{limit_entry};
 ghost use Rattle.server.specs.Reads.{IsRead, TellsNoFault, served_office, memory_entry};
-ghost use Rattle.server.specs.Exchanges.{ChangesNothing, EndsIn, HasAnswered, IsGoneResponse, IsWaitResponse, RespondsToClient, ServesClient, Exchange};
+ghost use Rattle.server.specs.Endings.{EndsIn};
+ghost use Rattle.server.specs.Exchanges.{ChangesNothing, HasAnswered, IsGoneResponse, IsWaitResponse, RespondsToClient, ServesAsked, ServesClient, Exchange};
 
+use crate::console_order::answer_console;
 use crate::order_arrival::receive_message;
 use crate::order_response::answer_order;
+use crate::served_file::ServedFile;
 use crate::server_memory::ServerMemory;
 use crate::server_settings::ServerSettings;
-use crate::side_jobs::SideJobs;
 use connections::{
     Client, CloseReason, Listener, PendingResponse, ReadProgress, Stream, VecSink, deliver,
 };
@@ -180,21 +182,21 @@ fn written(alloc: Global, response: &Response) -> PendingResponse
 }
 
 /// Returns the response to a client that is let in, of which these bytes were received; nothing of it was sent yet. The cache is
-/// emptied before a keying, and if an allocation for the request fails.
-fn answer_request<S: Alter>(
-    settings: HttpSettings<'_>,
+/// emptied before a keying or an order, and if an allocation for the request fails.
+fn answer_request<A: ServedFile, S: Alter>(
+    server_settings: ServerSettings<'_, A>,
     parsed: Parsed,
     got: &[u8],
     office: &mut Office<S>,
     kept: &mut ServerMemory,
 ) -> PendingResponse
-    requires { IsParsed (settings_entry settings) got.now parsed }
-    ensures served { (number moment : ℕ) → ServesClient (settings_entry settings.entry) (state S.Store) (served_office office.old (memory_entry kept.old))
+    requires { IsParsed (settings_entry server_settings.http) got.now parsed }
+    ensures served { (number moment : ℕ) → ServesAsked (settings_in A.whole server_settings.entry) (state S.Store) (served_office office.old (memory_entry kept.old))
         (record { listener = Listener.Clients; number = number; moment = moment; got = got.now; answer = result.bytes.items }) (served_office office.new (memory_entry kept.new)) }
     ensures limit { limit_entry kept.new.limit ≡ limit_entry kept.old.limit }
     ensures untold { result.sent ≡ 0 }
 {
-    let Ok(asked) = parsed.asked(kept.alloc, settings, got) else {
+    let Ok(asked) = parsed.asked(kept.alloc, server_settings.http, got) else {
         kept.reads.empty();
         return no_memory_response(kept.alloc);
     };
@@ -212,6 +214,15 @@ fn answer_request<S: Alter>(
         HttpRequest::Shown(clerk, show) => {
             let (bytes, _) = response_to(kept.alloc, HttpRequest::Shown(clerk, show), office);
             PendingResponse { bytes, sent: 0 }
+        }
+        HttpRequest::ConsolePage(show) => {
+            let (bytes, _) = response_to(kept.alloc, HttpRequest::ConsolePage(show), office);
+            PendingResponse { bytes, sent: 0 }
+        }
+        HttpRequest::Order(order) => {
+            kept.reads.empty();
+            let response = answer_console(kept.alloc, server_settings, &order, office);
+            written(kept.alloc, &response)
         }
     }
 }
@@ -256,16 +267,16 @@ fn no_memory_response(alloc: Global) -> PendingResponse
 }
 
 /// Returns whether the file of the office is gone or replaced, and the request is no read of an open office.
-fn is_without_file<A: SideJobs>(side_jobs: &A, parsed: Parsed, is_closed: bool) -> bool
-    ensures unknown { result ≡ true → A.whole side_jobs.now ≡ Some true → ⊥ }
+fn is_without_file<A: ServedFile>(served_file: &A, parsed: Parsed, is_closed: bool) -> bool
+    ensures unknown { result ≡ true → A.whole served_file.now ≡ Some true → ⊥ }
     ensures reads_none { result ≡ true → is_closed ≡ false → (its : HttpSettingsEntry) (got : List ℕ) → IsParsed its got parsed → (what : Resource) → Asks its got (reading what) → ⊥ }
 {
     if is_closed {
-        return !side_jobs.is_whole();
+        return !served_file.is_whole();
     }
     match parsed.reading() {
         Some(_) => false,
-        None => !side_jobs.is_whole(),
+        None => !served_file.is_whole(),
     }
 }
 
@@ -280,7 +291,7 @@ struct ReceivedRequest<'a> {
 /// Returns the response to a client; nothing of it was sent yet. If its code is wrong and the rate limit is reached, the response
 /// is to wait. If the file of the office is gone or replaced, the response says so, except to a read of an open office. In both
 /// cases nothing else is done. Otherwise the request is processed, and its code is counted if it is wrong.
-fn answer_client<A: SideJobs, S: Alter>(
+fn answer_client<A: ServedFile, S: Alter>(
     server_settings: ServerSettings<'_, A>,
     due: ReceivedRequest<'_>,
     office: &mut Office<S>,
@@ -300,10 +311,10 @@ fn answer_client<A: SideJobs, S: Alter>(
     if kept.must_wait(authentication, moment) {
         return wait_response(kept.alloc);
     }
-    if is_without_file(server_settings.side_jobs, parsed, office.is_closed()) {
+    if is_without_file(server_settings.served_file, parsed, office.is_closed()) {
         return gone_response(kept.alloc);
     }
-    let answer = answer_request(server_settings.http, parsed, got, office, kept);
+    let answer = answer_request(server_settings, parsed, got, office, kept);
     kept.note(authentication, moment);
     answer
 }
@@ -326,7 +337,7 @@ fn drop_rest<L: Stream>(client: &mut Client<L>) -> Serviced
 fn send_more<L: Stream>(client: &mut Client<L>) -> Serviced
     ensures is { (start : L) → IsOf (stream_of L.held L.taken L.failed) start client.old → IsOf (stream_of L.held L.taken L.failed) start client.new }
     ensures same { IsSameClient client.old client.new }
-    ensures his { answer_of client.new ≡ answer_of client.old }
+    ensures belongs { answer_of client.new ≡ answer_of client.old }
     ensures leaves { (why : CloseReason) → result ≡ Serviced.Leaves why → EndsFor (stream_of L.held L.taken L.failed) why client.new }
     ensures apart { result ≢ Serviced.Served }
 {
@@ -350,14 +361,14 @@ fn begin_answer<L: Stream>(
     requires { IsSent (stream_of L.held L.taken L.failed) client.stream answer.bytes.items answer.sent }
     ensures is { (start : L) → IsOf (stream_of L.held L.taken L.failed) start result.0 }
     ensures same { IsSameClient client result.0 }
-    ensures his { answer_of result.0 ≡ Some answer.bytes.items }
+    ensures belongs { answer_of result.0 ≡ Some answer.bytes.items }
     ensures leaves { (why : CloseReason) → result.1 ≡ Serviced.Leaves why → EndsFor (stream_of L.held L.taken L.failed) why result.0 }
     ensures apart { result.1 ≢ Serviced.Waits }
 {
     let mut client = client;
     client.got = Vec::new(alloc);
     client.answer = Some(answer);
-    client.unread = unread;
+    client.unread_body_bytes = unread;
     match send_more(&mut client) {
         Serviced::Waits => (client, Serviced::Served),
         Serviced::Served => (client, Serviced::Served),
@@ -366,7 +377,7 @@ fn begin_answer<L: Stream>(
 }
 
 /// Services an order without a response: receives its message and, once that is complete, processes it.
-fn service_order<L: Stream, A: SideJobs, S: Alter>(
+fn service_order<L: Stream, A: ServedFile, S: Alter>(
     server_settings: ServerSettings<'_, A>,
     now: u64,
     client: Client<L>,
@@ -408,7 +419,7 @@ fn service_order<L: Stream, A: SideJobs, S: Alter>(
                 since,
                 got,
                 answer: None,
-                unread: 0,
+                unread_body_bytes: 0,
             };
             begin_answer(kept.alloc, client, answer, 0)
         }
@@ -422,7 +433,7 @@ fn service_order<L: Stream, A: SideJobs, S: Alter>(
 ///
 /// The bytes that are received are the connection's own, from the first one on, and the response is the one to exactly these. No
 /// other connection is touched.
-pub fn service<L: Stream, A: SideJobs, S: Alter>(
+pub fn service<L: Stream, A: ServedFile, S: Alter>(
     server_settings: ServerSettings<'_, A>,
     now: u64,
     client: Client<L>,

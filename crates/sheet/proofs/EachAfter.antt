@@ -1,4 +1,4 @@
--- The texts of stages, each after those before it, one after the other.
+-- The texts of stages, each dependent on those before it, in order.
 use Rattle.std.proofs.Common.{◌≡◌, ℕ, ◌+◌, ◌<◌, ◌≤◌, List, [], ◌∷◌, ◌++◌, length, take, drop, get_or, Option, Result, Ok, Err, IsErr, sym, ◌∙◌, ap, ap₂, subst, append_assoc, append-nil, arith}
 use Rattle.std.proofs.Math.ListN.{drop_of_length-le}
 use Rattle.std.proofs.lemmas.List.{take_more, take-append-drop, take-append-le, drop-append-le, length-take}
@@ -7,7 +7,7 @@ use Rattle.sheet.specs.Cells.{each_after, from_place}
 use Rattle.sheet.specs.Writing.{Writes}
 use Rattle.sheet.proofs.Writing.{Writes-none, Writes-then, Writes-failed, Writes-front}
 
--- the texts of a list are those of its front, and those of the rest after them
+-- the texts of a list are those of its front, followed by those of the rest
 each_after-append : (text : List Stage → Stage → List ℕ) (earlier xs ys : List Stage) →
     each_after text earlier (xs ++ ys) ≡ each_after text earlier xs ++ each_after text (earlier ++ xs) ys
 each_after-append text earlier [] ys = ap (λ stages. each_after text stages ys) (sym (append-nil earlier))
@@ -24,7 +24,7 @@ from_place-append text place xs ys within =
     ∙ each_after-append text (take place xs) (drop place xs) ys
     ∙ ap (λ stages. from_place text place xs ++ each_after text stages ys) (take-append-drop place xs)
 
--- the text of one stage more
+-- the text of one more stage
 from_place-more : (text : List Stage → Stage → List ℕ) (place k : ℕ) (stages : List Stage) (d : Stage) → place ≤ k → k < length stages →
     from_place text place (take (k + 1) stages) ≡ from_place text place (take k stages) ++ text (take k stages) (get_or stages k d)
 from_place-more text place k stages d from within =
@@ -38,7 +38,7 @@ from_place-parted : (text : List Stage → Stage → List ℕ) (place k : ℕ) (
 from_place-parted text place k stages from within =
     sym (from_place-append text place (take k stages) (drop k stages) (omega (arith, length-take k stages))) ∙ ap (from_place text place) (take-append-drop k stages)
 
--- of a place itself on, nothing stands before it
+-- from a place to itself there is no text
 from_place-none : (text : List Stage → Stage → List ℕ) (place : ℕ) (stages : List Stage) → [] ≡ from_place text place (take place stages)
 from_place-none text place stages =
     ap (each_after text (take place (take place stages))) (sym (drop_of_length-le (take place stages) (omega (arith, length-take place stages))))
@@ -56,7 +56,7 @@ module _ {W : Type 0} {taken : W → Option (List ℕ)} {failed : W → ℕ} {X 
       let there = subst (λ s. Writes taken failed mid new (text (take k stages) s) r) is next in
       subst (λ told. Writes taken failed old new told r) (sym (from_place-more text place k stages stage from within)) (Writes-then r front there)
 
-  -- the same where the next one fails, which is passed on: the later ones don't come
+  -- the same if the next one fails, and the failure is passed on: the later ones aren't written
   pub Writes-next_cut : {old mid new : W} {x : X} {e : E} (k : ℕ) (stage : Stage) (r : Result X E) → place ≤ k → k < length stages → stage ≡ get_or stages k stage →
       Writes {E = E} taken failed old mid (from_place text place (take k stages)) (Ok x) → Writes {X = X} taken failed mid new (text (take k stages) stage) (Err e) → IsErr r →
       Writes taken failed old new (from_place text place stages) r

@@ -1,4 +1,4 @@
--- A text for each place, one after the other.
+-- A text for each place, in order.
 use Rattle.std.proofs.Common.{◌≡◌, ℕ, ◌+◌, ◌<◌, ◌≤◌, List, length, take, get_or, Option, Result, Ok, Err, IsErr, arith}
 use Rattle.std.specs.List.{flat_map, range_with_len}
 use Rattle.std.proofs.lemmas.List.{take_all}
@@ -23,7 +23,7 @@ module _ {W : Type 0} {taken : W → Option (List ℕ)} {failed : W → ℕ} {X 
       Writes taken failed old new (flat_map text (take (k + 1) (range_with_len 0 n))) r
   Writes-place k r within front next = Writes-item text (range_with_len 0 n) k k r (place_within n k within) (place_at n k within) front next
 
-  -- the same where the next one fails, which is passed on
+  -- the same if the next one fails, and the failure is passed on
   pub Writes-place_cut : {old mid new : W} {x : X} {e : E} (k : ℕ) (r : Result X E) → k < n →
       Writes {E = E} taken failed old mid (flat_map text (take k (range_with_len 0 n))) (Ok x) → Writes {X = X} taken failed mid new (text k) (Err e) → IsErr r →
       Writes taken failed old new (flat_map text (range_with_len 0 n)) r

@@ -1,4 +1,4 @@
--- A row of a table is UTF-8 where its cells are.
+-- A row of a table is UTF-8 if its cells are.
 use Rattle.std.proofs.Common.{◌≡◌, ℕ, ◌<◌, ◌≤◌, ◌==◌, Bool, true, false, cond, if◌then◌else◌, List, [], ◌∷◌, ◌++◌, map, String, string_bytes, IsUtf8, refl, sym, ap, subst, arith, ◌∙◌}
 use Rattle.std.proofs.Common.{append_assoc, append-nil}
 use Rattle.std.specs.List.{flat_map}
@@ -57,7 +57,7 @@ IsUtf8-row (cell ∷ rest) =
     (IsUtf8-append (field_text writer (string_bytes cell)) (fields_text writer (map string_bytes rest)) (field_is (string_bytes cell) (IsUtf8-had (string_bytes cell) cell.ok)) (fields_are rest))
     (end_is (is_blank writer (string_bytes cell ∷ map string_bytes rest)))
 
--- the lines of rows, one after the other
+-- the lines of rows, in order
 pub rows_whole : (first last_but_one last : List (List ℕ)) (middle : List (List (List ℕ))) (none one two three four : List ℕ) →
     none ≡ [] → one ≡ none ++ row_text writer first → two ≡ one ++ flat_map (row_text writer) middle →
     three ≡ two ++ row_text writer last_but_one → four ≡ three ++ row_text writer last →

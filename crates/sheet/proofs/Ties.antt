@@ -1,4 +1,4 @@
--- Names say nothing of who was tied: numbers alone do.
+-- The tied candidates are independent of names: only numbers matter.
 use Rattle.std.proofs.Common.{◌≡◌, ℕ, Bool, ◌&&◌, ◌||◌, List, [], ◌∷◌, String, nat_lt, refl, ap}
 use Rattle.std.specs.declared.alloc.Global.{Global}
 use Rattle.count.specs.declared.stages.Stage.{Stage}

@@ -1,4 +1,4 @@
--- The line of the numbers at which no candidate stands, number by number.
+-- The line of withdrawn candidates, number by number.
 use Rattle.std.proofs.Common.{◌≡◌, ℕ, ◌+◌, ◌<◌, ◌≤◌, Bool, true, false, cond, arith, is_none, List, [], ◌∷◌, ◌++◌, length, take, drop, get_or, codes, Option, Result, Ok, Err, IsErr, refl}
 use Rattle.std.proofs.Common.{sym, ap, ◌∙◌, subst, append_assoc, append-nil}
 use Rattle.std.specs.List.{flat_map, filter}
@@ -12,7 +12,7 @@ use Rattle.sheet.specs.Lines.{line}
 use Rattle.sheet.specs.Writing.{Writes}
 use Rattle.sheet.proofs.Writing.{Writes-then, Writes-failed, Writes-front}
 
--- whether no number stands before
+-- whether there is no number yet
 abbrev pub is_none_yet : List ℕ → Bool
 is_none_yet [] = true
 is_none_yet (c ∷ cs) = false
@@ -22,14 +22,14 @@ abbrev pub joined : List ℕ → List ℕ
 joined [] = []
 joined (c ∷ cs) = withdrawn_number true c ++ flat_map (withdrawn_number false) cs
 
--- one number more
+-- one more number
 pub joined-more : (xs : List ℕ) (c : ℕ) → joined (xs ++ c ∷ []) ≡ joined xs ++ withdrawn_number (is_none_yet xs) c
 joined-more [] c = append-nil (withdrawn_number true c)
 joined-more (x ∷ xs) c =
     ap (λ l. withdrawn_number true x ++ l) (flat_map-append (withdrawn_number false) xs (c ∷ []) ∙ ap (λ l. flat_map (withdrawn_number false) xs ++ l) (append-nil (withdrawn_number false c)))
     ∙ sym (append_assoc (withdrawn_number true x) (flat_map (withdrawn_number false) xs) (withdrawn_number false c))
 
--- what stands behind some numbers in the line of these and others
+-- what follows some numbers in the line of these and others
 abbrev behind : List ℕ → List ℕ → List ℕ
 behind [] ys = withdrawn_line ys
 behind (x ∷ xs) ys = flat_map (withdrawn_number false) ys ++ codes "\n"
@@ -46,7 +46,7 @@ line-parted (x ∷ xs) ys =
     ∙ ap (λ l. l ++ codes "\n") (sym (append_assoc (withdrawn_number true x) (flat_map (withdrawn_number false) xs) (flat_map (withdrawn_number false) ys)))
     ∙ append_assoc (joined (x ∷ xs)) (flat_map (withdrawn_number false) ys) (codes "\n")
 
--- the whole of it, by whether there is a number
+-- the whole line, by whether there is a number
 pub line_of_none : (xs : List ℕ) → is_none_yet xs ≡ true → withdrawn_line xs ≡ []
 line_of_none [] none = refl
 line_of_none (x ∷ xs) none = absurd (cc)
@@ -63,17 +63,17 @@ pub none_more : (xs : List ℕ) (c : ℕ) → is_none_yet (xs ++ c ∷ []) ≡ f
 none_more [] c = refl
 none_more (x ∷ xs) c = refl
 
--- ---- the numbers of a ward, up to one
+-- ---- the numbers of a ward, up to a bound
 
 module _ (ward : SheetEntry) where
   abbrev pub is_missing : ℕ → Bool
   is_missing c = is_none (name_at ward.candidates c)
 
-  -- the first n numbers at which no candidate stands
+  -- the withdrawn candidates among the first n numbers
   abbrev pub so_far : ℕ → List ℕ
   so_far n = filter is_missing (take n (numbers_of ward))
 
-  -- a number stands at its place
+  -- the number at a place
   pub number_at : (n d : ℕ) → n < highest_number ward.candidates → n + 1 ≡ get_or (numbers_of ward) n d
   number_at n d within = omega (arith, get_or-range_with_len 1 (highest_number ward.candidates) n d within)
 
@@ -99,14 +99,14 @@ module _ (ward : SheetEntry) where
   so_far-parted n = ap (filter is_missing) (sym (take-append-drop n (numbers_of ward))) ∙ filter-append is_missing (take n (numbers_of ward)) (drop n (numbers_of ward))
 
   module _ {W : Type 0} {taken : W → Option (List ℕ)} {failed : W → ℕ} {X E : Type 0} where
-    -- a number more was written
+    -- one more number was written
     pub Writes-withdrawn : {Y F : Type 0} {old mid new : W} {x : X} (n : ℕ) (r : Result Y F) → n < highest_number ward.candidates → is_missing (n + 1) ≡ true →
         Writes {E = E} taken failed old mid (joined (so_far n)) (Ok x) → Writes taken failed mid new (withdrawn_number (is_none_yet (so_far n)) (n + 1)) r →
         Writes taken failed old new (joined (so_far (n + 1))) r
     Writes-withdrawn {old = old} {mid = mid} {new = new} n r within missing front next =
         subst (λ text. Writes taken failed old new text r) (sym (ap joined (so_far-more n true within missing) ∙ joined-more (so_far n) (n + 1))) (Writes-then r front next)
 
-    -- the same where it fails, which is passed on
+    -- the same if it fails, and the failure is passed on
     pub Writes-withdrawn_cut : {old mid new : W} {x : X} {e : E} (n : ℕ) (r : Result X E) → n < highest_number ward.candidates → is_missing (n + 1) ≡ true →
         Writes {E = E} taken failed old mid (joined (so_far n)) (Ok x) → Writes {X = X} taken failed mid new (withdrawn_number (is_none_yet (so_far n)) (n + 1)) (Err e) → IsErr r →
         Writes taken failed old new (withdrawn_line (withdrawn ward)) r

@@ -1,4 +1,4 @@
--- Texts that are written one after the other.
+-- Texts that are written in order.
 use Rattle.std.specs.Prelude.{OnOk, OnErr, IsErr}
 use Rattle.std.proofs.Common.{◌≡◌, ℕ, ◌+◌, ◌<◌, List, [], ◌++◌, length, take, drop, get_or, Option, Result, Ok, Err, refl, sym, ◌∙◌, ap, subst}
 use Rattle.std.specs.List.{flat_map}
@@ -12,7 +12,7 @@ use Rattle.sheet.specs.Writing.{Puts, Writes}
 use Rattle.sheet.proofs.Joined.{flat_map-take_more, flat_map-parted}
 
 module _ {W : Type 0} {taken : W → Option (List ℕ)} {failed : W → ℕ} {X E : Type 0} where
-  -- bytes that were put, where they are a text
+  -- bytes that were put, if they are a text
   pub Writes-put : (old new : W) (bytes text : List ℕ) (r : Result X E) → bytes ≡ text → IsUtf8 text →
       OnOk r (Appends (taken old) (taken new) bytes) → OnOk r (failed new ≡ failed old) →
       OnErr r (AppendsBeginning (taken old) (taken new) bytes) → OnErr r (failed new ≡ failed old + 1) → Writes taken failed old new text r
@@ -23,7 +23,7 @@ module _ {W : Type 0} {taken : W → Option (List ℕ)} {failed : W → ℕ} {X 
   pub Writes-none : (s : W) (x : X) → Writes {E = E} taken failed s s [] (Ok x)
   Writes-none s x = record { written = Appends-nil (taken s); utf8 = IsUtf8-nil; ok = refl; cut_off = tt; err = tt }
 
-  -- a text and what comes behind it
+  -- a text and what follows it
   pub Writes-then : {Y F : Type 0} {old mid new : W} {xs ys : List ℕ} {x : X} (r : Result Y F) →
       Writes {E = E} taken failed old mid xs (Ok x) → Writes taken failed mid new ys r → Writes taken failed old new (xs ++ ys) r
   Writes-then (Ok y) one two = record {
@@ -46,7 +46,7 @@ module _ {W : Type 0} {taken : W → Option (List ℕ)} {failed : W → ℕ} {X 
   Writes-failed (Ok y) is cut = absurd (cc is)
   Writes-failed (Err f) is cut = record { written = tt; utf8 = tt; ok = tt; cut_off = cut.cut_off; err = cut.err }
 
-  -- after a failure nothing comes behind
+  -- after a failure nothing follows
   pub Writes-front : {old new : W} {xs : List ℕ} (ys : List ℕ) (r : Result X E) → IsErr r → Writes taken failed old new xs r → Writes taken failed old new (xs ++ ys) r
   Writes-front ys (Ok x) is cut = absurd (cc is)
   Writes-front ys (Err e) is cut = record { written = tt; utf8 = tt; ok = tt; cut_off = AppendsBeginning-front _ _ _ ys cut.cut_off; err = cut.err }
@@ -59,7 +59,7 @@ module _ {W : Type 0} {taken : W → Option (List ℕ)} {failed : W → ℕ} {X 
       let there = subst (λ a. Writes taken failed mid new (f a) r) is next in
       subst (λ text. Writes taken failed old new text r) (sym (flat_map-take_more f items i item within)) (Writes-then r front there)
 
-  -- the same where the next one fails, which is passed on: those behind it don't come
+  -- the same if the next one fails, and the failure is passed on: the later ones aren't written
   pub Writes-item_cut : {A : Type 0} {old mid new : W} {x : X} {e : E} (f : A → List ℕ) (items : List A) (i : ℕ) (item : A) (r : Result X E) → i < length items →
       item ≡ get_or items i item → Writes {E = E} taken failed old mid (flat_map f (take i items)) (Ok x) → Writes {X = X} taken failed mid new (f item) (Err e) →
       IsErr r → Writes taken failed old new (flat_map f items) r
@@ -67,19 +67,19 @@ module _ {W : Type 0} {taken : W → Option (List ℕ)} {failed : W → ℕ} {X 
       let cut = Writes-failed r failure (Writes-item {F = E} f items i item (Err e) within is front next) in
       subst (λ text. Writes taken failed old new text r) (flat_map-parted f items (i + 1)) (Writes-front (flat_map f (drop (i + 1) items)) r failure cut)
 
-  -- ---- bytes that are a part of a text alone
+  -- ---- bytes that are only a part of a text
 
   -- no byte was put yet
   pub Puts-none : (s : W) (x : X) → Puts {E = E} taken failed s s [] (Ok x)
   Puts-none s x = record { all = Appends-nil (taken s); ok = refl; cut_off = tt; err = tt }
 
-  -- bytes and those behind them
+  -- bytes and those that follow
   pub Puts-then : {Y F : Type 0} {old mid new : W} {xs ys : List ℕ} {x : X} (r : Result Y F) →
       Puts {E = E} taken failed old mid xs (Ok x) → Puts taken failed mid new ys r → Puts taken failed old new (xs ++ ys) r
   Puts-then (Ok y) one two = record { all = Appends-trans _ _ _ _ _ one.all two.all; ok = two.ok ∙ one.ok; cut_off = tt; err = tt }
   Puts-then (Err f) one two = record { all = tt; ok = tt; cut_off = AppendsBeginning-behind _ _ _ _ _ one.all two.cut_off; err = two.err ∙ ap (λ n. n + 1) one.ok }
 
-  -- a failure that is passed on, after which nothing comes behind
+  -- a failure that is passed on, after which nothing follows
   pub Puts-failed : {Y F : Type 0} {old new : W} {xs : List ℕ} {e : E} (ys : List ℕ) (r : Result Y F) → IsErr r → Puts {X = X} taken failed old new xs (Err e) → Puts taken failed old new (xs ++ ys) r
   Puts-failed ys (Ok y) is cut = absurd (cc is)
   Puts-failed ys (Err f) is cut = record { all = tt; ok = tt; cut_off = AppendsBeginning-front _ _ _ ys cut.cut_off; err = cut.err }
@@ -92,7 +92,7 @@ module _ {W : Type 0} {taken : W → Option (List ℕ)} {failed : W → ℕ} {X 
       let there = subst (λ a. Puts taken failed mid new (f a) r) is next in
       subst (λ bytes. Puts taken failed old new bytes r) (sym (flat_map-take_more f items i item within)) (Puts-then r front there)
 
-  -- the same where the next one fails, which is passed on
+  -- the same if the next one fails, and the failure is passed on
   pub Puts-item_cut : {A : Type 0} {old mid new : W} {x : X} {e : E} (f : A → List ℕ) (items : List A) (i : ℕ) (item : A) (r : Result X E) → i < length items →
       item ≡ get_or items i item → Puts {E = E} taken failed old mid (flat_map f (take i items)) (Ok x) → Puts {X = X} taken failed mid new (f item) (Err e) →
       IsErr r → Puts taken failed old new (flat_map f items) r

@@ -1,4 +1,4 @@
--- What a table on a page shows of a stage.
+-- The cells of a stage in a table on a page.
 use Rattle.std.specs.Prelude.{ℕ, ◌+◌, ◌-◌, ◌==◌, nat_lt, if◌then◌else◌, List, [], ◌∷◌, ◌++◌, length, take, drop, slice_get, codes, decimal, Option, Some, None}
 use Rattle.votes.specs.Text.{votes_text}
 use Rattle.count.specs.Law.Contest.{votes_at}
@@ -14,32 +14,32 @@ use Rattle.sheet.specs.declared.stage.Fate.TheVariants.{NewlyElected, Elected, N
 use Rattle.sheet.specs.declared.cells.Cell.{Cell}
 use Rattle.sheet.specs.declared.cells.Cell.TheVariants.{Head, Candidate, NonTransferable, Lost}
 
--- the name of the candidate with whom an action is done; none at the first stage
+-- the name of the candidate concerned by an action; empty for the first stage
 abbrev pub name_in : List (ℕ × List ℕ) → Action → List ℕ
 name_in candidates First = []
 name_in candidates (Surplus c) = name_or_withdrawn (name_at candidates c)
 name_in candidates (Exclude c) = name_or_withdrawn (name_at candidates c)
 name_in candidates (ExcludeLast c) = name_or_withdrawn (name_at candidates c)
 
--- the head of a column: the stage, and what is done at it, with whom
+-- the head of a column: the stage and its action, with the candidate concerned
 abbrev pub column_head : List (ℕ × List ℕ) → ℕ → Action → List ℕ
 column_head candidates k action =
     line (codes "<th scope=\"col\">Stage " ∷ decimal k ∷ codes "<br>" ∷ action_named action (name_in candidates action) ∷ codes "</th>" ∷ [])
 
--- that of a stage after earlier ones
+-- the head of a stage after earlier ones
 abbrev pub head_cell : List (ℕ × List ℕ) → List Stage → Stage → List ℕ
 head_cell candidates earlier stage = column_head candidates (length earlier + 1) stage.action
 
--- a candidate's votes at a stage or, where there is none, others
+-- a candidate's votes at a stage, or other votes if there is none
 abbrev pub votes_or : ℕ → Option Stage → ℕ → ℕ
 votes_or others None c = others
 votes_or others (Some stage) c = votes_at stage c
 
--- a candidate's votes before a stage; at the first one, where nothing has moved yet, those that he has at it
+-- a candidate's votes before a stage; at the first one, before which nothing has moved, the votes at it
 abbrev pub votes_before : List Stage → Stage → ℕ → ℕ
 votes_before earlier stage c = votes_or (votes_at stage c) (slice_get earlier (length earlier - 1)) c
 
--- where a candidate stands at a stage: in bold where that is new at it, small where it was so before
+-- the standing of a candidate at a stage: in bold if it is new at this stage, in small print if it is unchanged
 abbrev pub standing : Fate → List ℕ
 standing NewlyElected = codes " <b>elected</b>"
 standing Elected = codes " <small>elected</small>"
@@ -47,32 +47,32 @@ standing NewlyExcluded = codes " <b>excluded</b>"
 standing Excluded = codes " <small>excluded</small>"
 standing Continuing = []
 
--- the sign of what was gained or lost
+-- the sign of a change
 abbrev pub sign : ℕ → ℕ → List ℕ
 sign before now = if nat_lt before now then codes " <i>+" else codes " <i>&minus;"
 
--- how far two values are apart
+-- the absolute difference of two values
 abbrev pub apart : ℕ → ℕ → ℕ
 apart before now = if nat_lt before now then now - before else before - now
 
--- a candidate's votes, what he gained or lost where they changed, and where he stands
+-- a candidate's votes, the change if there is one, and the standing
 abbrev pub votes_cell : ℕ → ℕ → List ℕ → List ℕ
 votes_cell before now stands =
     if now == before then line (codes "<td>" ∷ votes_text now ∷ stands ∷ codes "</td>" ∷ [])
     else line (codes "<td>" ∷ votes_text now ∷ sign before now ∷ votes_text (apart before now) ∷ codes "</i>" ∷ stands ∷ codes "</td>" ∷ [])
 
--- a running sum
+-- a running total
 abbrev pub sum_cell : ℕ → List ℕ
 sum_cell units = line (codes "<td>" ∷ votes_text units ∷ codes "</td>" ∷ [])
 
--- what a cell shows of a stage after earlier ones
+-- the content of a cell about a stage after earlier ones
 abbrev pub cell_text : Cell → List Stage → Stage → List ℕ
 cell_text (Head ward) earlier stage = head_cell (shown ward.now).candidates earlier stage
 cell_text (Candidate c) earlier stage = votes_cell (votes_before earlier stage c) (votes_at stage c) (standing (fate_at earlier stage c))
 cell_text NonTransferable earlier stage = sum_cell stage.non_transferable
 cell_text Lost earlier stage = sum_cell stage.lost
 
--- what there is of some stages, each after those before it
+-- a function of each of some stages and those before it, in order
 abbrev pub each_after : {X : Type 0} → (List Stage → Stage → List X) → List Stage → List Stage → List X
 each_after text earlier [] = []
 each_after text earlier (stage ∷ later) = text earlier stage ++ each_after text (earlier ++ stage ∷ []) later
@@ -81,6 +81,6 @@ each_after text earlier (stage ∷ later) = text earlier stage ++ each_after tex
 abbrev pub from_place : (List Stage → Stage → List ℕ) → ℕ → List Stage → List ℕ
 from_place text place stages = each_after text (take place stages) (drop place stages)
 
--- a row: what stands at its beginning, a cell a stage from a place on, and its end
+-- a row: its beginning, one cell per stage from a place on, and its end
 abbrev pub row : List (List ℕ) → (List Stage → Stage → List ℕ) → List ℕ → ℕ → List Stage → List ℕ
 row opening cell end place stages = line opening ++ from_place cell place stages ++ line (end ∷ [])

@@ -1,10 +1,10 @@
--- What its texts show of a ward.
+-- The data of a ward that its texts show.
 use Rattle.std.specs.Prelude.{ℕ, List, map, string_bytes, String, Option}
 use Rattle.std.specs.declared.alloc.Global.{Global}
 use Rattle.sheet.specs.declared.ward.Ward.{Ward}
 use Rattle.sheet.specs.declared.ward.Poll.{Poll}
 
--- a ward with plain texts: its number, its name, its seats, the number and the name of each candidate, ascending, and its poll if it is contested
+-- a ward as plain texts: its number, name and seats, the number and the name of each candidate, ascending, and its poll if it is contested
 pub record SheetEntry : Type 0 where
   pub number : ℕ
   pub name : List ℕ
@@ -12,11 +12,11 @@ pub record SheetEntry : Type 0 where
   pub candidates : List (ℕ × List ℕ)
   pub poll : Option Poll
 
--- candidates by their numbers, with plain names
+-- candidates by number, with names as plain texts
 abbrev pub candidates_shown : List (ℕ × String Global) → List (ℕ × List ℕ)
 candidates_shown candidates = map (λ candidate. (candidate.0, string_bytes candidate.1)) candidates
 
--- what a ward shows
+-- the data that a ward shows
 abbrev pub shown : Ward → SheetEntry
 shown ward = record {
   number = ward.number;

@@ -1,4 +1,4 @@
--- The page of all wards, to hang at the door: how each stands, and who is elected where that is declared.
+-- The public page of all wards: the status of each, and the elected candidates once it is declared.
 use Rattle.std.specs.Prelude.{ℕ, List, [], ◌∷◌, ◌++◌, map, string_bytes, String, codes, decimal}
 use Rattle.std.specs.List.{flat_map}
 use Rattle.std.specs.declared.alloc.Global.{Global}
@@ -9,7 +9,7 @@ use Rattle.sheet.specs.declared.index.WardStanding.{WardStanding}
 use Rattle.sheet.specs.declared.index.WardStanding.TheVariants.{Nominations, Keying, Sealed, Declared}
 use Rattle.sheet.specs.declared.index.ListedWard.{ListedWard}
 
--- a ward with plain texts: its number, its name, its seats, how it stands, and the number and the name of each who is elected, once that is declared
+-- a ward as plain texts: its number, name, seats and status, and the number and the name of each elected candidate, once it is declared
 pub record ListedEntry : Type 0 where
   pub number : ℕ
   pub name : List ℕ
@@ -17,26 +17,26 @@ pub record ListedEntry : Type 0 where
   pub standing : WardStanding
   pub elected : List (ℕ × List ℕ)
 
--- an elected candidate, with his plain name
+-- an elected candidate, with the name as plain text
 abbrev pub elected_shown : (ℕ × String Global) → ℕ × List ℕ
 elected_shown candidate = (candidate.0, string_bytes candidate.1)
 
--- what is listed of a ward
+-- the data listed for a ward
 abbrev pub listed : ListedWard → ListedEntry
 listed ward = record { number = ward.number; name = string_bytes ward.name; seats = ward.seats; standing = ward.standing; elected = map elected_shown ward.elected.items }
 
--- how a ward stands
+-- the status of a ward
 abbrev pub standing_words : WardStanding → List ℕ
 standing_words Nominations = codes "nominations are open"
 standing_words Keying = codes "its papers are being keyed"
 standing_words Sealed = codes "sealed, not declared yet"
 standing_words Declared = codes "<b>declared</b>"
 
--- a candidate who is elected
+-- an elected candidate
 abbrev pub elected_name : (ℕ × List ℕ) → List ℕ
 elected_name candidate = line (codes "<li>" ∷ named candidate.0 candidate.1 ∷ codes "</li>" ∷ [])
 
--- the row of a ward, as far as those elected
+-- the row of a ward, up to the elected candidates
 abbrev pub row_opening : ListedEntry → List ℕ
 row_opening ward = line (
     codes "<tr><th scope=\"row\">" ∷ named ward.number ward.name ∷ codes "</th><td>" ∷ decimal ward.seats ∷ codes "</td><td>" ∷ standing_words ward.standing ∷

@@ -1,4 +1,4 @@
--- What stage sheets, declarations, ballots, pages, tables and the index of wards are.
+-- Stage sheets, declarations, ballots, pages, tables and the index of wards.
 pub mod Lines
 pub mod Pieces
 pub mod Writing

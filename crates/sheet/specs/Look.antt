@@ -1,4 +1,4 @@
--- How a page looks, on screen and in print: texts of its own, with nothing from elsewhere.
+-- The look of a page, on screen and in print, without external resources.
 use Rattle.std.specs.Prelude.{ℕ, List, ◌++◌, codes}
 
 -- the style of a page
@@ -74,7 +74,7 @@ style =
     codes "* { -webkit-print-color-adjust: exact; print-color-adjust: exact; }\n" ++ (
     codes "}\n"))))))))))))))))))))))))))))))))))))))))))))))))))))))))))))))))))))
 
--- once for all bars of a page: the pattern of what was gained after the first stage
+-- the pattern, shared by all bars of a page, for the votes gained after the first stage
 unfoldable pub patterns : List ℕ
 patterns =
     codes "<svg class=\"patterns\" width=\"0\" height=\"0\" aria-hidden=\"true\"><defs>" ++ (
@@ -82,7 +82,7 @@ patterns =
     codes "<rect width=\"4\" height=\"4\" fill=\"#fff\"/>" ++ (
     codes "<rect width=\"1.6\" height=\"4\" fill=\"#000\"/></pattern></defs></svg>")))
 
--- what the bars of a chart mean, up to the quota
+-- the legend of a chart's bars, up to the quota
 unfoldable pub legend : List ℕ
 legend =
     codes "<p class=\"key\">" ++ (

@@ -1,4 +1,4 @@
--- The page that shows the result of a ward, to hang up, to print and to sign: one file of HTML with nothing from elsewhere.
+-- The page with the result of a ward, for display, print and signature: one HTML file without external resources.
 use Rattle.std.specs.Prelude.{ℕ, Bool, true, false, ◌+◌, ◌-◌, nat_eq, ◌==◌, if◌then◌else◌, List, [], ◌∷◌, ◌++◌, length, slice_index, codes, decimal, Option, Some, None}
 use Rattle.std.specs.List.{list_any, flat_map}
 use Rattle.votes.specs.Units.{quota_of}
@@ -16,42 +16,42 @@ use Rattle.sheet.specs.declared.ward.Poll.{Poll}
 
 -- ---- the head
 
--- a title, as the names of the election and of the council; nothing where it is empty
+-- a title, such as the names of the election and of the council; nothing if it is empty
 abbrev pub title_line : List ℕ → List ℕ
 title_line title = if length title == 0 then [] else line (codes "<p class=\"title\" dir=\"auto\">" ∷ plain title ∷ codes "</p>" ∷ [])
 
--- whether the result is declared
+-- the note that says whether the result is declared
 abbrev pub note : Bool → List ℕ
 note true = codes "<p class=\"declared\"><strong>Declared</strong></p>"
 note false = codes "<p class=\"open\"><strong>This is not a declared result.</strong> The ward is not declared yet, and what stands here may change.</p>"
 
--- the document's head, and the line that stands on each printed sheet
+-- the document's head, and the line for the top of each printed sheet
 abbrev pub opening : SheetEntry → List ℕ
 opening ward = line (
     codes "<!DOCTYPE html>\n<html lang=\"en\">\n<head>\n<meta charset=\"utf-8\">\n<meta name=\"viewport\" content=\"width=device-width, initial-scale=1\">\n<title>Ward "
     ∷ decimal ward.number ∷ codes " " ∷ plain ward.name ∷ codes "</title>\n<style>\n" ∷ style ∷ codes "</style>\n</head>\n<body>\n<p class=\"running\" aria-hidden=\"true\">Ward "
     ∷ named ward.number ward.name ∷ codes "</p>" ∷ [])
 
--- the number and the name of the ward, and how its result stands
+-- the number and the name of the ward, and the status of its result
 abbrev pub ward_heading : SheetEntry → Bool → List ℕ
 ward_heading ward is_declared = line (codes "<h1>Ward " ∷ named ward.number ward.name ∷ codes "</h1>\n" ∷ note is_declared ∷ [])
 
--- all that stands above the result
+-- everything before the result
 abbrev pub page_head : SheetEntry → List ℕ → Bool → List ℕ
 page_head ward title is_declared = opening ward ++ title_line title ++ ward_heading ward is_declared
 
--- ---- who is elected
+-- ---- the elected candidates
 
--- a candidate who is elected, with how many votes, and at which stage
+-- an elected candidate, with the votes and the stage
 abbrev pub elected_item : ℕ → ℕ → ℕ → List ℕ → List ℕ
 elected_item k votes c name =
     line (codes "<li><b>" ∷ named c name ∷ codes "</b> <span>" ∷ votes_text votes ∷ codes " votes, elected at stage " ∷ decimal k ∷ codes "</span></li>" ∷ [])
 
--- the same, for a candidate who is among those elected at the stage
+-- the same, if a candidate is among those elected at the stage
 abbrev pub item_at : ℕ → Stage → ℕ → List ℕ → List ℕ
 item_at k stage c name = if list_any (nat_eq c) stage.elected then elected_item k (votes_at stage c) c name else []
 
--- those elected at a stage, by their numbers
+-- the candidates elected at a stage, in the order of their numbers
 abbrev pub elected_at : SheetEntry → List Stage → Stage → List ℕ
 elected_at ward earlier stage = flat_map (λ candidate. item_at (length earlier + 1) stage candidate.0 candidate.1) ward.candidates
 
@@ -59,49 +59,49 @@ elected_at ward earlier stage = flat_map (λ candidate. item_at (length earlier 
 abbrev pub unopposed_item : ℕ → List ℕ → List ℕ
 unopposed_item c name = line (codes "<li><b>" ∷ named c name ∷ codes "</b></li>" ∷ [])
 
--- who is elected, in the order of their election: stage by stage, at one stage by their numbers; of an uncontested ward all candidates
+-- the elected candidates in the order of their election, at one stage in the order of their numbers; in an uncontested ward all candidates
 abbrev pub elected_items : SheetEntry → Option Poll → List Stage → List ℕ
 elected_items ward None stages = flat_map (λ candidate. unopposed_item candidate.0 candidate.1) ward.candidates
 elected_items ward (Some poll) stages = from_place (elected_at ward) 0 stages
 
--- the seats that are left after those elected at some stages
+-- how many seats remain after those filled at some stages
 abbrev pub seats_left : ℕ → List Stage → ℕ
 seats_left seats [] = seats
 seats_left seats (stage ∷ later) = seats_left (seats - length stage.elected) later
 
--- the seats that are left in a ward; in an uncontested one those that none of its candidates takes
+-- how many seats of a ward remain; in an uncontested one, those that its candidates don't fill
 abbrev pub left_in : SheetEntry → Option Poll → List Stage → ℕ
 left_in ward None stages = ward.seats - length ward.candidates
 left_in ward (Some poll) stages = seats_left ward.seats stages
 
--- whether seats that are left stay empty: that is known once the ward is declared, and of an uncontested one at once
+-- whether the remaining seats will stay empty: known once the ward is declared, and in an uncontested one at once
 abbrev pub stay_empty : Option Poll → Bool → Bool
 stay_empty None is_declared = true
 stay_empty (Some poll) is_declared = is_declared
 
--- what is said of seats that are left
+-- the text about the remaining seats
 abbrev pub left_words : Bool → List ℕ
 left_words true = codes "</ul>\n<p>Seats that stay empty: "
 left_words false = codes "</ul>\n<p>Seats not yet filled: "
 
--- the end of the list of those elected, with the seats that are left, if any
+-- the end of the list of elected candidates, with the number of remaining seats, if there are any
 abbrev pub elected_end : Bool → ℕ → List ℕ
 elected_end is_final left = if left == 0 then line (codes "</ul>" ∷ []) else line (left_words is_final ∷ decimal left ∷ codes "</p>" ∷ [])
 
--- who is elected, and how many seats are left
+-- the elected candidates, and how many seats remain
 abbrev pub elected_text : SheetEntry → Bool → List Stage → List ℕ
 elected_text ward is_declared stages =
     line (codes "<div class=\"top\">\n<div>\n<h2>Elected</h2>\n<ul class=\"names\">" ∷ [])
     ++ elected_items ward ward.poll stages
     ++ elected_end (stay_empty ward.poll is_declared) (left_in ward ward.poll stages)
 
--- ---- what it rests on
+-- ---- what the result is based on
 
--- the rejected papers of all codes
+-- the total number of rejected papers
 abbrev pub rejected_in_all : List ℕ → ℕ
 rejected_in_all rejected = slice_index rejected 0 + slice_index rejected 1 + slice_index rejected 2 + slice_index rejected 3 + slice_index rejected 4
 
--- the seats, the papers and the quota
+-- the numbers of seats and papers, and the quota
 abbrev pub papers_table : ℕ → Poll → List ℕ
 papers_table seats poll = line (
     codes "</div>\n<div>\n<h2>Papers</h2>\n<table class=\"papers\">\n<tr><th scope=\"row\">Seats</th><td>" ∷ decimal seats ∷
@@ -116,37 +116,37 @@ papers_table seats poll = line (
     codes "</td></tr>\n<tr><th scope=\"row\">Papers in all</th><td>" ∷ decimal (poll.valid + rejected_in_all poll.rejected) ∷
     codes "</td></tr>\n</table>\n</div>\n</div>" ∷ [])
 
--- that a ward is uncontested
+-- the note that a ward is uncontested
 abbrev pub uncontested_text : ℕ → List ℕ
 uncontested_text seats =
     line (codes "<p>Seats: " ∷ decimal seats ∷ codes ". The ward is uncontested: there is no poll, and all its candidates are elected.</p>\n</div>\n</div>" ∷ [])
 
--- the stages, as a chart of all of them, and as tables
+-- the stages, both as a chart and as tables
 abbrev pub stages_part : SheetEntry → Poll → List Stage → List ℕ
 stages_part ward poll stages =
     if length stages == 0 then line (codes "<h2>Stages</h2>\n<p>No stage is done yet.</p>" ∷ [])
     else chart ward (scale_of ward.seats poll stages) stages ++ line (codes "<h2>Stages</h2>" ∷ []) ++ tables ward stages
 
--- what the result of a ward rests on: its papers, the lots and the stages
+-- what the result of a ward is based on: its papers, the lots and the stages
 abbrev pub grounds : SheetEntry → Option Poll → List Stage → List (ℕ × ℕ) → List ℕ
 grounds ward None stages lots = uncontested_text ward.seats
 grounds ward (Some poll) stages lots = papers_table ward.seats poll ++ lots_text ward stages lots ++ stages_part ward poll stages
 
 -- ---- the foot
 
--- once more the ward and who is elected, and below them the lines for the date and three signatures
+-- the ward and its elected candidates again, with lines below them for the date and three signatures
 abbrev pub signatures : SheetEntry → List Stage → List ℕ
 signatures ward stages =
     line (codes "<div class=\"sign\">\n<h2>Ward " ∷ named ward.number ward.name ∷ codes ": elected</h2>\n<ul>" ∷ [])
     ++ elected_items ward ward.poll stages
     ++ codes "</ul>\n<h2>Signed</h2>\n<p>Date</p>\n<p>Returning officer</p>\n<p>First witness</p>\n<p>Second witness</p>\n</div>\n</body>\n</html>\n"
 
--- the foot of the page: of a declared ward with a place to sign
+-- the foot of the page, with a place to sign if the ward is declared
 abbrev pub foot : SheetEntry → Bool → List Stage → List ℕ
 foot ward true stages = signatures ward stages
 foot ward false stages = codes "</body>\n</html>\n"
 
--- the page of a ward: its title, whether it is declared, the stages of its count, and the lots that were drawn, a stage and a candidate each
+-- the page of a ward: its title, whether it is declared, the stages of its count, and the lots drawn, each as a stage and a candidate
 abbrev pub page : SheetEntry → List ℕ → Bool → List Stage → List (ℕ × ℕ) → List ℕ
 page ward title is_declared stages lots =
     page_head ward title is_declared ++ elected_text ward is_declared stages ++ grounds ward ward.poll stages lots ++ foot ward is_declared stages

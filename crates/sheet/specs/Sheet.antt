@@ -45,7 +45,7 @@ stage_text ward earlier stage =
 abbrev pub stages_text : SheetEntry → List Stage → List ℕ
 stages_text ward stages = from_place (stage_text ward) 0 stages
 
--- what stands below the ward's line
+-- everything after the ward's line
 abbrev pub below_ward : SheetEntry → Option Poll → List Stage → List ℕ
 below_ward ward None stages = uncontested_line ward.seats
 below_ward ward (Some poll) stages = seats_line ward.seats poll.valid ++ rejected_line poll.rejected ++ stages_text ward stages
@@ -58,7 +58,7 @@ sheet ward stages = ward_line ward ++ below_ward ward ward.poll stages
 abbrev pub elected_heading : List ℕ
 elected_heading = line (codes "Elected" ∷ [])
 
--- ` 1 Ann`, for a candidate who is among the elected
+-- ` 1 Ann`, for a candidate, if elected
 abbrev pub elected_line : List ℕ → ℕ → List ℕ → List ℕ
 elected_line elected c name = if list_any (nat_eq c) elected then line (number_column c ∷ codes " " ∷ name ∷ []) else []
 

@@ -1,4 +1,4 @@
--- The stages of a ward as a table for a spreadsheet (CSV): a row a candidate, and four columns a stage.
+-- The stages of a ward as a table for a spreadsheet (CSV): one row per candidate, and four columns per stage.
 use Rattle.std.specs.Prelude.{ℕ, ◌+◌, ◌-◌, Bool, ◌||◌, ◌==◌, if◌then◌else◌, List, [], ◌∷◌, ◌++◌, length, map, slice_get, codes, decimal, Option, Some, None}
 use Rattle.std.specs.List.{flat_map}
 use Rattle.csv.specs.Writing.{default_writer, row_text}
@@ -16,20 +16,20 @@ use Rattle.sheet.specs.Stages.{fate_at}
 use Rattle.sheet.specs.declared.stage.Fate.{Fate}
 use Rattle.sheet.specs.declared.stage.Fate.TheVariants.{NewlyElected, Elected, NewlyExcluded, Excluded, Continuing}
 
--- each cell stands in quotes, so that it stays one cell, whatever a spreadsheet takes for the end of a cell
+-- every cell is quoted, so that it stays one cell, whatever character a spreadsheet treats as a separator
 abbrev pub writer : WriterBuilder
 writer = record default_writer { style = style.Always }
 
--- a byte with which a cell begins that a spreadsheet takes for a formula: `=`, `+`, `-`, `@`, and the first byte of the wide forms of these
+-- the first bytes of a cell that a spreadsheet reads as a formula: `=`, `+`, `-`, `@`, and the first byte of their full-width forms
 abbrev pub begins_formula : ℕ → Bool
 begins_formula byte = (byte == 61) || ((byte == 43) || ((byte == 45) || ((byte == 64) || (byte == 239))))
 
--- a name as a cell that isn't taken for a formula: an apostrophe stands before such a byte
+-- a name as a cell that isn't read as a formula: an apostrophe precedes such a byte
 abbrev pub name_cell : List ℕ → List ℕ
 name_cell [] = []
 name_cell (byte ∷ rest) = if begins_formula byte then codes "'" ++ byte ∷ rest else byte ∷ rest
 
--- the heads of the columns of the stage of a number: `Stage 2: surplus of 1`, `Stage 2 gained`, `Stage 2 lost`, `Stage 2 standing`
+-- the column heads of the stage with a number: `Stage 2: surplus of 1`, `Stage 2 gained`, `Stage 2 lost`, `Stage 2 standing`
 abbrev pub heads_at : ℕ → Stage → List (List ℕ)
 heads_at k stage =
     (codes "Stage " ++ (decimal k ++ (codes ": " ++ action_text stage.action))) ∷
@@ -37,7 +37,7 @@ heads_at k stage =
     (codes "Stage " ++ (decimal k ++ codes " lost")) ∷
     (codes "Stage " ++ (decimal k ++ codes " standing")) ∷ []
 
--- those of a stage after earlier ones
+-- the column heads of a stage after earlier ones
 abbrev pub stage_heads : List Stage → Stage → List (List ℕ)
 stage_heads earlier stage = heads_at (length earlier + 1) stage
 
@@ -47,7 +47,7 @@ value_in (Candidate c) stage = votes_at stage c
 value_in NonTransferable stage = stage.non_transferable
 value_in Lost stage = stage.lost
 
--- its value at the last of some stages, none before the first: gains less losses, of all stages up to one, add up to the value there
+-- its value at the last of some stages, none before the first; the gains less the losses of all stages up to one add up to the value there
 abbrev pub value_after : Line → Option Stage → ℕ
 value_after line None = 0
 value_after line (Some stage) = value_in line stage
@@ -55,7 +55,7 @@ value_after line (Some stage) = value_in line stage
 abbrev pub value_before : Line → List Stage → ℕ
 value_before line earlier = value_after line (slice_get earlier (length earlier - 1))
 
--- how a candidate stands once a stage is done, in a word
+-- the standing of a candidate after a stage, in one word
 abbrev pub standing_word : Fate → List ℕ
 standing_word NewlyElected = codes "elected"
 standing_word Elected = codes "elected"
@@ -63,13 +63,13 @@ standing_word NewlyExcluded = codes "excluded"
 standing_word Excluded = codes "excluded"
 standing_word Continuing = codes "continuing"
 
--- the same of a line; a running sum has no such word
+-- the standing of a line; a running total has none
 abbrev pub standing : Line → List Stage → Stage → List ℕ
 standing (Candidate c) earlier stage = standing_word (fate_at earlier stage c)
 standing NonTransferable earlier stage = []
 standing Lost earlier stage = []
 
--- the cells of a line at a stage: its value, what it gained and what it lost at that stage, and its standing
+-- the cells of a line at a stage: its value, its gain, its loss, and its standing
 abbrev pub stage_cells : Line → List Stage → Stage → List (List ℕ)
 stage_cells line earlier stage =
     votes_text (value_in line stage) ∷
@@ -81,15 +81,15 @@ stage_cells line earlier stage =
 abbrev pub head_row : List Stage → List (List ℕ)
 head_row stages = codes "candidate" ∷ codes "name" ∷ each_after stage_heads [] stages
 
--- a row: a candidate's number, his name, and his cells
+-- a row: a candidate's number, name, and cells
 abbrev pub candidate_row : List Stage → (ℕ × List ℕ) → List (List ℕ)
 candidate_row stages candidate = decimal candidate.0 ∷ name_cell candidate.1 ∷ each_after (stage_cells (Candidate candidate.0)) [] stages
 
--- the row of a running sum
+-- the row of a running total
 abbrev pub sum_row : List Stage → Line → List ℕ → List (List ℕ)
 sum_row stages line what = [] ∷ what ∷ each_after (stage_cells line) [] stages
 
--- the rows, one below the other
+-- all rows, in order
 abbrev pub rows : SheetEntry → List Stage → List (List (List ℕ))
 rows ward stages =
     head_row stages ∷ map (candidate_row stages) ward.candidates ++

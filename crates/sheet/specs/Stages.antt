@@ -22,7 +22,7 @@ is_elected_at stages c = list_any (λ s. list_any (nat_eq c) s.elected) stages
 abbrev pub is_excluded_at : List Stage → ℕ → Bool
 is_excluded_at stages c = list_any (λ s. excludes s.action c) stages
 
--- how a candidate stands at a stage after earlier ones
+-- the standing of a candidate at a stage after earlier ones
 abbrev pub fate_at : List Stage → Stage → ℕ → Fate
 fate_at earlier stage c =
     if is_elected_at (stage ∷ []) c then NewlyElected else (
@@ -30,7 +30,7 @@ fate_at earlier stage c =
     if is_excluded_at (stage ∷ []) c then NewlyExcluded else (
     if is_excluded_at earlier c then Excluded else Continuing)))
 
--- his letter: E elected at the stage, e elected at an earlier one, x excluded at it or earlier, - else
+-- a candidate's letter: E elected at this stage, e elected at an earlier stage, x excluded at this or an earlier stage, - otherwise
 abbrev pub letter : Fate → List ℕ
 letter NewlyElected = codes "E"
 letter Elected = codes "e"
@@ -43,10 +43,10 @@ abbrev pub candidate_line : List Stage → Stage → ℕ → List ℕ → List �
 candidate_line earlier stage c name =
     line (number_column c ∷ codes " " ∷ value_column (votes_at stage c) ∷ codes " " ∷ letter (fate_at earlier stage c) ∷ codes " " ∷ name ∷ [])
 
--- `         0.00002 lost by fractions`: a running sum and what it sums up
+-- `         0.00002 lost by fractions`: a running total, and its label
 abbrev pub sum_line : ℕ → List ℕ → List ℕ
 sum_line units what = line (codes "   " ∷ value_column units ∷ codes " " ∷ what ∷ [])
 
--- the running sums of a stage
+-- the running totals of a stage
 abbrev pub sum_lines : Stage → List ℕ
 sum_lines stage = sum_line stage.non_transferable (codes "non-transferable") ++ sum_line stage.lost (codes "lost by fractions")

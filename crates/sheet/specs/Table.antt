@@ -1,4 +1,4 @@
--- The tables of the stages, eight in each.
+-- The tables of the stages, eight stages per table.
 use Rattle.std.specs.Prelude.{ℕ, ◌+◌, ◌%◌, ◌==◌, if◌then◌else◌, List, [], ◌∷◌, ◌++◌, length, take, codes}
 use Rattle.std.specs.List.{flat_map, range_with_len}
 use Rattle.count.specs.declared.stages.Stage.{Stage}
@@ -7,7 +7,7 @@ use Rattle.sheet.specs.Cells.{cell_text, head_cell, row}
 use Rattle.sheet.specs.Entries.{SheetEntry}
 use Rattle.sheet.specs.declared.cells.Cell.TheVariants.{Candidate, NonTransferable, Lost}
 
--- the heads of a table's columns, with its caption, in a region of its own that a keyboard reaches and scrolls
+-- the column heads of a table, with its caption, in a region that can be focused and scrolled by keyboard
 abbrev pub head_row : SheetEntry → ℕ → List Stage → List ℕ
 head_row ward place stages = row (
     codes "<div class=\"wide\" role=\"region\" tabindex=\"0\" aria-label=\"" ∷ span (place + 1) (length stages) ∷
@@ -23,7 +23,7 @@ candidate_row place stages c name =
 abbrev pub candidate_rows : SheetEntry → ℕ → List Stage → List ℕ
 candidate_rows ward place stages = flat_map (λ candidate. candidate_row place stages candidate.0 candidate.1) ward.candidates
 
--- the rows of the running sums, and the table's end
+-- the rows of the running totals, and the end of the table
 abbrev pub sum_rows : ℕ → List Stage → List ℕ
 sum_rows place stages =
     row (codes "<tr class=\"sum\"><th scope=\"row\">non-transferable</th>" ∷ []) (cell_text NonTransferable) (codes "</tr>") place stages
@@ -33,7 +33,7 @@ sum_rows place stages =
 abbrev pub table : SheetEntry → ℕ → List Stage → List ℕ
 table ward place stages = head_row ward place stages ++ candidate_rows ward place stages ++ sum_rows place stages
 
--- at each eighth place the table of the eight stages from there on, or of those that are left
+-- at each multiple of eight, the table of the next eight stages, or of those that remain
 abbrev pub table_at : SheetEntry → List Stage → ℕ → List ℕ
 table_at ward stages place = if place % 8 == 0 then table ward place (take (place + 8) stages) else []
 

@@ -1,4 +1,4 @@
-//! The ballots of a ward, as a file that counting programs share.
+//! The ballots of a ward, as a file in the format that counting programs share.
 
 ghost use Rattle.std.specs.Prelude.{◌≡◌, ◌-◌, ◌^◌, ◌<◌, is_none, option_map};
 ghost use Rattle.sheet.specs.Ballots.{ballots, bundle_line, comments, highest_number as highest_number_of, lot_comment, minus as minus_of, name_at as name_at_of, name_line, name_lines};
@@ -9,14 +9,14 @@ ghost use Rattle.sheet.specs.Wards.{CanBePrinted};
 ghost use Rattle.sheet.specs.Writing.{Writes};
 ghost use Rattle.std.specs.List.{flat_map};
 
+use crate::heading_lines::write_rejected_line;
 use crate::line::{Piece, write_line, write_number, write_text};
-use crate::opening::write_rejected_line;
 use crate::ward::{Poll, Ward};
 use count::Bundles;
 use paper::Prefs;
 use streams::{Broken, Sink};
 
-/// The highest number of a candidate, which is the last one's; 0 where there is none.
+/// Returns the highest candidate number, which is the last one's; 0 if there are no candidates.
 fn highest_number(ward: &Ward) -> u8
     ensures { result ≡ highest_number_of (shown ward.now).candidates }
 {
@@ -26,7 +26,7 @@ fn highest_number(ward: &Ward) -> u8
     }
 }
 
-/// The name of the candidate of a number, where there is one.
+/// Returns the name of the candidate with a number, if there is one.
 fn name_at<'a>(ward: &Ward<'a>, c: u8) -> Option<&'a str>
     ensures { option_map (λ name. name.now) result ≡ name_at_of (shown ward.now).candidates c }
 {
@@ -38,7 +38,7 @@ fn name_at<'a>(ward: &Ward<'a>, c: u8) -> Option<&'a str>
     None
 }
 
-/// The name of the candidate of a number, or that no candidate stands.
+/// Returns the name of the candidate with a number, or the word for a withdrawn candidate.
 pub fn name_or_withdrawn<'a>(ward: &Ward<'a>, c: u8) -> &'a str
     ensures { result.now ≡ name_or_withdrawn_of (name_at_of (shown ward.now).candidates c) }
 {
@@ -48,14 +48,14 @@ pub fn name_or_withdrawn<'a>(ward: &Ward<'a>, c: u8) -> &'a str
     }
 }
 
-/// Whether no candidate has a number.
+/// Returns whether no candidate has a number.
 fn is_missing(ward: &Ward, c: u8) -> bool
     ensures { result ≡ is_none (name_at_of (shown ward.now).candidates c) }
 {
     name_at(ward, c).is_none()
 }
 
-/// Writes the highest number of a candidate and the seats.
+/// Writes the highest candidate number and the number of seats.
 fn write_size_line<W: Sink>(sink: &mut W, ward: &Ward) -> Result<(), Broken>
     requires { W.failed sink.old < 2 ^ 64 - 1 }
     ensures { Writes W.taken W.failed sink.old sink.new (size_line (shown ward.now)) result }
@@ -68,14 +68,14 @@ fn write_size_line<W: Sink>(sink: &mut W, ward: &Ward) -> Result<(), Broken>
     write_line(sink, &pieces)
 }
 
-/// What stands before a number at which no candidate stands.
+/// Returns the text before the number of a withdrawn candidate.
 fn minus(is_first: bool) -> &'static str
     ensures { result.now ≡ minus_of is_first }
 {
     if is_first { "-" } else { " -" }
 }
 
-/// Writes a number at which no candidate stands.
+/// Writes the number of a withdrawn candidate.
 fn write_withdrawn_number<W: Sink>(sink: &mut W, is_first: bool, c: u8) -> Result<(), Broken>
     requires { W.failed sink.old < 2 ^ 64 - 1 }
     ensures { Writes W.taken W.failed sink.old sink.new (withdrawn_number is_first c) result }
@@ -84,7 +84,7 @@ fn write_withdrawn_number<W: Sink>(sink: &mut W, is_first: bool, c: u8) -> Resul
     write_number(sink, c)
 }
 
-/// Writes the numbers at which no candidate stands, where there are any.
+/// Writes the numbers of withdrawn candidates, if there are any.
 fn write_withdrawn_line<W: Sink>(sink: &mut W, ward: &Ward) -> Result<(), Broken>
     requires { W.failed sink.old < 2 ^ 64 - 1 }
     ensures { Writes W.taken W.failed sink.old sink.new (withdrawn_line (withdrawn (shown ward.now))) result }
@@ -103,7 +103,7 @@ fn write_withdrawn_line<W: Sink>(sink: &mut W, ward: &Ward) -> Result<(), Broken
     write_text(sink, "\n")
 }
 
-/// Writes how many papers are in a bundle, and their preferences.
+/// Writes the number of papers in a bundle, and their preferences.
 fn write_bundle_line<W: Sink>(sink: &mut W, list: &Prefs, papers: u32) -> Result<(), Broken>
     requires { W.failed sink.old < 2 ^ 64 - 1 }
     ensures { Writes W.taken W.failed sink.old sink.new (bundle_line (list.now, papers)) result }
@@ -116,7 +116,7 @@ fn write_bundle_line<W: Sink>(sink: &mut W, list: &Prefs, papers: u32) -> Result
     write_line(sink, &pieces)
 }
 
-/// Writes a line a bundle, in their order.
+/// Writes one line per bundle, in order.
 fn write_bundle_lines<W: Sink>(sink: &mut W, bundles: &Bundles) -> Result<(), Broken>
     requires { W.failed sink.old < 2 ^ 64 - 1 }
     ensures { Writes W.taken W.failed sink.old sink.new (flat_map bundle_line bundles.now) result }
@@ -127,7 +127,7 @@ fn write_bundle_lines<W: Sink>(sink: &mut W, bundles: &Bundles) -> Result<(), Br
     Ok(())
 }
 
-/// Writes the name of a number.
+/// Writes the name for a number.
 fn write_name_line<W: Sink>(sink: &mut W, ward: &Ward, c: u8) -> Result<(), Broken>
     requires { W.failed sink.old < 2 ^ 64 - 1 }
     ensures { Writes W.taken W.failed sink.old sink.new (name_line (shown ward.now).candidates c) result }
@@ -135,7 +135,7 @@ fn write_name_line<W: Sink>(sink: &mut W, ward: &Ward, c: u8) -> Result<(), Brok
     write_line(sink, &[Piece::Quoted(name_or_withdrawn(ward, c))])
 }
 
-/// Writes the names of all numbers.
+/// Writes the names for all numbers.
 fn write_candidate_names<W: Sink>(sink: &mut W, ward: &Ward) -> Result<(), Broken>
     requires ward { CanBePrinted ward.now }
     requires failures { W.failed sink.old < 2 ^ 64 - 1 }
@@ -147,7 +147,7 @@ fn write_candidate_names<W: Sink>(sink: &mut W, ward: &Ward) -> Result<(), Broke
     Ok(())
 }
 
-/// Writes the names of all numbers, and the ward's behind them.
+/// Writes the names for all numbers, followed by the ward's.
 fn write_name_lines<W: Sink>(sink: &mut W, ward: &Ward) -> Result<(), Broken>
     requires ward { CanBePrinted ward.now }
     requires failures { W.failed sink.old < 2 ^ 64 - 1 }
@@ -157,7 +157,7 @@ fn write_name_lines<W: Sink>(sink: &mut W, ward: &Ward) -> Result<(), Broken>
     write_line(sink, &[Piece::Quoted(ward.name)])
 }
 
-/// Writes the number of the ward, as a comment.
+/// Writes the ward's number, as a comment.
 fn write_ward_comment<W: Sink>(sink: &mut W, ward: &Ward) -> Result<(), Broken>
     requires { W.failed sink.old < 2 ^ 64 - 1 }
     ensures { Writes W.taken W.failed sink.old sink.new (ward_comment (shown ward.now)) result }
@@ -166,7 +166,7 @@ fn write_ward_comment<W: Sink>(sink: &mut W, ward: &Ward) -> Result<(), Broken>
     write_line(sink, &[Piece::Text("# Ward "), number])
 }
 
-/// Writes the rejected papers of a contested ward, as a comment.
+/// Writes the numbers of rejected papers of a contested ward, as a comment.
 fn write_rejected_comment<W: Sink>(sink: &mut W, poll: Option<Poll>) -> Result<(), Broken>
     requires { W.failed sink.old < 2 ^ 64 - 1 }
     ensures { Writes W.taken W.failed sink.old sink.new (rejected_comment poll) result }
@@ -178,7 +178,7 @@ fn write_rejected_comment<W: Sink>(sink: &mut W, poll: Option<Poll>) -> Result<(
     write_rejected_line(sink, &poll.rejected)
 }
 
-/// Writes the candidate whom a lot named, as a comment.
+/// Writes the candidate drawn by a lot, as a comment.
 fn write_lot_comment<W: Sink>(sink: &mut W, lot: &(u8, u8)) -> Result<(), Broken>
     requires { W.failed sink.old < 2 ^ 64 - 1 }
     ensures { Writes W.taken W.failed sink.old sink.new (lot_comment lot.now) result }
@@ -193,7 +193,7 @@ fn write_lot_comment<W: Sink>(sink: &mut W, lot: &(u8, u8)) -> Result<(), Broken
     write_line(sink, &pieces)
 }
 
-/// Writes the candidates whom the lots named.
+/// Writes the candidates drawn by lots.
 fn write_lot_comments<W: Sink>(sink: &mut W, lots: &[(u8, u8)]) -> Result<(), Broken>
     requires { W.failed sink.old < 2 ^ 64 - 1 }
     ensures { Writes W.taken W.failed sink.old sink.new (flat_map lot_comment lots.now) result }
@@ -204,7 +204,7 @@ fn write_lot_comments<W: Sink>(sink: &mut W, lots: &[(u8, u8)]) -> Result<(), Br
     Ok(())
 }
 
-/// Writes what such a file has no place for.
+/// Writes what the format has no place for.
 fn write_comments<W: Sink>(sink: &mut W, ward: &Ward, lots: &[(u8, u8)]) -> Result<(), Broken>
     requires { W.failed sink.old < 2 ^ 64 - 1 }
     ensures { Writes W.taken W.failed sink.old sink.new (comments (shown ward.now) lots.now) result }
@@ -214,7 +214,7 @@ fn write_comments<W: Sink>(sink: &mut W, ward: &Ward, lots: &[(u8, u8)]) -> Resu
     write_lot_comments(sink, lots)
 }
 
-/// Writes what stands above the names.
+/// Writes the part before the names.
 fn write_papers<W: Sink>(sink: &mut W, ward: &Ward, bundles: &Bundles) -> Result<(), Broken>
     requires ward { CanBePrinted ward.now }
     requires failures { W.failed sink.old < 2 ^ 64 - 1 }
@@ -226,11 +226,10 @@ fn write_papers<W: Sink>(sink: &mut W, ward: &Ward, bundles: &Bundles) -> Result
     write_line(sink, &[Piece::Text("0")])
 }
 
-/// Writes the ballots of a ward, as a file that counting programs share: its bundles of equal valid papers, and the lots that
-/// were recorded, a stage and a candidate each. An uncontested ward has no bundles.
+/// Writes the ballots of a ward, as a file in the format that counting programs share: its bundles of equal valid papers, and the
+/// recorded lots, each as a stage and a candidate. An uncontested ward has no bundles.
 ///
-/// Takes no memory. `Broken` comes only from the sink, which has then taken a beginning of the file and
-/// counts one failure more.
+/// Allocates nothing. `Broken` comes only from the sink, which has then accepted a prefix of the file and counts one more failure.
 pub fn write_ballots<W: Sink>(
     sink: &mut W,
     ward: &Ward,

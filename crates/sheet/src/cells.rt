@@ -1,4 +1,4 @@
-//! What a table on a page shows of a stage.
+//! The cells of a stage in a table on a page.
 
 ghost use Rattle.std.specs.Prelude.{◌≡◌, ◌-◌, ◌^◌, ◌<◌, map};
 ghost use Rattle.sheet.specs.Cells.{apart as apart_of, cell_text, column_head, from_place, name_in as name_with, row};
@@ -15,20 +15,20 @@ use count::{Action, Stage};
 use streams::{Broken, Sink};
 use votes::Votes;
 
-/// A cell of a row, which shows something of a stage.
+/// A cell of a row, about a stage.
 #[derive(Clone, Copy)]
 pub enum Cell<'a> {
-    /// The head of a column: the stage, and what is done at it, with which candidate of the ward.
+    /// The head of a column: the stage and its action, with the name of the ward's candidate concerned.
     Head(&'a Ward<'a>),
-    /// A candidate's votes, what he gained or lost, and where he stands.
+    /// A candidate's votes, their change, and the candidate's standing.
     Candidate(u8),
-    /// The running sum of what isn't transferable.
+    /// The running total of the non-transferable.
     NonTransferable,
-    /// The running sum of what fractions lost.
+    /// The running total of the loss by fractions.
     Lost,
 }
 
-/// The votes of a candidate before a stage; at the first one, those that he has at it.
+/// Returns the votes of a candidate before a stage; at the first one, the votes at it.
 fn votes_before(earlier: &[Stage], stage: &Stage, c: u8) -> Votes
     ensures { result ≡ before_of earlier.now stage.now c }
 {
@@ -38,7 +38,7 @@ fn votes_before(earlier: &[Stage], stage: &Stage, c: u8) -> Votes
     }
 }
 
-/// Where a candidate stands at a stage, in words.
+/// Returns the standing of a candidate at a stage, in words.
 fn standing(fate: Fate) -> &'static str
     ensures { result.now ≡ standing_of fate }
 {
@@ -51,7 +51,7 @@ fn standing(fate: Fate) -> &'static str
     }
 }
 
-/// The sign of what was gained or lost.
+/// Returns the sign of a change.
 fn sign(before: Votes, now: Votes) -> &'static str
     ensures { result.now ≡ sign_of before now }
 {
@@ -62,7 +62,7 @@ fn sign(before: Votes, now: Votes) -> &'static str
     }
 }
 
-/// How far two values are apart.
+/// Returns the absolute difference of two values.
 fn apart(before: Votes, now: Votes) -> Votes
     ensures { result ≡ apart_of before now }
 {
@@ -74,7 +74,7 @@ fn apart(before: Votes, now: Votes) -> Votes
     }
 }
 
-/// Writes a candidate's votes, what he gained or lost where they changed, and where he stands.
+/// Writes a candidate's votes, the change if there is one, and the standing.
 fn write_votes_cell<W: Sink>(
     sink: &mut W,
     before: Votes,
@@ -97,7 +97,7 @@ fn write_votes_cell<W: Sink>(
     write_line(sink, &[opening, votes, sign, apart, end, stands, closing])
 }
 
-/// The name of the candidate with whom an action is done; none at the first stage.
+/// Returns the name of the candidate concerned by an action; empty for the first stage.
 fn name_in<'a>(ward: &Ward<'a>, action: Action) -> &'a str
     ensures { result.now ≡ name_with (shown ward.now).candidates action }
 {
@@ -129,7 +129,7 @@ fn write_column_head<W: Sink>(
     write_line(sink, &pieces)
 }
 
-/// Writes a running sum.
+/// Writes a running total.
 fn write_sum_cell<W: Sink>(sink: &mut W, sum: Votes) -> Result<(), Broken>
     requires { W.failed sink.old < 2 ^ 64 - 1 }
     ensures { Writes W.taken W.failed sink.old sink.new (sum_cell sum) result }
@@ -138,7 +138,7 @@ fn write_sum_cell<W: Sink>(sink: &mut W, sum: Votes) -> Result<(), Broken>
     write_line(sink, &pieces)
 }
 
-/// Writes what a cell shows of a stage after earlier ones.
+/// Writes a cell about a stage after earlier ones.
 fn write_cell<W: Sink>(
     sink: &mut W,
     cell: &Cell,
@@ -160,7 +160,7 @@ fn write_cell<W: Sink>(
     }
 }
 
-/// Writes a cell for each stage from a place on.
+/// Writes one cell per stage, from a place on.
 fn write_cells<W: Sink>(
     sink: &mut W,
     cell: &Cell,
@@ -176,7 +176,7 @@ fn write_cells<W: Sink>(
     Ok(())
 }
 
-/// Writes a row: what stands at its beginning, a cell for each stage from a place on, and its end.
+/// Writes a row: its beginning, one cell per stage from a place on, and its end.
 pub fn write_row<W: Sink>(
     sink: &mut W,
     opening: &[Piece],

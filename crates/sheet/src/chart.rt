@@ -1,4 +1,4 @@
-//! The chart of a ward's votes: a row a candidate, with a bar and its figures.
+//! The chart of a ward's votes: one row per candidate, with a bar and its figures.
 
 ghost use Rattle.std.specs.Prelude.{◌≡◌, ◌-◌, ◌+◌, ◌^◌, ◌<◌, ◌≤◌, IfSome, length};
 ghost use Rattle.votes.specs.Units.{max_papers, max_seats};
@@ -11,34 +11,34 @@ ghost use Rattle.sheet.specs.Lines.{joined, line};
 ghost use Rattle.sheet.specs.Writing.{Writes};
 ghost use Rattle.std.specs.Prelude.{slice_get};
 
+use crate::each_candidate::{OfCandidate, write_each};
 use crate::line::{Piece, write_line, write_pieces};
 use crate::look::{legend, patterns};
 use crate::stage::votes_of;
-use crate::told::{OfCandidate, write_each};
 use crate::ward::{Poll, Ward};
 use count::Stage;
 use streams::{Broken, Sink};
 use votes::{Votes, quota};
 
-/// What bars are measured by, in units: the quota, and the greatest of it and all votes.
+/// The scale of the bars, in units: the quota, and the maximum of the quota and all votes.
 #[derive(Clone, Copy)]
 pub struct Scale {
     pub quota: u64,
     pub most: u64,
 }
 
-/// How a candidate's way ends, and at which stage, by its number from 1 on.
+/// The final outcome for a candidate, with the number of its stage, from 1 on.
 #[derive(Clone, Copy)]
 pub enum Ending {
-    /// He is elected at it.
+    /// The candidate is elected at this stage.
     Elected(u64),
-    /// He is excluded at it.
+    /// The candidate is excluded at this stage.
     Excluded(u64),
-    /// Neither up to it, which is the last.
+    /// The candidate is neither elected nor excluded by this stage, the last.
     Neither(u64),
 }
 
-/// The greatest of some votes and one value more.
+/// Returns the maximum of some votes and one more value.
 fn greatest_of(most: u64, votes: &[Votes]) -> u64
     ensures { result ≡ greatest most votes.now }
 {
@@ -51,7 +51,7 @@ fn greatest_of(most: u64, votes: &[Votes]) -> u64
     top
 }
 
-/// The greatest of the votes at some stages and one value more.
+/// Returns the maximum of the votes at some stages and one more value.
 fn greatest_of_stages(most: u64, stages: &[Stage]) -> u64
     ensures { result ≡ greatest_at most stages.now }
 {
@@ -62,7 +62,7 @@ fn greatest_of_stages(most: u64, stages: &[Stage]) -> u64
     top
 }
 
-/// What the bars of a ward are measured by.
+/// Returns the scale of the bars of a ward.
 pub fn scale_of(seats: u8, poll: &Poll, stages: &[Stage]) -> Scale
     requires some_seats { 1 ≤ seats }
     requires few_seats { seats ≤ max_seats }
@@ -76,7 +76,7 @@ pub fn scale_of(seats: u8, poll: &Poll, stages: &[Stage]) -> Scale
     }
 }
 
-/// How long a bar is, of 100.
+/// Returns the length of a bar, out of 100.
 fn bar_length(scale: Scale, units: u64) -> u64
     ensures is { result ≡ length_of scale units }
     ensures short { result ≤ 100 }
@@ -85,7 +85,7 @@ fn bar_length(scale: Scale, units: u64) -> u64
     if hundreds < 100 { hundreds as u64 } else { 100 }
 }
 
-/// The votes of a candidate at the first stage.
+/// Returns the votes of a candidate at the first stage.
 fn first_votes(stages: &[Stage], c: u8) -> Votes
     ensures { result ≡ votes_or 0 (slice_get stages.now 0) c }
 {
@@ -95,7 +95,7 @@ fn first_votes(stages: &[Stage], c: u8) -> Votes
     }
 }
 
-/// The most votes that a candidate had at some stages.
+/// Returns the most votes that a candidate had at any of some stages.
 fn most_votes(stages: &[Stage], c: u8) -> u64
     ensures { result ≡ most_of 0 stages.now c }
 {
@@ -109,7 +109,7 @@ fn most_votes(stages: &[Stage], c: u8) -> u64
     top
 }
 
-/// How many stages are before the one at which a candidate is elected.
+/// Returns how many stages precede the one at which a candidate is elected.
 fn elected_place(stages: &[Stage], c: u8) -> Option<usize>
     ensures is { result ≡ elected_at_place stages.now c }
     ensures within { IfSome result (λ place. place < length stages.now) }
@@ -117,7 +117,7 @@ fn elected_place(stages: &[Stage], c: u8) -> Option<usize>
     stages.iter().position(|stage| stage.elected.has(c))
 }
 
-/// How many stages are before the one at which a candidate is excluded.
+/// Returns how many stages precede the one at which a candidate is excluded.
 fn excluded_place(stages: &[Stage], c: u8) -> Option<usize>
     ensures is { result ≡ excluded_at_place stages.now c }
     ensures within { IfSome result (λ place. place < length stages.now) }
@@ -125,7 +125,7 @@ fn excluded_place(stages: &[Stage], c: u8) -> Option<usize>
     stages.iter().position(|stage| stage.action.excludes(c))
 }
 
-/// How a candidate's way ends.
+/// Returns the final outcome for a candidate.
 fn ending_of(stages: &[Stage], c: u8) -> Ending
     ensures { result ≡ ending_at stages.now c }
 {
@@ -138,7 +138,7 @@ fn ending_of(stages: &[Stage], c: u8) -> Ending
     }
 }
 
-/// The class of a candidate's row.
+/// Returns the class of a candidate's row.
 fn ending_class(ending: Ending) -> &'static str
     ensures { result.now ≡ class_of ending }
 {
@@ -149,7 +149,7 @@ fn ending_class(ending: Ending) -> &'static str
     }
 }
 
-/// How his way ends, in words, before the number of the stage.
+/// Returns the outcome in words, to precede the number of the stage.
 fn ending_words(ending: Ending) -> &'static str
     ensures { result.now ≡ words_of ending }
 {
@@ -160,7 +160,7 @@ fn ending_words(ending: Ending) -> &'static str
     }
 }
 
-/// The number of that stage.
+/// Returns the number of the outcome's stage.
 fn ending_stage(ending: Ending) -> u64
     ensures { result ≡ stage_of ending }
 {
@@ -171,7 +171,7 @@ fn ending_stage(ending: Ending) -> u64
     }
 }
 
-/// What a candidate's row shows: his votes at the first stage, the most that he had, and how his way ends.
+/// The data of a candidate's row: the votes at the first stage, the most votes, and the outcome.
 #[derive(Clone, Copy)]
 struct Told {
     scale: Scale,
@@ -180,7 +180,7 @@ struct Told {
     ending: Ending,
 }
 
-/// Writes the candidate, at the beginning of his row.
+/// Writes the candidate, at the beginning of the row.
 fn write_who<W: Sink>(sink: &mut W, ending: Ending, c: u8, name: &str) -> Result<(), Broken>
     requires { W.failed sink.old < 2 ^ 64 - 1 }
     ensures { Writes W.taken W.failed sink.old sink.new (who ending c name.now) result }
@@ -195,7 +195,7 @@ fn write_who<W: Sink>(sink: &mut W, ending: Ending, c: u8, name: &str) -> Result
     write_pieces(sink, &pieces)
 }
 
-/// Writes a bar: the votes at the first stage, behind them what was gained later, and the quota.
+/// Writes a bar: the votes at the first stage, followed by those gained later, and the quota.
 fn write_bar<W: Sink>(sink: &mut W, scale: Scale, first: Votes, most: Votes) -> Result<(), Broken>
     requires { W.failed sink.old < 2 ^ 64 - 1 }
     ensures { Writes W.taken W.failed sink.old sink.new (joined (bar scale first most)) result }
@@ -216,7 +216,7 @@ fn write_bar<W: Sink>(sink: &mut W, scale: Scale, first: Votes, most: Votes) -> 
     write_pieces(sink, &pieces)
 }
 
-/// Writes the figures beside a bar.
+/// Writes the figures next to a bar.
 fn write_figures<W: Sink>(
     sink: &mut W,
     first: Votes,
@@ -239,7 +239,7 @@ fn write_figures<W: Sink>(
     write_line(sink, &pieces)
 }
 
-/// Writes a row: the candidate, his bar, and its figures.
+/// Writes a row: the candidate, the bar, and its figures.
 fn write_chart_line<W: Sink>(sink: &mut W, told: &Told, c: u8, name: &str) -> Result<(), Broken>
     requires { W.failed sink.old < 2 ^ 64 - 1 }
     ensures { Writes W.taken W.failed sink.old sink.new (chart_line told.now.scale told.now.first told.now.most told.now.ending c name.now) result }
@@ -271,7 +271,7 @@ impl<'a> OfCandidate for ChartRow<'a> {
     }
 }
 
-/// Writes what stands above the rows: what the bars mean.
+/// Writes the part before the rows: what the bars mean.
 fn write_chart_head<W: Sink>(sink: &mut W, quota: Votes) -> Result<(), Broken>
     requires { W.failed sink.old < 2 ^ 64 - 1 }
     ensures { Writes W.taken W.failed sink.old sink.new (chart_head quota) result }

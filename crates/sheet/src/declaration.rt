@@ -1,4 +1,4 @@
-//! The declaration of who is elected.
+//! The declaration of the elected candidates.
 
 ghost use Rattle.std.specs.Prelude.{◌-◌, ◌^◌, ◌<◌};
 ghost use Rattle.sheet.specs.Entries.{shown};
@@ -6,14 +6,14 @@ ghost use Rattle.sheet.specs.Sheet.{elected_line, declaration};
 ghost use Rattle.sheet.specs.Wards.{CanBePrinted};
 ghost use Rattle.sheet.specs.Writing.{Writes};
 
+use crate::each_candidate::{OfCandidate, write_each};
+use crate::heading_lines::write_ward_line;
 use crate::line::{Piece, write_line};
-use crate::opening::write_ward_line;
-use crate::told::{OfCandidate, write_each};
 use crate::ward::Ward;
 use paper::Columns;
 use streams::{Broken, Sink};
 
-/// The line of a candidate who is among the elected.
+/// The line of a candidate, if elected.
 #[derive(Clone, Copy)]
 struct ElectedLine<'a> {
     elected: &'a Columns,
@@ -36,11 +36,11 @@ impl<'a> OfCandidate for ElectedLine<'a> {
     }
 }
 
-/// Writes the declaration of a ward: its number and name, and a line for each candidate who is
-/// among the elected. In an uncontested ward these are all its candidates.
+/// Writes the declaration of a ward: its number and name, and one line for each elected candidate. In an uncontested ward these are
+/// all its candidates.
 ///
-/// Takes no memory. `Broken` comes only from the sink, which has then taken a beginning of the
-/// declaration and counts one failure more.
+/// Allocates nothing. `Broken` comes only from the sink, which has then accepted a prefix of the declaration and counts one more
+/// failure.
 pub fn write_declaration<W: Sink>(sink: &mut W, ward: &Ward, elected: Columns) -> Result<(), Broken>
     requires ward { CanBePrinted ward.now }
     requires failures { W.failed sink.old < 2 ^ 64 - 1 }

@@ -1,4 +1,4 @@
-//! Who is elected, on a page.
+//! The elected candidates, on a page.
 
 ghost use Rattle.std.specs.Prelude.{◌≡◌, ◌-◌, ◌^◌, ◌<◌};
 ghost use Rattle.sheet.specs.Cells.{from_place};
@@ -7,14 +7,14 @@ ghost use Rattle.sheet.specs.Page.{elected_at, elected_end, elected_items, elect
 ghost use Rattle.sheet.specs.Page.{left_in as left_of_ward, left_words as words_of, seats_left as left_of, stay_empty as are_empty, unopposed_item};
 ghost use Rattle.sheet.specs.Writing.{Writes};
 
+use crate::each_candidate::{OfCandidate, write_each};
 use crate::line::{Piece, write_line};
 use crate::stage::votes_of;
-use crate::told::{OfCandidate, write_each};
 use crate::ward::{Poll, Ward};
 use count::Stage;
 use streams::{Broken, Sink};
 
-/// A candidate who is among those elected at a stage, and the stage's number.
+/// The item of a candidate, if elected at this stage, and the stage's number.
 #[derive(Clone, Copy)]
 struct ItemAt<'a> {
     k: u64,
@@ -42,7 +42,7 @@ impl<'a> OfCandidate for ItemAt<'a> {
     }
 }
 
-/// Writes those elected at a stage, by their numbers.
+/// Writes the candidates elected at a stage, in the order of their numbers.
 fn write_elected_at<W: Sink>(
     sink: &mut W,
     ward: &Ward,
@@ -56,7 +56,7 @@ fn write_elected_at<W: Sink>(
     write_each(sink, ward, &ItemAt { k, stage })
 }
 
-/// Writes those elected, stage by stage.
+/// Writes the elected candidates, stage by stage.
 fn write_elected_stages<W: Sink>(sink: &mut W, ward: &Ward, stages: &[Stage]) -> Result<(), Broken>
     requires { W.failed sink.old < 2 ^ 64 - 1 }
     ensures { Writes W.taken W.failed sink.old sink.new (from_place (elected_at (shown ward.now)) 0 stages.now) result }
@@ -85,7 +85,7 @@ impl OfCandidate for Unopposed {
     }
 }
 
-/// Writes who is elected, in the order of their election; of an uncontested ward all its candidates.
+/// Writes the elected candidates in the order of their election; for an uncontested ward all candidates.
 pub fn write_elected_items<W: Sink>(
     sink: &mut W,
     ward: &Ward,
@@ -100,7 +100,7 @@ pub fn write_elected_items<W: Sink>(
     }
 }
 
-/// The seats that are left after those elected at some stages.
+/// Returns how many seats remain after those filled at some stages.
 fn seats_left(seats: u8, stages: &[Stage]) -> usize
     ensures { result ≡ left_of seats stages.now }
 {
@@ -111,7 +111,7 @@ fn seats_left(seats: u8, stages: &[Stage]) -> usize
     left
 }
 
-/// The seats that are left in a ward. Those of an uncontested ward are known without a count.
+/// Returns how many seats of a ward remain. In an uncontested ward this is known without a count.
 fn left_in(ward: &Ward, stages: &[Stage]) -> usize
     ensures { result ≡ left_of_ward (shown ward.now) ward.now.poll stages.now }
 {
@@ -121,7 +121,7 @@ fn left_in(ward: &Ward, stages: &[Stage]) -> usize
     }
 }
 
-/// Whether seats that are left stay empty.
+/// Returns whether the remaining seats will stay empty.
 fn stay_empty(poll: Option<Poll>, is_declared: bool) -> bool
     ensures { result ≡ are_empty poll is_declared }
 {
@@ -131,7 +131,7 @@ fn stay_empty(poll: Option<Poll>, is_declared: bool) -> bool
     }
 }
 
-/// What is said of seats that are left.
+/// Returns the text about the remaining seats.
 fn left_words(is_final: bool) -> &'static str
     ensures { result.now ≡ words_of is_final }
 {
@@ -142,7 +142,7 @@ fn left_words(is_final: bool) -> &'static str
     }
 }
 
-/// Writes the end of the list of those elected, with the seats that are left, if any.
+/// Writes the end of the list of elected candidates, with the number of remaining seats, if there are any.
 fn write_elected_end<W: Sink>(sink: &mut W, is_final: bool, left: usize) -> Result<(), Broken>
     requires { W.failed sink.old < 2 ^ 64 - 1 }
     ensures { Writes W.taken W.failed sink.old sink.new (elected_end is_final left) result }
@@ -155,7 +155,7 @@ fn write_elected_end<W: Sink>(sink: &mut W, is_final: bool, left: usize) -> Resu
     write_line(sink, &[words, Piece::Number(left as u64), end])
 }
 
-/// Writes who is elected, and how many seats are left.
+/// Writes the elected candidates, and how many seats remain.
 pub fn write_elected<W: Sink>(
     sink: &mut W,
     ward: &Ward,

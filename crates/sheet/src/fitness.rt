@@ -7,7 +7,7 @@ use crate::ward::{Poll, Ward};
 use paper::MAX_CANDIDATES;
 use votes::{MAX_PAPERS, MAX_SEATS};
 
-/// Whether the numbers of some candidates ascend from above a number on, to the greatest.
+/// Returns whether candidate numbers are ascending, above a bound, and at most the maximum.
 fn ascend_above(low: u8, candidates: &[(u8, String)]) -> bool
     ensures { IsTrue result ↔ Ascend low (map (λ candidate. candidate.0) candidates.now) }
 {
@@ -21,7 +21,7 @@ fn ascend_above(low: u8, candidates: &[(u8, String)]) -> bool
     true
 }
 
-/// Whether there are no more valid papers than a ward can have, if it has a poll.
+/// Returns whether a poll, if there is one, has no more valid papers than a ward can have.
 fn has_few_papers(poll: Option<Poll>) -> bool
     ensures { IsTrue result ↔ HasFewPapers poll }
 {
@@ -31,7 +31,7 @@ fn has_few_papers(poll: Option<Poll>) -> bool
     }
 }
 
-/// Whether a ward can be printed: 1 to [`MAX_SEATS`] seats, candidates in ascending number 1 to
+/// Returns whether a ward can be printed: 1 to [`MAX_SEATS`] seats, candidates in ascending order of their numbers, 1 to
 /// [`MAX_CANDIDATES`], and at most [`MAX_PAPERS`] valid papers.
 pub fn can_be_printed(ward: &Ward) -> bool
     ensures { IsTrue result ↔ CanBePrinted ward.now }

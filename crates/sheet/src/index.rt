@@ -1,4 +1,4 @@
-//! The page of all wards, to hang at the door.
+//! The public page of all wards.
 
 ghost use Rattle.std.specs.Prelude.{◌≡◌, ◌-◌, ◌^◌, ◌<◌, map};
 ghost use Rattle.std.specs.List.{flat_map};
@@ -10,7 +10,7 @@ use crate::look::style;
 use crate::page::write_title;
 use streams::{Broken, Sink};
 
-/// How a ward stands, for everyone.
+/// The public status of a ward.
 #[derive(Clone, Copy)]
 pub enum WardStanding {
     /// Its nominations are open.
@@ -23,8 +23,8 @@ pub enum WardStanding {
     Declared,
 }
 
-/// A ward as the page of all wards shows it: its number and name, its seats, how it
-/// stands, and, once that is declared, the number and name of each who is elected.
+/// A ward as the page of all wards shows it: its number and name, its seats, its status, and, once it is declared, the number and
+/// name of each elected candidate.
 #[derive(Drop)]
 pub struct ListedWard {
     pub number: u32,
@@ -34,7 +34,7 @@ pub struct ListedWard {
     pub elected: Vec<(u32, String)>,
 }
 
-/// How a ward stands, in words.
+/// Returns the status of a ward, in words.
 fn standing_words(standing: WardStanding) -> &'static str
     ensures { result.now ≡ words_of standing }
 {
@@ -46,7 +46,7 @@ fn standing_words(standing: WardStanding) -> &'static str
     }
 }
 
-/// Writes a candidate who is elected.
+/// Writes an elected candidate.
 fn write_elected_name<W: Sink>(sink: &mut W, candidate: &(u32, String)) -> Result<(), Broken>
     requires { W.failed sink.old < 2 ^ 64 - 1 }
     ensures { Writes W.taken W.failed sink.old sink.new (elected_name (elected_shown candidate.now)) result }
@@ -56,7 +56,7 @@ fn write_elected_name<W: Sink>(sink: &mut W, candidate: &(u32, String)) -> Resul
     write_line(sink, &[Piece::Text("<li>"), named, Piece::Text("</li>")])
 }
 
-/// Writes those who are elected.
+/// Writes the elected candidates.
 fn write_elected_names<W: Sink>(sink: &mut W, elected: &[(u32, String)]) -> Result<(), Broken>
     requires { W.failed sink.old < 2 ^ 64 - 1 }
     ensures { Writes W.taken W.failed sink.old sink.new (flat_map elected_name (map elected_shown elected.now)) result }
@@ -67,7 +67,7 @@ fn write_elected_names<W: Sink>(sink: &mut W, elected: &[(u32, String)]) -> Resu
     Ok(())
 }
 
-/// Writes the row of a ward, as far as those elected.
+/// Writes the row of a ward, up to the elected candidates.
 fn write_row_opening<W: Sink>(sink: &mut W, ward: &ListedWard) -> Result<(), Broken>
     requires { W.failed sink.old < 2 ^ 64 - 1 }
     ensures { Writes W.taken W.failed sink.old sink.new (row_opening (listed ward.now)) result }
@@ -136,11 +136,10 @@ fn write_index_heads<W: Sink>(sink: &mut W) -> Result<(), Broken>
     write_line(sink, &pieces)
 }
 
-/// Writes the page of all wards, one file of HTML: each with its seats, how it stands, and who is elected, once that is
-/// declared. An empty title is left out.
+/// Writes the page of all wards, as one HTML file: for each its seats, its status, and the elected candidates, once it is declared.
+/// An empty title is omitted.
 ///
-/// Takes no memory. `Broken` comes only from the sink, which has then taken a beginning of the page and
-/// counts one failure more.
+/// Allocates nothing. `Broken` comes only from the sink, which has then accepted a prefix of the page and counts one more failure.
 pub fn write_index<W: Sink>(sink: &mut W, title: &str, wards: &[ListedWard]) -> Result<(), Broken>
     requires { W.failed sink.old < 2 ^ 64 - 1 }
     ensures { Writes W.taken W.failed sink.old sink.new (index title.now (map listed wards.now)) result }

@@ -1,9 +1,9 @@
-//! The texts of a ward that people hold in their hands: stage sheets, declarations, ballots, pages and tables; and one
-//! page of all wards.
+//! The printed texts of a ward: stage sheets, declarations, ballots, pages and tables; and one page of all wards.
 //!
-//! A [`Ward`] has what they show of it, with its [`Poll`] if it is contested. [`write_sheet`], [`write_declaration`], [`write_ballots`]
-//! and [`write_page`] write them to a sink, and take no memory; [`sheet_text`] and the like give them as texts, [`spreadsheet_text`] the
-//! table. [`can_be_printed`] is the test of what all ask of a ward. [`write_index`] writes the page of all wards, each a [`ListedWard`].
+//! A [`Ward`] holds the data that they show, with its [`Poll`] if it is contested. [`write_sheet`], [`write_declaration`],
+//! [`write_ballots`] and [`write_page`] write them to a sink, and allocate nothing. [`sheet_text`] and the like return them as
+//! strings, and [`spreadsheet_text`] the table. [`can_be_printed`] tests the requirement that all of them share. [`write_index`]
+//! writes the page of all wards, each a [`ListedWard`].
 //!
 //! ```text
 //! let ward = Ward { number: 7, name: "Harbour", seats: 2, candidates: &candidates, poll: Some(poll) };
@@ -17,21 +17,21 @@ mod ballots;
 mod cells;
 mod chart;
 mod declaration;
+mod each_candidate;
 mod elected;
 mod escaping;
 mod fitness;
+mod heading_lines;
 mod index;
 mod line;
 mod look;
 mod lots;
-mod opening;
 mod page;
 mod sheets;
 mod spreadsheet;
 mod stage;
 mod table;
 mod texts;
-mod told;
 mod ward;
 
 pub use ballots::write_ballots;

@@ -9,7 +9,7 @@ ghost use Rattle.sheet.specs.Lines.{joined, line, number_column, right_in, span,
 ghost use Rattle.sheet.specs.Pieces.{piece_text};
 ghost use Rattle.sheet.specs.Writing.{Puts, Writes};
 
-use crate::escaping::write_plain;
+use crate::escaping::write_escaped;
 use count::Action;
 use itoa::Buffer;
 use streams::{Broken, Sink, put_all};
@@ -22,25 +22,25 @@ pub enum Piece<'a> {
     Number(u64),
     /// The text of a value.
     Value(Votes),
-    /// A candidate's number, right in 2 places.
+    /// A candidate's number, right-aligned in 2 columns.
     NumberColumn(u8),
-    /// The text of a value, right in 13 places.
+    /// The text of a value, right-aligned in 13 columns.
     ValueColumn(Votes),
-    /// Some stages by the numbers of the first and the last: `Stages 1 to 8`, `Stage 9`.
+    /// A range of stages by the numbers of the first and the last: `Stages 1 to 8`, `Stage 9`.
     Span(u64, u64),
-    /// What is done at a stage.
+    /// The action of a stage.
     Done(Action),
-    /// The same on a page, with the name of the candidate with whom it is done.
+    /// The same on a page, with the name of the candidate concerned.
     DoneWith(Action, &'a str),
-    /// The numbers of some candidates, each behind a space.
+    /// The numbers of some candidates, each after a space.
     Preferences(&'a [u8]),
     /// A text in quotation marks.
     Quoted(&'a str),
-    /// A text on a page, never markup.
+    /// A text on a page, escaped so that it is never markup.
     Escaped(&'a str),
     /// A candidate's or a ward's number and name, on a page.
     Named(u8, &'a str),
-    /// The same of a number that is wider, as the page of all wards has them.
+    /// The same with a larger number, for the page of all wards.
     Listed(u32, &'a str),
 }
 
@@ -61,7 +61,7 @@ fn write_spaces<W: Sink>(sink: &mut W, count: usize) -> Result<(), Broken>
     put_all(sink, &[b' '; 13][..count])
 }
 
-/// Writes a candidate's number, right in 2 places.
+/// Writes a candidate's number, right-aligned in 2 columns.
 fn write_number_column<W: Sink>(sink: &mut W, c: u8) -> Result<(), Broken>
     requires { W.failed sink.old < 2 ^ 64 - 1 }
     ensures { Writes W.taken W.failed sink.old sink.new (number_column c) result }
@@ -72,7 +72,7 @@ fn write_number_column<W: Sink>(sink: &mut W, c: u8) -> Result<(), Broken>
     write_text(sink, text)
 }
 
-/// How long the text of a value is: a point and five digits stand behind the whole votes.
+/// Returns the length of the text of a value: the whole votes, a point, and five digits.
 #[tactic(auto, using(crate::proofs::Utf8::utf8_texts))]
 fn value_length(value: Votes) -> usize
     ensures length { result ≡ length (votes_text value) }
@@ -81,7 +81,7 @@ fn value_length(value: Votes) -> usize
     Buffer::new().format(value.units() / 100000).len() + 6
 }
 
-/// Writes the text of a value, right in at most 13 places.
+/// Writes the text of a value, right-aligned in at most 13 columns.
 fn write_value<W: Sink>(sink: &mut W, places: usize, value: Votes) -> Result<(), Broken>
     requires few { places ≤ 13 }
     requires failures { W.failed sink.old < 2 ^ 64 - 1 }
@@ -91,7 +91,7 @@ fn write_value<W: Sink>(sink: &mut W, places: usize, value: Votes) -> Result<(),
     value.write(sink)
 }
 
-/// Writes the number of a candidate.
+/// Writes a candidate's number.
 pub fn write_number<W: Sink>(sink: &mut W, c: u8) -> Result<(), Broken>
     requires { W.failed sink.old < 2 ^ 64 - 1 }
     ensures { Writes W.taken W.failed sink.old sink.new (decimal c) result }
@@ -99,7 +99,7 @@ pub fn write_number<W: Sink>(sink: &mut W, c: u8) -> Result<(), Broken>
     write_text(sink, Buffer::new().format(c))
 }
 
-/// Writes some stages by the numbers of the first and the last.
+/// Writes a range of stages by the numbers of the first and the last.
 fn write_span<W: Sink>(sink: &mut W, first: u64, last: u64) -> Result<(), Broken>
     requires { W.failed sink.old < 2 ^ 64 - 1 }
     ensures { Writes W.taken W.failed sink.old sink.new (span first last) result }
@@ -114,7 +114,7 @@ fn write_span<W: Sink>(sink: &mut W, first: u64, last: u64) -> Result<(), Broken
     write_text(sink, Buffer::new().format(last))
 }
 
-/// Writes what is done with a candidate.
+/// Writes an action on a candidate.
 fn write_acted_on<W: Sink>(sink: &mut W, what: &str, c: u8) -> Result<(), Broken>
     requires { W.failed sink.old < 2 ^ 64 - 1 }
     ensures { Writes W.taken W.failed sink.old sink.new (what.now ++ decimal c) result }
@@ -123,7 +123,7 @@ fn write_acted_on<W: Sink>(sink: &mut W, what: &str, c: u8) -> Result<(), Broken
     write_number(sink, c)
 }
 
-/// Writes what is done at a stage.
+/// Writes the action of a stage.
 fn write_action<W: Sink>(sink: &mut W, action: Action) -> Result<(), Broken>
     requires { W.failed sink.old < 2 ^ 64 - 1 }
     ensures { Writes W.taken W.failed sink.old sink.new (action_text action) result }
@@ -139,7 +139,7 @@ fn write_action<W: Sink>(sink: &mut W, action: Action) -> Result<(), Broken>
     }
 }
 
-/// Writes the number of a candidate behind a space.
+/// Writes a candidate's number after a space.
 fn write_preference<W: Sink>(sink: &mut W, c: u8) -> Result<(), Broken>
     requires { W.failed sink.old < 2 ^ 64 - 1 }
     ensures { Writes W.taken W.failed sink.old sink.new (preference c) result }
@@ -148,7 +148,7 @@ fn write_preference<W: Sink>(sink: &mut W, c: u8) -> Result<(), Broken>
     write_number(sink, c)
 }
 
-/// Writes the numbers of some candidates, each behind a space.
+/// Writes the numbers of some candidates, each after a space.
 fn write_preferences<W: Sink>(sink: &mut W, list: &[u8]) -> Result<(), Broken>
     requires { W.failed sink.old < 2 ^ 64 - 1 }
     ensures { Writes W.taken W.failed sink.old sink.new (preferences list.now) result }
@@ -159,7 +159,7 @@ fn write_preferences<W: Sink>(sink: &mut W, list: &[u8]) -> Result<(), Broken>
     Ok(())
 }
 
-/// Puts a byte of a text in quotation marks.
+/// Puts a byte of a quoted text, escaped if necessary.
 fn put_escaped_byte<W: Sink>(sink: &mut W, byte: u8) -> Result<(), Broken>
     requires { W.failed sink.old < 2 ^ 64 - 1 }
     ensures { Puts W.taken W.failed sink.old sink.new (escaped byte) result }
@@ -170,7 +170,7 @@ fn put_escaped_byte<W: Sink>(sink: &mut W, byte: u8) -> Result<(), Broken>
     put_all(sink, &[byte])
 }
 
-/// Puts the bytes of a text in quotation marks.
+/// Puts the bytes of a quoted text.
 fn put_escaped<W: Sink>(sink: &mut W, bytes: &[u8]) -> Result<(), Broken>
     requires { W.failed sink.old < 2 ^ 64 - 1 }
     ensures { Puts W.taken W.failed sink.old sink.new (flat_map escaped bytes.now) result }
@@ -191,7 +191,7 @@ fn write_quoted<W: Sink>(sink: &mut W, text: &str) -> Result<(), Broken>
     write_text(sink, "\"")
 }
 
-/// Writes a number, whatever it is of.
+/// Writes any number.
 fn write_any_number<W: Sink>(sink: &mut W, number: u64) -> Result<(), Broken>
     requires { W.failed sink.old < 2 ^ 64 - 1 }
     ensures { Writes W.taken W.failed sink.old sink.new (decimal number) result }
@@ -206,11 +206,11 @@ fn write_named<W: Sink>(sink: &mut W, number: u64, name: &str) -> Result<(), Bro
 {
     write_any_number(sink, number)?;
     write_text(sink, " <bdi>")?;
-    write_plain(sink, name)?;
+    write_escaped(sink, name)?;
     write_text(sink, "</bdi>")
 }
 
-/// Writes what is done with a candidate, with his number and name, on a page.
+/// Writes an action on a candidate, with number and name, on a page.
 fn write_acted_on_named<W: Sink>(sink: &mut W, what: &str, c: u8, name: &str) -> Result<(), Broken>
     requires { W.failed sink.old < 2 ^ 64 - 1 }
     ensures { Writes W.taken W.failed sink.old sink.new (what.now ++ named c name.now) result }
@@ -219,7 +219,7 @@ fn write_acted_on_named<W: Sink>(sink: &mut W, what: &str, c: u8, name: &str) ->
     write_named(sink, u64::from(c), name)
 }
 
-/// Writes what is done at a stage, on a page, with the name of the candidate with whom it is done.
+/// Writes the action of a stage, on a page, with the name of the candidate concerned.
 fn write_action_named<W: Sink>(sink: &mut W, action: Action, name: &str) -> Result<(), Broken>
     requires { W.failed sink.old < 2 ^ 64 - 1 }
     ensures { Writes W.taken W.failed sink.old sink.new (action_named action name.now) result }
@@ -251,13 +251,13 @@ fn write_piece<W: Sink>(sink: &mut W, piece: &Piece) -> Result<(), Broken>
         Piece::DoneWith(action, name) => write_action_named(sink, *action, name),
         Piece::Preferences(list) => write_preferences(sink, list),
         Piece::Quoted(text) => write_quoted(sink, text),
-        Piece::Escaped(text) => write_plain(sink, text),
+        Piece::Escaped(text) => write_escaped(sink, text),
         Piece::Named(number, name) => write_named(sink, u64::from(*number), name),
         Piece::Listed(number, name) => write_named(sink, u64::from(*number), name),
     }
 }
 
-/// Writes these pieces, one after the other.
+/// Writes these pieces in order.
 pub fn write_pieces<W: Sink>(sink: &mut W, pieces: &[Piece]) -> Result<(), Broken>
     requires { W.failed sink.old < 2 ^ 64 - 1 }
     ensures { Writes W.taken W.failed sink.old sink.new (joined (map piece_text pieces.now)) result }

@@ -1,9 +1,9 @@
-//! How a page looks, on screen and in print: texts of its own, with nothing from elsewhere.
+//! The look of a page, on screen and in print, without external resources.
 
 ghost use Rattle.std.specs.Prelude.{◌≡◌};
 ghost use Rattle.sheet.specs.Look.{legend as legend_text, patterns as patterns_text, style as style_text};
 
-/// The style of a page.
+/// Returns the style of a page.
 pub fn style() -> &'static str
     ensures { result.now ≡ style_text }
 {
@@ -80,7 +80,7 @@ tr, .sign { break-inside: avoid; }
 "
 }
 
-/// Once for all bars of a page: the pattern of what was gained after the first stage.
+/// Returns the pattern, shared by all bars of a page, for the votes gained after the first stage.
 pub fn patterns() -> &'static str
     ensures { result.now ≡ patterns_text }
 {
@@ -91,7 +91,7 @@ pub fn patterns() -> &'static str
 <rect width=\"1.6\" height=\"4\" fill=\"#000\"/></pattern></defs></svg>"
 }
 
-/// What the bars of a chart mean, up to the quota.
+/// Returns the legend of a chart's bars, up to the quota.
 pub fn legend() -> &'static str
     ensures { result.now ≡ legend_text }
 {

@@ -15,42 +15,42 @@ ghost use Rattle.sheet.specs.Lots.{settled_at as settled_in, settled_by as settl
 ghost use Rattle.sheet.specs.Writing.{Writes};
 
 use crate::ballots::name_or_withdrawn;
+use crate::each_candidate::{OfCandidate, write_each};
 use crate::line::{Piece, write_line, write_pieces};
 use crate::stage::{is_excluded_at, votes_of};
-use crate::told::{OfCandidate, write_each};
 use crate::ward::Ward;
 use count::{Action, Stage};
 use streams::{Broken, Sink};
 
-/// Whether the votes of two candidates were equal at each of some stages.
+/// Returns whether two candidates had equal votes at each of these stages.
 fn are_equal_at(stages: &[Stage], c: u8, d: u8) -> bool
     ensures { result ≡ are_equal_over stages.now c d }
 {
     stages.iter().all(|stage| votes_of(stage, c).units() == votes_of(stage, d).units())
 }
 
-/// Whether a candidate was tied with the one whom a lot named.
+/// Returns whether a candidate was tied with the one drawn by a lot.
 fn is_tied(earlier: &[Stage], c: u8, d: u8) -> bool
     ensures { result ≡ is_tied_with earlier.now c d }
 {
     !is_excluded_at(earlier, d) && are_equal_at(earlier, c, d)
 }
 
-/// Whether one of the tied has a lower number than a candidate.
+/// Returns whether a tied candidate has a lower number than a candidate.
 fn has_tied_below(candidates: &[(u8, String)], earlier: &[Stage], c: u8, d: u8) -> bool
     ensures { result ≡ tied_below_of candidates.now earlier.now c d }
 {
     candidates.iter().any(|candidate| candidate.0 < d && is_tied(earlier, c, candidate.0))
 }
 
-/// Whether one of the tied has a higher number than a candidate.
+/// Returns whether a tied candidate has a higher number than a candidate.
 fn has_tied_above(candidates: &[(u8, String)], earlier: &[Stage], c: u8, d: u8) -> bool
     ensures { result ≡ tied_above_of candidates.now earlier.now c d }
 {
     candidates.iter().any(|candidate| d < candidate.0 && is_tied(earlier, c, candidate.0))
 }
 
-/// What stands before one of the tied.
+/// Returns the separator before the name of a tied candidate.
 fn tie_mark(has_below: bool, has_above: bool) -> &'static str
     ensures { result.now ≡ mark_of has_below has_above }
 {
@@ -60,7 +60,7 @@ fn tie_mark(has_below: bool, has_above: bool) -> &'static str
     if has_above { ", " } else { " and " }
 }
 
-/// A candidate who was tied with the one whom a lot named.
+/// The name of a candidate, if tied with the one drawn by a lot.
 #[derive(Clone, Copy)]
 struct TiedName<'a> {
     candidates: &'a [(u8, String)],
@@ -83,14 +83,13 @@ impl<'a> OfCandidate for TiedName<'a> {
     }
 }
 
-/// The law of those whom a page names beside a lot, for its callers: they are the candidates of whom the count says
-/// that they are tied.
+/// The law of the tied candidates that a page names with a lot, for its callers: they are those who are tied according to the count.
 pub fn ties_are_of_the_count()
     ensures { (contest : Contest) (handed : History → Stage → Option ℕ) (stages : History) (k c : ℕ) (kind : TiedFor) (tied : List ℕ) → IsContest contest → AreRankings contest.papers
         → IsRightBy contest handed stages → due_after contest stages ≡ Lot k kind tied → In c tied → filter (is_tied_with (reverse stages) c) contest.candidates ≡ tied }
 {}
 
-/// What a lot settled, by what was done at its stage.
+/// Returns what a lot decided, by the action of its stage.
 fn settled_by(action: Action) -> &'static str
     ensures { result.now ≡ settled_with action }
 {
@@ -102,7 +101,7 @@ fn settled_by(action: Action) -> &'static str
     }
 }
 
-/// What the lot for a stage settled, if that stage is done.
+/// Returns what the lot for a stage decided, if that stage is done.
 fn settled_at(stages: &[Stage], k: u8) -> &'static str
     ensures { result.now ≡ settled_in (slice_get stages.now (k - 1)) }
 {
@@ -112,7 +111,7 @@ fn settled_at(stages: &[Stage], k: u8) -> &'static str
     }
 }
 
-/// The stages before the one of a number.
+/// Returns the stages before the one with a number.
 fn stages_before(stages: &[Stage], k: u8) -> &[Stage]
     ensures { result.now ≡ take (k - 1) stages.now }
 {
@@ -124,7 +123,7 @@ fn stages_before(stages: &[Stage], k: u8) -> &[Stage]
     }
 }
 
-/// Writes a lot: at which stage, among whom, and what it settled.
+/// Writes a lot: its stage, the tied candidates, and what it decided.
 fn write_lot_item<W: Sink>(
     sink: &mut W,
     ward: &Ward,
@@ -155,7 +154,7 @@ fn write_lot_item<W: Sink>(
     write_line(sink, &end)
 }
 
-/// Writes the lots, one after the other.
+/// Writes the lots in order.
 fn write_lot_items<W: Sink>(
     sink: &mut W,
     ward: &Ward,
@@ -171,7 +170,7 @@ fn write_lot_items<W: Sink>(
     Ok(())
 }
 
-/// Writes the lots that were drawn.
+/// Writes the lots drawn.
 pub fn write_lots<W: Sink>(
     sink: &mut W,
     ward: &Ward,

@@ -1,4 +1,4 @@
-//! The page that shows the result of a ward, to hang up, to print and to sign.
+//! The page with the result of a ward, for display, print and signature.
 
 ghost use Rattle.std.specs.Prelude.{◌≡◌, ◌-◌, ◌^◌, ◌<◌, ◌≤◌};
 ghost use Rattle.votes.specs.Units.{max_papers, max_seats};
@@ -21,7 +21,7 @@ use votes::quota;
 
 // ---- the head
 
-/// Writes a title, where it isn't empty.
+/// Writes a title, unless it is empty.
 pub fn write_title<W: Sink>(sink: &mut W, title: &str) -> Result<(), Broken>
     requires { W.failed sink.old < 2 ^ 64 - 1 }
     ensures { Writes W.taken W.failed sink.old sink.new (title_line title.now) result }
@@ -37,7 +37,7 @@ pub fn write_title<W: Sink>(sink: &mut W, title: &str) -> Result<(), Broken>
     write_line(sink, &pieces)
 }
 
-/// Whether the result is declared, in words.
+/// Returns the note that says whether the result is declared.
 fn note(is_declared: bool) -> &'static str
     ensures { result.now ≡ note_of is_declared }
 {
@@ -48,7 +48,7 @@ fn note(is_declared: bool) -> &'static str
     }
 }
 
-/// Writes the document's head, and the line that stands on each printed sheet.
+/// Writes the document's head, and the line for the top of each printed sheet.
 fn write_opening<W: Sink>(sink: &mut W, ward: &Ward) -> Result<(), Broken>
     requires { W.failed sink.old < 2 ^ 64 - 1 }
     ensures { Writes W.taken W.failed sink.old sink.new (opening_of (shown ward.now)) result }
@@ -69,7 +69,7 @@ fn write_opening<W: Sink>(sink: &mut W, ward: &Ward) -> Result<(), Broken>
     write_line(sink, &pieces)
 }
 
-/// Writes the number and the name of the ward, and how its result stands.
+/// Writes the number and the name of the ward, and the status of its result.
 fn write_ward_heading<W: Sink>(sink: &mut W, ward: &Ward, is_declared: bool) -> Result<(), Broken>
     requires { W.failed sink.old < 2 ^ 64 - 1 }
     ensures { Writes W.taken W.failed sink.old sink.new (ward_heading (shown ward.now) is_declared) result }
@@ -83,7 +83,7 @@ fn write_ward_heading<W: Sink>(sink: &mut W, ward: &Ward, is_declared: bool) -> 
     write_line(sink, &pieces)
 }
 
-/// Writes all that stands above the result.
+/// Writes everything before the result.
 fn write_page_head<W: Sink>(
     sink: &mut W,
     ward: &Ward,
@@ -98,9 +98,9 @@ fn write_page_head<W: Sink>(
     write_ward_heading(sink, ward, is_declared)
 }
 
-// ---- what the result rests on
+// ---- what the result is based on
 
-/// The rejected papers of all codes.
+/// Returns the total number of rejected papers.
 fn rejected_in_all(rejected: &[u32; 5]) -> u64
     ensures is { result ≡ in_all rejected.now }
     ensures few { result ≤ 2 ^ 35 }
@@ -112,7 +112,7 @@ fn rejected_in_all(rejected: &[u32; 5]) -> u64
         + u64::from(rejected[4])
 }
 
-/// Writes the seats, the papers and the quota.
+/// Writes the numbers of seats and papers, and the quota.
 fn write_papers_table<W: Sink>(sink: &mut W, seats: u8, poll: &Poll) -> Result<(), Broken>
     requires some_seats { 1 ≤ seats }
     requires few_seats { seats ≤ max_seats }
@@ -174,7 +174,7 @@ fn write_uncontested<W: Sink>(sink: &mut W, seats: u8) -> Result<(), Broken>
     write_line(sink, &pieces)
 }
 
-/// Writes the stages, as a chart of all of them, and as tables.
+/// Writes the stages, both as a chart and as tables.
 fn write_stages_part<W: Sink>(
     sink: &mut W,
     ward: &Ward,
@@ -196,7 +196,7 @@ fn write_stages_part<W: Sink>(
     write_tables(sink, ward, stages)
 }
 
-/// Writes what the result of a ward rests on: its papers, the lots and the stages.
+/// Writes what the result of a ward is based on: its papers, the lots and the stages.
 fn write_grounds<W: Sink>(
     sink: &mut W,
     ward: &Ward,
@@ -217,7 +217,7 @@ fn write_grounds<W: Sink>(
 
 // ---- the foot
 
-/// Writes once more the ward and who is elected, and below them the lines for the date and three signatures.
+/// Writes the ward and its elected candidates, with lines below them for the date and three signatures.
 fn write_signatures<W: Sink>(sink: &mut W, ward: &Ward, stages: &[Stage]) -> Result<(), Broken>
     requires { W.failed sink.old < 2 ^ 64 - 1 }
     ensures { Writes W.taken W.failed sink.old sink.new (signatures (shown ward.now) stages.now) result }
@@ -235,7 +235,7 @@ fn write_signatures<W: Sink>(sink: &mut W, ward: &Ward, stages: &[Stage]) -> Res
     )
 }
 
-/// Writes the foot of the page, where it is declared with a place to sign.
+/// Writes the foot of the page, with a place to sign if the result is declared.
 fn write_foot<W: Sink>(
     sink: &mut W,
     ward: &Ward,
@@ -251,12 +251,11 @@ fn write_foot<W: Sink>(
     write_text(sink, "</body>\n</html>\n")
 }
 
-/// Writes the page of a ward, one file of HTML. It has its title, who is elected, its papers, the lots that were drawn (a stage
-/// and a candidate each), and its stages as a chart and as tables; and, where the ward is declared, lines to sign on. An empty
-/// title is left out. Of an uncontested ward no stage and no lot is read.
+/// Writes the page of a ward, as one HTML file. It shows the title, the elected candidates, the papers, the lots drawn (each as a
+/// stage and a candidate), and the stages as a chart and as tables; and, if the ward is declared, lines to sign on. An empty title is
+/// omitted. For an uncontested ward no stage and no lot is read.
 ///
-/// Takes no memory. `Broken` comes only from the sink, which has then taken a beginning of the page and
-/// counts one failure more.
+/// Allocates nothing. `Broken` comes only from the sink, which has then accepted a prefix of the page and counts one more failure.
 pub fn write_page<W: Sink>(
     sink: &mut W,
     ward: &Ward,

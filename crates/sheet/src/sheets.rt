@@ -6,7 +6,7 @@ ghost use Rattle.sheet.specs.Sheet.{stages_text, below_ward, sheet};
 ghost use Rattle.sheet.specs.Wards.{CanBePrinted};
 ghost use Rattle.sheet.specs.Writing.{Writes};
 
-use crate::opening::{
+use crate::heading_lines::{
     write_rejected_line, write_seats_line, write_uncontested_line, write_ward_line,
 };
 use crate::stage::write_stage;
@@ -25,7 +25,7 @@ fn write_stages<W: Sink>(sink: &mut W, ward: &Ward, stages: &[Stage]) -> Result<
     Ok(())
 }
 
-/// Writes what stands below the ward's line.
+/// Writes everything after the ward's line.
 fn write_below_ward<W: Sink>(sink: &mut W, ward: &Ward, stages: &[Stage]) -> Result<(), Broken>
     requires ward { CanBePrinted ward.now }
     requires failures { W.failed sink.old < 2 ^ 64 - 1 }
@@ -39,11 +39,10 @@ fn write_below_ward<W: Sink>(sink: &mut W, ward: &Ward, stages: &[Stage]) -> Res
     write_stages(sink, ward, stages)
 }
 
-/// Writes the stage sheet of a ward: its number and name, its seats and papers, and each stage with
-/// a line for each candidate. Of an uncontested ward no stage is read.
+/// Writes the stage sheet of a ward: its number and name, its seats and papers, and each stage with one line per candidate. For an
+/// uncontested ward no stage is read.
 ///
-/// Takes no memory. `Broken` comes only from the sink, which has then taken a beginning of the sheet
-/// and counts one failure more.
+/// Allocates nothing. `Broken` comes only from the sink, which has then accepted a prefix of the sheet and counts one more failure.
 pub fn write_sheet<W: Sink>(sink: &mut W, ward: &Ward, stages: &[Stage]) -> Result<(), Broken>
     requires ward { CanBePrinted ward.now }
     requires failures { W.failed sink.old < 2 ^ 64 - 1 }

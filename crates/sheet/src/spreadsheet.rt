@@ -18,7 +18,7 @@ use csv::{QuoteStyle, WriterBuilder};
 use std::alloc::{AllocError, Global};
 use votes::Votes;
 
-/// How a candidate stands once a stage is done, in a word.
+/// Returns the standing of a candidate after a stage, in one word.
 fn standing_word(fate: Fate) -> &'static str
     ensures { result.now ≡ standing_word_of fate }
 {
@@ -29,19 +29,19 @@ fn standing_word(fate: Fate) -> &'static str
     }
 }
 
-/// What a row of the table shows.
+/// The subject of a row of the table.
 #[derive(Clone, Copy)]
 enum Line {
-    /// The votes of the candidate of a number.
+    /// The votes of the candidate with this number.
     Candidate(u8),
-    /// The running sum of what is not transferable.
+    /// The running total of the non-transferable.
     NonTransferable,
-    /// The running sum of what is lost by fractions.
+    /// The running total of the loss by fractions.
     Lost,
 }
 
 impl Line {
-    /// The value of the line at a stage.
+    /// Returns the value of the line at a stage.
     fn value_in(self, stage: &Stage) -> Votes
         ensures { result ≡ value_in_of self stage.now }
     {
@@ -52,7 +52,7 @@ impl Line {
         }
     }
 
-    /// Its value at the last of some stages, none before the first.
+    /// Returns its value at the last of some stages; none before the first.
     fn value_before(self, earlier: &[Stage]) -> Votes
         ensures { result ≡ value_before_of self earlier.now }
     {
@@ -62,7 +62,7 @@ impl Line {
         }
     }
 
-    /// How a candidate stands once a stage is done.
+    /// Returns the standing of a candidate after a stage.
     fn standing(self, earlier: &[Stage], stage: &Stage) -> &'static str
         ensures { result.now ≡ standing_of self earlier.now stage.now }
     {
@@ -73,14 +73,14 @@ impl Line {
     }
 }
 
-/// One value less another, and none where that is more.
+/// Returns the difference of two values, or none if it is negative.
 fn less(value: Votes, other: Votes) -> Votes
     ensures { result ≡ value - other }
 {
     Votes::from_units(value.units().saturating_sub(other.units()))
 }
 
-/// Adds a cell.
+/// Appends a cell; `AllocError` if an allocation fails.
 fn push_text(alloc: Global, row: &mut Vec<String>, text: &str) -> Result<(), AllocError>
     ensures { OnOk result (map string_bytes row.new.items ≡ map string_bytes row.old.items ++ text.now ∷ []) }
 {
@@ -88,7 +88,7 @@ fn push_text(alloc: Global, row: &mut Vec<String>, text: &str) -> Result<(), All
     Ok(())
 }
 
-/// Adds the cell of a value.
+/// Appends the cell of a value; `AllocError` if an allocation fails.
 fn push_value(alloc: Global, row: &mut Vec<String>, value: Votes) -> Result<(), AllocError>
     ensures { OnOk result (map string_bytes row.new.items ≡ map string_bytes row.old.items ++ votes_text value ∷ []) }
 {
@@ -96,7 +96,7 @@ fn push_value(alloc: Global, row: &mut Vec<String>, value: Votes) -> Result<(), 
     Ok(())
 }
 
-/// Adds the cells of a line at a stage.
+/// Appends the cells of a line at a stage; `AllocError` if an allocation fails.
 fn push_cells(
     alloc: Global,
     row: &mut Vec<String>,
@@ -114,7 +114,7 @@ fn push_cells(
     push_text(alloc, row, line.standing(earlier, stage))
 }
 
-/// Adds the cells of a line at all stages.
+/// Appends the cells of a line at all stages; `AllocError` if an allocation fails.
 fn push_all_cells(
     alloc: Global,
     row: &mut Vec<String>,
@@ -129,7 +129,7 @@ fn push_all_cells(
     Ok(())
 }
 
-/// Adds the heads of a stage's columns.
+/// Appends the column heads of a stage; `AllocError` if an allocation fails.
 fn push_heads(
     alloc: Global,
     row: &mut Vec<String>,
@@ -147,7 +147,7 @@ fn push_heads(
     Ok(())
 }
 
-/// Adds the heads of all stages' columns.
+/// Appends the column heads of all stages; `AllocError` if an allocation fails.
 fn push_all_heads(alloc: Global, row: &mut Vec<String>, stages: &[Stage]) -> Result<(), AllocError>
     ensures { OnOk result (map string_bytes row.new.items ≡ map string_bytes row.old.items ++ each_after stage_heads [] stages.now) }
 {
@@ -157,7 +157,7 @@ fn push_all_heads(alloc: Global, row: &mut Vec<String>, stages: &[Stage]) -> Res
     Ok(())
 }
 
-/// The row of heads.
+/// Returns the row of heads; `AllocError` if an allocation fails.
 fn head_row(alloc: Global, stages: &[Stage]) -> Result<Vec<String>, AllocError>
     ensures { IfOk result (λ row. map string_bytes row.items ≡ head_row_of stages.now) }
 {
@@ -168,14 +168,14 @@ fn head_row(alloc: Global, stages: &[Stage]) -> Result<Vec<String>, AllocError>
     Ok(row)
 }
 
-/// Whether a spreadsheet takes a cell for a formula that begins with a byte.
+/// Returns whether a spreadsheet reads a cell with this first byte as a formula.
 fn begins_formula(byte: u8) -> bool
     ensures { result ≡ begins_formula_of byte }
 {
     byte == b'=' || byte == b'+' || byte == b'-' || byte == b'@' || byte == 0xEF
 }
 
-/// A name as a cell that isn't taken for a formula.
+/// Returns a name as a cell that isn't read as a formula; `AllocError` if an allocation fails.
 fn name_cell(alloc: Global, name: &str) -> Result<String, AllocError>
     ensures { IfOk result (λ cell. string_bytes cell ≡ name_cell_of name.now) }
 {
@@ -185,7 +185,7 @@ fn name_cell(alloc: Global, name: &str) -> Result<String, AllocError>
     }
 }
 
-/// The row of a candidate, by his number and his name.
+/// Returns the row of a candidate, by number and name; `AllocError` if an allocation fails.
 fn candidate_row(
     alloc: Global,
     stages: &[Stage],
@@ -201,7 +201,7 @@ fn candidate_row(
     Ok(row)
 }
 
-/// The row of a running sum.
+/// Returns the row of a running total; `AllocError` if an allocation fails.
 fn sum_row(
     alloc: Global,
     stages: &[Stage],
@@ -217,7 +217,7 @@ fn sum_row(
     Ok(row)
 }
 
-/// The cells of a row as bytes.
+/// Returns the cells of a row as bytes; `AllocError` if an allocation fails.
 fn fields_of<'a>(alloc: Global, row: &'a [String]) -> Result<Vec<&'a [u8]>, AllocError>
     ensures { IfOk result (λ fields. map (λ field. field.now) fields.items ≡ map string_bytes row.now) }
 {
@@ -228,7 +228,7 @@ fn fields_of<'a>(alloc: Global, row: &'a [String]) -> Result<Vec<&'a [u8]>, Allo
     Ok(fields)
 }
 
-/// The line of a row.
+/// Returns the line of a row.
 fn line_of(alloc: Global, fields: &[&[u8]]) -> Result<Vec<u8>, csv::Error>
     ensures { IfOk result (λ line. line.items ≡ row_text writer (map (λ field. field.now) fields.now)) }
 {
@@ -242,7 +242,7 @@ fn line_of(alloc: Global, fields: &[&[u8]]) -> Result<Vec<u8>, csv::Error>
     }
 }
 
-/// Adds the line of a row. A writer in memory fails for want of it alone.
+/// Appends the line of a row. A writer to memory fails only if an allocation fails.
 #[tactic(auto, using(crate::proofs::Rows::rows))]
 fn push_row(alloc: Global, text: &mut String, row: &[String]) -> Result<(), AllocError>
     ensures { OnOk result (string_bytes text.new ≡ string_bytes text.old ++ row_text writer (map string_bytes row.now)) }
@@ -254,7 +254,7 @@ fn push_row(alloc: Global, text: &mut String, row: &[String]) -> Result<(), Allo
     }
 }
 
-/// Adds the rows of all candidates.
+/// Appends the rows of all candidates; `AllocError` if an allocation fails.
 fn push_candidate_rows(
     alloc: Global,
     text: &mut String,
@@ -269,10 +269,10 @@ fn push_candidate_rows(
     Ok(())
 }
 
-/// The stages of a ward as a table for a spreadsheet, in comma-separated values. It has a row a candidate, each with his votes at each
-/// stage, what he gained and lost at it, and how he then stood; and below them the running sums. Of an uncontested ward it shows no stage.
+/// Returns the stages of a ward as a table for a spreadsheet, in comma-separated values. It has one row per candidate, with the
+/// votes, gain, loss and standing at each stage, followed by the running totals. For an uncontested ward it shows no stage.
 ///
-/// The only error is want of memory.
+/// The only error is a failed allocation.
 pub fn spreadsheet_text(alloc: Global, ward: &Ward, stages: &[Stage]) -> Result<String, AllocError>
     requires { CanBePrinted ward.now }
     ensures { IfOk result (λ text. string_bytes text ≡ spreadsheet (shown ward.now) stages.now) }

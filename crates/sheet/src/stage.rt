@@ -7,29 +7,29 @@ ghost use Rattle.sheet.specs.Stages.{is_elected_at as is_elected_of, is_excluded
 ghost use Rattle.sheet.specs.Sheet.{stage_text};
 ghost use Rattle.sheet.specs.Writing.{Writes};
 
+use crate::each_candidate::{OfCandidate, write_each};
 use crate::line::{Piece, write_line};
-use crate::told::{OfCandidate, write_each};
 use crate::ward::Ward;
 use count::{Action, Stage};
 use streams::{Broken, Sink};
 use votes::Votes;
 
-/// How a candidate stands at a stage.
+/// The standing of a candidate at a stage.
 #[derive(Clone, Copy)]
 pub enum Fate {
-    /// He is elected at it.
+    /// The candidate is elected at this stage.
     NewlyElected,
-    /// He was elected at an earlier one.
+    /// The candidate was elected at an earlier stage.
     Elected,
-    /// He is excluded at it.
+    /// The candidate is excluded at this stage.
     NewlyExcluded,
-    /// He was excluded at an earlier one.
+    /// The candidate was excluded at an earlier stage.
     Excluded,
     /// None of these.
     Continuing,
 }
 
-/// Writes what is done at the stage of a number.
+/// Writes the number of a stage, and its action.
 fn write_heading<W: Sink>(sink: &mut W, k: u64, action: Action) -> Result<(), Broken>
     requires { W.failed sink.old < 2 ^ 64 - 1 }
     ensures { Writes W.taken W.failed sink.old sink.new (heading k action) result }
@@ -43,21 +43,21 @@ fn write_heading<W: Sink>(sink: &mut W, k: u64, action: Action) -> Result<(), Br
     write_line(sink, &pieces)
 }
 
-/// Whether a candidate is newly elected at one of some stages.
+/// Returns whether a candidate is newly elected at one of some stages.
 pub fn is_elected_at(stages: &[Stage], c: u8) -> bool
     ensures { result ≡ is_elected_of stages.now c }
 {
     stages.iter().any(|stage| stage.elected.has(c))
 }
 
-/// Whether a candidate is excluded at one of some stages.
+/// Returns whether a candidate is excluded at one of some stages.
 pub fn is_excluded_at(stages: &[Stage], c: u8) -> bool
     ensures { result ≡ is_excluded_of stages.now c }
 {
     stages.iter().any(|stage| stage.action.excludes(c))
 }
 
-/// How a candidate stands at a stage after earlier ones.
+/// Returns the standing of a candidate at a stage after earlier ones.
 pub fn fate_at(earlier: &[Stage], stage: &Stage, c: u8) -> Fate
     ensures { result ≡ fate_of earlier.now stage.now c }
 {
@@ -76,8 +76,8 @@ pub fn fate_at(earlier: &[Stage], stage: &Stage, c: u8) -> Fate
     Fate::Continuing
 }
 
-/// The letter of a candidate: `E` elected at the stage, `e` elected at an earlier one, `x` excluded at it or
-/// earlier, `-` else.
+/// Returns a candidate's letter: `E` elected at this stage, `e` elected at an earlier stage, `x` excluded at this or an earlier
+/// stage, `-` otherwise.
 fn letter(fate: Fate) -> &'static str
     ensures { result.now ≡ letter_of fate }
 {
@@ -89,7 +89,7 @@ fn letter(fate: Fate) -> &'static str
     }
 }
 
-/// The votes of a candidate at a stage.
+/// Returns the votes of a candidate at a stage.
 pub fn votes_of(stage: &Stage, c: u8) -> Votes
     ensures { result ≡ votes_at stage.now c }
 {
@@ -124,7 +124,7 @@ impl<'a> OfCandidate for CandidateLine<'a> {
     }
 }
 
-/// Writes a running sum of a stage and what it sums up.
+/// Writes a running total of a stage, and its label.
 fn write_sum_line<W: Sink>(sink: &mut W, sum: Votes, what: &str) -> Result<(), Broken>
     requires { W.failed sink.old < 2 ^ 64 - 1 }
     ensures { Writes W.taken W.failed sink.old sink.new (sum_line sum what.now) result }
@@ -138,7 +138,7 @@ fn write_sum_line<W: Sink>(sink: &mut W, sum: Votes, what: &str) -> Result<(), B
     write_line(sink, &pieces)
 }
 
-/// Writes the running sums of a stage.
+/// Writes the running totals of a stage.
 fn write_sum_lines<W: Sink>(sink: &mut W, stage: &Stage) -> Result<(), Broken>
     requires { W.failed sink.old < 2 ^ 64 - 1 }
     ensures { Writes W.taken W.failed sink.old sink.new (sum_lines stage.now) result }

@@ -1,4 +1,4 @@
-//! The tables of the stages, eight in each.
+//! The tables of the stages, eight stages per table.
 
 ghost use Rattle.std.specs.Prelude.{◌≡◌, ◌-◌, ◌+◌, ◌^◌, ◌<◌, length, take};
 ghost use Rattle.sheet.specs.Entries.{shown};
@@ -6,13 +6,13 @@ ghost use Rattle.sheet.specs.Table.{candidate_row, head_row, sum_rows, table, ta
 ghost use Rattle.sheet.specs.Writing.{Writes};
 
 use crate::cells::{Cell, write_row};
+use crate::each_candidate::{OfCandidate, write_each};
 use crate::line::Piece;
-use crate::told::{OfCandidate, write_each};
 use crate::ward::Ward;
 use count::Stage;
 use streams::{Broken, Sink};
 
-/// A block of stages of a ward: those from a place on.
+/// A block of stages of a ward, starting at a place.
 #[derive(Clone, Copy)]
 struct Block<'a> {
     ward: &'a Ward<'a>,
@@ -21,7 +21,7 @@ struct Block<'a> {
     ghost within: { place < length stages.now },
 }
 
-/// Writes the heads of a table's columns, with its caption.
+/// Writes the column heads of a table, with its caption.
 fn write_head_row<W: Sink>(sink: &mut W, block: &Block) -> Result<(), Broken>
     requires { W.failed sink.old < 2 ^ 64 - 1 }
     ensures { Writes W.taken W.failed sink.old sink.new (head_row (shown block.now.ward.now) block.now.place block.now.stages.now) result }
@@ -66,7 +66,7 @@ impl<'a> OfCandidate for CandidateCells<'a> {
     }
 }
 
-/// Writes the rows of the running sums, and the table's end.
+/// Writes the rows of the running totals, and the end of the table.
 fn write_sum_rows<W: Sink>(sink: &mut W, block: &Block) -> Result<(), Broken>
     requires { W.failed sink.old < 2 ^ 64 - 1 }
     ensures { Writes W.taken W.failed sink.old sink.new (sum_rows block.now.place block.now.stages.now) result }
@@ -89,7 +89,7 @@ fn write_table<W: Sink>(sink: &mut W, block: &Block) -> Result<(), Broken>
     write_sum_rows(sink, block)
 }
 
-/// The stages up to the eighth from a place on, or all where fewer are left.
+/// Returns the stages up to the eighth after a place, or all if there are fewer.
 fn up_to_eighth(stages: &[Stage], place: usize) -> &[Stage]
     ensures { result.now ≡ take (place + 8) stages.now }
 {
@@ -100,7 +100,7 @@ fn up_to_eighth(stages: &[Stage], place: usize) -> &[Stage]
     }
 }
 
-/// Writes a table at each eighth place.
+/// Writes a table if the place is a multiple of eight.
 fn write_table_at<W: Sink>(
     sink: &mut W,
     ward: &Ward,
@@ -123,7 +123,7 @@ fn write_table_at<W: Sink>(
     write_table(sink, &block)
 }
 
-/// Writes the tables of all stages, eight in each.
+/// Writes the tables of all stages, eight stages per table.
 pub fn write_tables<W: Sink>(sink: &mut W, ward: &Ward, stages: &[Stage]) -> Result<(), Broken>
     requires { W.failed sink.old < 2 ^ 64 - 1 }
     ensures { Writes W.taken W.failed sink.old sink.new (tables (shown ward.now) stages.now) result }

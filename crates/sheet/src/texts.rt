@@ -1,4 +1,4 @@
-//! The stage sheet, the declaration, the ballots, the page and the index of wards as texts in memory.
+//! The stage sheet, the declaration, the ballots, the page and the index of wards as strings.
 
 ghost use Rattle.std.specs.Prelude.{◌≡◌, [], map, Some, IfOk, string_bytes};
 ghost use Rattle.std.specs.Str.{IsUtf8};
@@ -20,7 +20,7 @@ use paper::Columns;
 use std::alloc::{AllocError, Global};
 use streams::{Broken, Sink};
 
-/// A sink in memory, which fails where its growth is refused.
+/// A sink in memory, which fails if an allocation fails.
 #[derive(Drop)]
 struct InMemory {
     text: Vec<u8>,
@@ -28,7 +28,7 @@ struct InMemory {
 }
 
 impl InMemory {
-    /// A sink that has taken nothing. Takes no memory.
+    /// Returns an empty sink. Allocates nothing.
     fn new(alloc: Global) -> InMemory
         ensures text { result.text.items ≡ [] }
         ensures none { result.failed ≡ 0 }
@@ -39,7 +39,7 @@ impl InMemory {
         }
     }
 
-    /// What it has taken.
+    /// Returns the text that was written.
     fn into_text(self) -> String
         requires { IsUtf8 self.text.items }
         ensures { string_bytes result ≡ self.text.items }
@@ -68,9 +68,9 @@ impl Sink for InMemory {
     }
 }
 
-/// The stage sheet of a ward, as [`write_sheet`] writes it.
+/// Returns the stage sheet of a ward, as written by [`write_sheet`].
 ///
-/// The only error is want of memory.
+/// The only error is a failed allocation.
 pub fn sheet_text(alloc: Global, ward: &Ward, stages: &[Stage]) -> Result<String, AllocError>
     requires { CanBePrinted ward.now }
     ensures { IfOk result (λ text. string_bytes text ≡ sheet (shown ward.now) stages.now) }
@@ -82,9 +82,9 @@ pub fn sheet_text(alloc: Global, ward: &Ward, stages: &[Stage]) -> Result<String
     }
 }
 
-/// The declaration of a ward, as [`write_declaration`] writes it.
+/// Returns the declaration of a ward, as written by [`write_declaration`].
 ///
-/// The only error is want of memory.
+/// The only error is a failed allocation.
 pub fn declaration_text(alloc: Global, ward: &Ward, elected: Columns) -> Result<String, AllocError>
     requires { CanBePrinted ward.now }
     ensures { IfOk result (λ text. string_bytes text ≡ declaration (shown ward.now) elected) }
@@ -96,9 +96,9 @@ pub fn declaration_text(alloc: Global, ward: &Ward, elected: Columns) -> Result<
     }
 }
 
-/// The ballots of a ward, as [`write_ballots`] writes them.
+/// Returns the ballots of a ward, as written by [`write_ballots`].
 ///
-/// The only error is want of memory.
+/// The only error is a failed allocation.
 pub fn ballots_text(
     alloc: Global,
     ward: &Ward,
@@ -115,9 +115,9 @@ pub fn ballots_text(
     }
 }
 
-/// The page of a ward, as [`write_page`] writes it.
+/// Returns the page of a ward, as written by [`write_page`].
 ///
-/// The only error is want of memory.
+/// The only error is a failed allocation.
 pub fn page_text(
     alloc: Global,
     ward: &Ward,
@@ -136,9 +136,9 @@ pub fn page_text(
     }
 }
 
-/// The page of all wards, as [`write_index`] writes it.
+/// Returns the page of all wards, as written by [`write_index`].
 ///
-/// The only error is want of memory.
+/// The only error is a failed allocation.
 pub fn index_text(alloc: Global, title: &str, wards: &[ListedWard]) -> Result<String, AllocError>
     ensures { IfOk result (λ text. string_bytes text ≡ index title.now (map listed wards.now)) }
 {

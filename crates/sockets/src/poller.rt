@@ -318,7 +318,7 @@ impl Poller {
         }
     }
 
-    /// Has the next wait report each listener with a pending connection, even if it was reported before.
+    /// Registers the listeners anew, so that the next wait reports each with a pending connection, even one reported before.
     fn watch_anew(&mut self) -> io::Result<()>
         ensures clients { clients_of self.new ≡ clients_of self.old }
         ensures orders { orders_of self.new ≡ orders_of self.old }
@@ -334,8 +334,8 @@ impl Poller {
         Ok(())
     }
 
-    /// Returns what a listener returned. The system reports that it is full before it looks whether a connection is pending. So
-    /// unless an event reported one, the result is that none is pending, and the next wait tells whether that is so.
+    /// Returns the outcome of an attempt to accept, but `Nobody` in place of `Full` unless an event reported a pending connection.
+    /// The system reports `Full` even if no connection is pending; the next wait reports whether one is.
     fn noted(&mut self, outcome: AcceptOutcome<Socket>) -> AcceptOutcome<Socket>
         ensures same { (result ≡ outcome) ⊎ ((outcome ≡ AcceptOutcome.Full) × (result ≡ AcceptOutcome.Nobody)) }
         ensures seen { is_reported self.old.pending ≡ true → result ≡ outcome }

@@ -1,4 +1,4 @@
--- An office that is copied.
+-- The copy of an office.
 use Rattle.std.proofs.Common.{◌≡◌, ◌⊎◌, inl, inr, List, [], ◌∷◌, ◌++◌, map, filter, length, Bool, IsTrue, refl, sym, ap, subst, ◌∙◌, append-nil}
 use Rattle.std.specs.List.Sorted.{IsPermutation}
 use Rattle.std.proofs.lemmas.List.Sorted.{IsPermutation-refl}
@@ -14,7 +14,7 @@ use Rattle.tables.specs.declared.table.Table.TheVariants.{Office, Ward, Candidat
 use Rattle.tables.specs.Contents.{Contents, SameContents, added_all, Stores, Rests}
 use Rattle.store.specs.EntryRows.{row_of_ward, row_of_candidate, row_of_batch, row_of_third, row_of_keyed, row_of_judged, row_of_lot, row_of_receipt, row_of_placed, row_of_figure}
 use Rattle.store.specs.Copies.{LeavesNoneOrAll, holdings_of}
-use Rattle.store.specs.Offices.{tables_of, tables_with, HoldsState, StoresState, IsAt}
+use Rattle.store.specs.StateTables.{tables_of, tables_with, HoldsState, StoresState, IsAt}
 use Rattle.store.specs.Openings.{IsLeftAt, IsTabulatedAs}
 use Rattle.tables.proofs.ListLemmas.{mapped_twice}
 use Rattle.store.proofs.KeepLemmas.{rests_is_at}
@@ -23,12 +23,12 @@ use Rattle.store.proofs.ReopenLemmas.{left_holds}
 
 -- ---- the rows of a copy
 
--- the rows of entries, added to a table with no row
+-- the rows of entries, added to an empty table
 rows_alone : {V X : Type 0} (entry : V → X) (row : X → Row) (items : List V) → IsPermutation (map (λ v. row (entry v)) items ++ []) (map row (map entry items))
 rows_alone entry row items =
     subst (IsPermutation (map (λ v. row (entry v)) items ++ [])) (append-nil (map (λ v. row (entry v)) items) ∙ sym (mapped_twice entry row items)) (IsPermutation-refl _)
 
--- the rows of all entries, added table by table,
+-- the rows of all entries, added table by table
 abbrev pub all_added : Rows → Contents → Contents
 all_added rows c =
     added_all Vote (map (λ f. row_of_figure (figure_entry f)) rows.figures.items)
@@ -42,7 +42,7 @@ all_added rows c =
     (added_all Candidate (map (λ x. row_of_candidate (candidate_entry x)) rows.candidates.items)
     (added_all Ward (map (λ w. row_of_ward (ward_entry w)) rows.wards.items) c)))))))))
 
--- make of an empty office the one of these rows
+-- adding these rows to an empty office makes it the office of these rows
 pub whole_put : (rows : Rows) → SameContents (all_added rows (tables_of empty_office)) (tables_with (state_of rows) (tabulated rows))
 unfolding added_all tables_of tables_with tabulation_of
 whole_put rows Office = IsPermutation-refl _
@@ -59,24 +59,24 @@ whole_put rows Third = rows_alone third_entry row_of_third rows.thirds.items
 
 -- ---- the state of a copy
 
--- the tables of a state, where what is tabulated beside it is that of its counts
+-- the tables of a state with the tabulation of its counts are the tables of the state
 pub are_tables : (s : OfficeState) (t : TabulationEntries) → IsTabulationOf t s → tables_with s t ≡ tables_of s
 unfolding tables_of
 are_tables s t is = ap (tables_with s) is
 
--- a copy that rests at them is kept at that state
+-- a connection to the copy that rests at them keeps that state
 pub copy_is_at : (s : OfficeState) (t : TabulationEntries) (st : State) → IsTabulatedAs s t → ((trees : Trees) → IsTrue st.is_open → st.may_leave trees → trees ≡ st.committed.trees)
     → Rests (tables_with s t) st → IsAt s st
 copy_is_at s t st is settled rests = rests_is_at s st settled is.0 (subst (λ (c : Contents). Rests c st) (are_tables s t is.1) rests)
 
--- and a stop leaves none of it or all
+-- a stop leaves none of the copy or all of it
 pub copy_stops : (s : OfficeState) (t : TabulationEntries) (old new : State) → IsTabulationOf t s → HasCleanDisk new → Survives old new (Stores (tables_with s t)) → LeavesNoneOrAll s old new
 copy_stops s t old new is clean survives trees may = elim (survives.crash clean trees may) [
   | inl was ↦ inl was
   | inr made ↦ inr (subst (λ (c : Contents). Stores c trees) (are_tables s t is) made)
 ]
 
--- which is that of some state
+-- if it leaves all, these are the tables of some state
 pub copy_whole : (s : OfficeState) (t : TabulationEntries) (old new : State) → IsTabulatedAs s t → HasCleanDisk new → Survives old new (Stores (tables_with s t))
     → (trees : Trees) → new.may_leave trees
     → old.may_leave trees ⊎ ((x : OfficeState) × StoresState x trees)

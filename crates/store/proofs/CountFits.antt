@@ -1,4 +1,4 @@
--- What is tabulated of the counts of a state fits its columns, so that its rows read.
+-- The tabulation of the counts of a state fits its columns, so its rows can be read.
 use Rattle.std.proofs.Common.{◌≡◌, inl, inr, ℕ, ◌+◌, ◌<◌, ◌≤◌, ◌^◌, ◌==◌, List, [], ◌∷◌, ◌++◌, map, length, replicate, Bool, true, false, cond, Some, refl, sym, ap, subst, ◌∙◌, arith, length-append}
 use Rattle.std.specs.List.{AllByRecursion, flat_map, list_all}
 use Rattle.std.proofs.lemmas.Bool.{and_parts}
@@ -26,12 +26,12 @@ use Rattle.register.specs.Offices.{WardEntry, OfficeState, ward_at}
 use Rattle.register.specs.Marks.{columns_of}
 use Rattle.register.specs.Polls.{piles_of}
 use Rattle.register.specs.Elections.{ElectionEntry, election_of, contest_of, stages_of}
-use Rattle.register.specs.Items.{is_ward, IsState}
+use Rattle.register.specs.StateConditions.{is_ward, IsState}
 use Rattle.register.specs.Tabulated.{placed_after, bundles_in, figure_at, figures_to, figures_in, has_stages, tabulation_of}
 use Rattle.register.proofs.ContestLemmas.{columns_are_set, papers_are_fair, seats_and_papers_are_few}
 use Rattle.tables.specs.declared.table.Table.TheVariants.{Bundle as BundleTable, Vote}
 use Rattle.store.specs.EntryRows.{row_of_placed, IsPlacedRow, row_of_figure, IsFigureRow}
-use Rattle.store.specs.Offices.{tables_of, tables_with}
+use Rattle.store.specs.StateTables.{tables_of, tables_with}
 use Rattle.store.proofs.DoneLemmas.{wards_there, wards_few}
 use Rattle.store.proofs.FitLemmas.{small}
 
@@ -95,7 +95,7 @@ mark_few (Exclude d) c other few = either_few (d == c) 4 other (omega arith) few
 mark_few (ExcludeLast d) c other few = either_few (d == c) 5 other (omega arith) few
 
 module _ (ward : ℕ) (number : ward < 2 ^ 32) where
-  -- a figure whose numbers are few fits, at a stage
+  -- a figure whose numbers are small fits, at a stage
   figure_fits : (stage : ℕ) → stage < 2 ^ 32 → (f : Figure) → f.candidate < 2 ^ 32 → f.mark < 2 ^ 32 → IsFigureRow (row_of_figure (figure_at ward stage f))
   figure_fits stage few f candidate mark = ((ward, number, refl), (stage, few, refl), (f.candidate, candidate, refl), (f.units, refl), (f.mark, mark, refl))
 
@@ -151,7 +151,7 @@ module _ (s : OfficeState) (is : IsState s) where
   each_figures_fit [] good few = tt
   each_figures_fit (w ∷ ws) good few = let both = and_parts _ _ good in (figures_in_fit (election_of s w) (number_small w both.0) few.0, each_figures_fit ws both.1 few.1)
 
-  -- the rows of what is tabulated read as bundles and as figures
+  -- the rows of the tabulation can be read as bundles and as figures
   pub bundles_fit : AllByRecursion IsPlacedRow (tables_of s BundleTable)
   unfolding tables_of tables_with tabulation_of
   bundles_fit = parts_fit IsPlacedRow row_of_placed (λ (w : WardEntry). bundles_in (election_of s w)) s.wards

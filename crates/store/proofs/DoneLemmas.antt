@@ -15,15 +15,15 @@ use Rattle.count.proofs.Law.ActionLemmas.{length-right}
 use Rattle.register.specs.Offices.{WardEntry, OfficeState, ward_cmp, ward_compared, entry_at, candidates_of, ward_at}
 use Rattle.register.specs.Nominations.{is_contested}
 use Rattle.register.specs.Elections.{election_of, has_count, contest_of, stages_of, is_counted, is_in_count, is_right_so_far, is_uncounted, is_counted_right}
-use Rattle.register.specs.Items.{all_counted, IsState}
+use Rattle.register.specs.StateConditions.{all_counted, IsState}
 use Rattle.register.proofs.ContestLemmas.{fair_contest}
 
--- ---- each ward is the one of its number
+-- ---- each ward is the one with its number
 
 apart : (x w : WardEntry) → ward_cmp x w ≡ Less → is_eq (nat_cmp w.number x.number) ≡ false
 apart x w below = ap is_eq (nat_cmp_total.antisymm w.number x.number ∙ ap ordering_reverse below)
 
--- where a ward stands before others, they are still found
+-- wards that are found in a list are still found once a lower one precedes them
 still_there : (x : WardEntry) (xs ys : List WardEntry) → AllByRecursion (λ y. ward_cmp x y ≡ Less) ys → AllByRecursion (λ w. entry_at (ward_compared w.number) xs ≡ Some w) ys
     → AllByRecursion (λ w. entry_at (ward_compared w.number) (x ∷ xs) ≡ Some w) ys
 still_there x xs [] below all = tt
@@ -35,7 +35,7 @@ wards_there (x ∷ xs) up = (rw (sym (nat_cmp_is x.number x.number Equal refl)) 
 
 -- ---- the stages of its count
 
--- a right count has few stages, and else none is done
+-- a right count has few stages; if there is no count, no stage is done
 done_few : (s : OfficeState) → IsState s → (w : WardEntry) → ward_at s w.number ≡ Some w → is_counted_right (election_of s w) ≡ true → w.done < 2 ^ 32
 done_few s is w there right = go (is_in_count (election_of s w)) refl right
   where
@@ -58,7 +58,7 @@ each_few : (s : OfficeState) → IsState s → (ws : List WardEntry) → AllByRe
 each_few s is [] there right = tt
 each_few s is (w ∷ ws) there right = let both = and_parts _ _ right in (done_few s is w there.0 both.0, each_few s is ws there.1 both.1)
 
--- the stages done in the wards of a state are numbers that a column holds
+-- the stages done in the wards of a state are numbers that a column can hold
 pub wards_few : (s : OfficeState) → IsState s → AllByRecursion (λ (w : WardEntry). w.done < 2 ^ 32) s.wards
 unfolding all_counted
 wards_few s is = each_few s is s.wards (wards_there s.wards is.rise.wards) (and_parts _ _ is.counted).1

@@ -9,13 +9,13 @@ use Rattle.register.specs.declared.elections.Election.{Election}
 use Rattle.register.specs.declared.elections.WardSheet.{WardSheet}
 use Rattle.register.specs.Offices.{WardEntry, CandidateEntry, OfficeState, ward_at, ward_entry, candidate_entry}
 use Rattle.register.specs.Elections.{ElectionEntry, IsElection, election_of, has_count, is_counted, is_in_count, contest_of}
-use Rattle.register.specs.Items.{IsState}
+use Rattle.register.specs.StateConditions.{IsState}
 use Rattle.register.proofs.MapLemmas.{found_number}
 use Rattle.register.proofs.ContestLemmas.{seats_and_papers_are_few}
 use Rattle.count.specs.Law.Contest.{IsContest}
 use Rattle.votes.specs.Units.{max_seats}
 use Rattle.register.specs.Counts.{poll_for, due_for, elected_for}
-use Rattle.register.specs.Parts.{empty_part}
+use Rattle.register.specs.CommandInputs.{empty_input}
 use Rattle.register.specs.declared.command.Command.TheVariants.{Count as counting}
 use Rattle.register.specs.declared.counts.CountCommand.TheVariants.{Advance}
 use Rattle.register.specs.Nominations.{is_contested}
@@ -23,19 +23,19 @@ use Rattle.register.specs.Tabulated.{has_stages, IsCount, IsCountIn, IsCountFor,
 use Rattle.store.specs.Elections.{IsFoundFor, polled_part, counted_part, election_in, IsThere, IsContestAt, IsBook, IsHeld, IsWardCount}
 use Rattle.store.specs.Elections.{IsBegun, IsCounted, IsCountedFor, IsShown, IsCountedIn, IsCountedInFor, IsSheet, IsSheetFor}
 
--- the part with the poll, of a ward that may be there
-pub part_polled : (s : OfficeState) (ward : Option WardEntry) → polled_part (option_map (election_of s) ward) ≡ record empty_part { ward = ward; poll = poll_for s ward }
+-- the part with the poll, for a ward that may not exist
+pub part_polled : (s : OfficeState) (ward : Option WardEntry) → polled_part (option_map (election_of s) ward) ≡ record empty_input { ward = ward; poll = poll_for s ward }
 part_polled s None = refl
 part_polled s (Some w) = refl
 
--- the part with what is due, of a ward that may be there
-pub part_counted : (s : OfficeState) (ward : Option WardEntry) → counted_part (option_map (election_of s) ward) ≡ record empty_part { ward = ward; due = due_for s ward; elected = elected_for s ward }
+-- the part with what is due, for a ward that may not exist
+pub part_counted : (s : OfficeState) (ward : Option WardEntry) → counted_part (option_map (election_of s) ward) ≡ record empty_input { ward = ward; due = due_for s ward; elected = elected_for s ward }
 part_counted s None = refl
 part_counted s (Some w) = refl
 
--- ---- a poll can be had of each election of a state
+-- ---- each election of a state can be polled
 
--- its seats are few
+-- its number of seats is in range
 record IsSound (e : ElectionEntry) : Type 0 where
   some_seats : 1 ≤ e.ward.seats
   few_seats : e.ward.seats ≤ max_seats
@@ -46,7 +46,7 @@ ward_is_sound s ward w is found =
     let few = seats_and_papers_are_few s w is.in_range is.keyed is.rise there in
     record { some_seats = few.0; few_seats = few.1 }
 
--- so what asks that of an election that was found has it
+-- so an election that was found meets the condition on its seats
 pub sound_polled : {R : Type 0} (s : OfficeState) (ward : ℕ) (found : Option Election) → IsState s → IsFoundFor found (option_map (election_of s) (ward_at s ward))
     → MatchOption found R (λ e. 1 ≤ e.ward.seats → e.ward.seats ≤ max_seats → R) → R
 sound_polled s ward None is there r = r
@@ -61,26 +61,26 @@ sound_polled {R = R} s ward (Some e) is there r = by_ward (ward_at s ward) refl 
 
 -- ---- the count
 
--- the ward of a number is there by its own
+-- a ward found under any number is found under its own
 pub ward_there : (s : OfficeState) (ward : ℕ) (w : WardEntry) → ward_at s ward ≡ Some w → ward_at s w.number ≡ Some w
 ward_there s ward w found = subst (λ (n : ℕ). ward_at s n ≡ Some w) (found_number (λ (x : WardEntry). x.number) s.wards ward w found) found
 
--- whether it is contested by the candidates that were found with it
+-- whether the election is contested, by the candidates found with the ward
 pub contested_told : (s : OfficeState) (found : CountedWard) (candidates : List Candidate) (told : Bool) → candidates ≡ found.candidates.items
     → IsThere s found → told ≡ is_contested (ward_entry found.ward) (map candidate_entry candidates)
     → has_count (election_in s found) ≡ told
 contested_told s found candidates told same there is = ap (is_contested (ward_entry found.ward)) (sym (ap (map candidate_entry) same ∙ there.1)) ∙ sym is
 
--- what was found, of which that holds
+-- a value was found, and this is true of it
 pub some_found : {X : Type 0} {P : X → Type 0} (found : Option X) → IsSome found → IfSome found P → (x : X) × (found ≡ Some x) × P x
 some_found None some holds = absurd (true≢false (sym some))
 some_found (Some x) some holds = (x, refl, holds)
 
--- a count with a stage is one of a contested ward
+-- a count with a stage done is that of a contested ward
 pub stages_contested : (e : ElectionEntry) → has_stages e ≡ true → has_count e ≡ true
 stages_contested e begun = (and_parts (has_count e) (not (e.ward.done == 0)) begun).0
 
--- where no stage is done, or the ward isn't contested, there is none
+-- if the ward isn't contested, or no stage is done, there is no such count
 pub uncontested_bare : (e : ElectionEntry) → has_count e ≡ false → has_stages e ≡ false
 uncontested_bare e none = ap (λ b. b && not (e.ward.done == 0)) none
 
@@ -90,14 +90,14 @@ fresh_bare e fresh = ap (λ n. has_count e && not (n == 0)) fresh ∙ and-false 
 pub begun_stages : (e : ElectionEntry) → has_count e ≡ true → (e.ward.done ≡ 0 → ⊥) → has_stages e ≡ true
 begun_stages e contested some = and_from _ _ contested (ap not (ne_eqb e.ward.done 0 some))
 
--- a count that was found, of an election that has a stage, or that is contested
+-- a count that was found, for an election that has a stage or is contested
 pub book_found : (e : ElectionEntry) (found : Option Count) → has_stages e ≡ true → IsCount e found → IsBook e found
 book_found e found begun is = subst (IsBook e) (sym is.1) (begun, is.2)
 
 pub held_found : (e : ElectionEntry) (found : Option Count) → has_count e ≡ true → IsCount e found → IsHeld e found
 held_found e found contested is = subst (IsHeld e) (sym is.1) (contested, is.2)
 
--- the sheet that an election begins with
+-- the sheet with which an election begins
 pub begun_found : (e : ElectionEntry) (from : Election) (found : Option WardSheet) → IsElection from e → has_count e ≡ true → e.ward.done ≡ 0 → IsContest (contest_of e) → IsSome found
     → IfSome found (λ begun. (begun.counted.ward ≡ from.ward) × (begun.counted.candidates ≡ from.candidates))
     → IfSome found (λ begun. (e : ElectionEntry) → IsElection from e → e.ward.done ≡ 0 → IsContest (contest_of e) → IsCount e begun.counted.count)
@@ -124,7 +124,7 @@ bare_counted s ward found is none =
     let counted : IsCounted e (Some found) = (found, refl, record { ward_is = refl; candidates_are = is.1.1; count_is = held }) in
     subst (λ (o : Option WardEntry). IsCountedFor (option_map (election_of s) o) (Some found)) (sym is.0) counted
 
--- what a command sees of a count that was found
+-- the count found is the one that a command sees
 pub held_shown : (e : ElectionEntry) (found : Option Count) → IsHeld e found → has_count e ≡ true → IsCount e found
 held_shown e None none contested = absurd (true≢false (sym contested ∙ none))
 held_shown e (Some count) is contested = (count, refl, is.1)
@@ -163,13 +163,13 @@ sheet_of e sheet counted is rejected = (sheet, refl, record { counted_is = ward_
 pub begun_sheet : (e : ElectionEntry) (found : Option WardSheet) → is_in_count e ≡ true → IsBegun e found → IsSheet e found
 begun_sheet e found counted is = subst (IsSheet e) (sym is.1) (sheet_of e is.0 counted is.2 is.3)
 
--- whether it is in count by the candidates that were found with it
+-- whether the election is in count, by the candidates found with the ward
 pub in_count_told : (s : OfficeState) (found : CountedWard) (candidates : List Candidate) (told : Bool) → candidates ≡ found.candidates.items → IsThere s found
     → told ≡ (is_counted (ward_entry found.ward).phase && is_contested (ward_entry found.ward) (map candidate_entry candidates)) → is_in_count (election_in s found) ≡ told
 in_count_told s found candidates told same there is =
     ap (λ (cs : List CandidateEntry). is_counted (ward_entry found.ward).phase && is_contested (ward_entry found.ward) cs) (sym (ap (map candidate_entry) same ∙ there.1)) ∙ sym is
 
--- of a ward that isn't in count there is no count to be told, and no paper
+-- a ward that isn't in count shows no count and no papers
 module _ (s : OfficeState) (ward : ℕ) (found : CountedWard) (is : IsContestAt s ward (Some found)) (none : is_in_count (election_in s found) ≡ false) where
   bare_ward : IsCountedWard (election_in s found) found
   bare_ward = record { ward_is = refl; candidates_are = is.1.1; count_is = subst (IsCountIn (election_in s found)) (sym is.2) none }

@@ -1,4 +1,4 @@
--- The row with a key is that of the state's entry with it.
+-- The row with a key is that of the state's entry with this key.
 use Rattle.std.proofs.Common.{◌≡◌, ◌==◌, ◌&&◌, map, ℕ, pos, List, [], ◌∷◌, true, filter, Some, option_map, IfSome, refl, sym, ap, ◌∙◌, nat_cmp, Ordering, Less, Equal, Greater}
 use Rattle.std.specs.Option.{option_to_list}
 use Rattle.std.specs.Ordering.{ordering_then, is_eq}
@@ -11,8 +11,8 @@ use Rattle.sqlite.specs.Order.{Row}
 use Rattle.sqlite.specs.declared.types.Value.TheVariants.{Int, Text}
 use Rattle.register.specs.Offices.{OfficeState, KeyedEntry, entry_at, ward_at, candidate_compared, candidate_at, candidates_of, keyed_cmp, batch_compared}
 use Rattle.register.specs.Offices.{batch_at, third_compared, third_at, keying_of, judged_compared, verdict_at, verdicts_of, lots_of, receipt_at}
-use Rattle.register.specs.Papers.{batches_of}
-use Rattle.register.specs.Items.{IsState}
+use Rattle.register.specs.Agreement.{batches_of}
+use Rattle.register.specs.StateConditions.{IsState}
 use Rattle.register.specs.Tabulated.{tabulation_of}
 use Rattle.tables.specs.declared.table.Table.TheVariants.{Ward, Candidate, Batch, Keying, Verdict, Lot, Receipt, Bundle, Vote, Third}
 use Rattle.tables.specs.declared.table.Reference.TheVariants.{WardOfBatch}
@@ -21,7 +21,7 @@ use Rattle.tables.specs.Reading.{Finds}
 use Rattle.store.specs.EntryRows.{row_of_ward, IsWardRow, row_of_candidate, IsCandidateRow, row_of_batch, IsBatchRow, row_of_third, IsThirdRow, row_of_keyed}
 use Rattle.store.specs.EntryRows.{IsKeyedRow, row_of_judged, IsJudgedRow, row_of_lot, row_of_receipt, IsReceiptRow, row_of_placed, row_of_figure}
 use Rattle.store.specs.Elections.{bundles_at, figures_at}
-use Rattle.store.specs.Offices.{tables_of, tables_with}
+use Rattle.store.specs.StateTables.{tables_of, tables_with}
 use Rattle.store.specs.Overviews.{receipts_of}
 use Rattle.tables.proofs.OrderLemmas.{equal-number, key_of_number, key_of_two_numbers, key_of_three_numbers, key_of_number_and_text, same_number, same_three_numbers}
 use Rattle.store.proofs.StateLemmas.{tables_rise}
@@ -30,7 +30,7 @@ use Rattle.store.proofs.RowLemmas.{listed_as, row_found, found_fits}
 
 -- ---- keys
 
--- entries that compare equal to one key have one key
+-- entries that compare as equal to the same key have the same key
 pub numbers_apart : (n a b : ℕ) → nat_cmp n a ≡ Equal → nat_cmp n b ≡ Equal → nat_cmp a b ≡ Equal
 numbers_apart n a b first second = sym (nat_cmp_total.congr n a b first) ∙ second
 
@@ -42,7 +42,7 @@ both_equal Equal b h = (refl, h)
 both_equal Less b h = absurd cc
 both_equal Greater b h = absurd cc
 
--- each entry passes what all do
+-- a test that all entries pass removes none
 all_kept : {X : Type 0} (xs : List X) → filter (λ x. true) xs ≡ xs
 all_kept [] = refl
 all_kept (x ∷ xs) = ap (λ l. x ∷ l) (all_kept xs)
@@ -58,7 +58,7 @@ pub ward_fits : (s : OfficeState) → IsState s → (number : ℕ) → IfSome (o
 unfolding tables_of tables_with
 ward_fits s is number = found_fits IsWardRow row_of_ward _ s.wards (wards_fit s is)
 
--- all rows are those of all wards, in the order of their numbers
+-- all rows of the table are those of all wards, in the order of their numbers
 pub all_wards_listed : (s : OfficeState) → IsState s → (rows : List Row) → Finds Ward (begins_with []) (tables_of s) rows → rows ≡ map row_of_ward s.wards
 unfolding tables_of tables_with
 all_wards_listed s is rows finds =
@@ -107,7 +107,7 @@ pub third_fits : (s : OfficeState) → IsState s → (batch : ℕ) → IfSome (o
 unfolding tables_of tables_with
 third_fits s is batch = found_fits IsThirdRow row_of_third _ s.thirds (thirds_fit s is)
 
--- all rows are those of all batches, in the order of their numbers
+-- all rows of the table are those of all batches, in the order of their numbers
 pub all_batches_listed : (s : OfficeState) → IsState s → (rows : List Row) → Finds Batch (begins_with []) (tables_of s) rows → rows ≡ map row_of_batch s.batches
 unfolding tables_of tables_with
 all_batches_listed s is rows finds =
@@ -120,7 +120,7 @@ unfolding tables_of tables_with
 batches_listed s is ward rows finds =
     listed_as Batch row_of_batch (refers_to WardOfBatch (Int (pos ward))) (λ b. b.ward == ward) (λ b. equal-number b.ward ward) s.batches (tables_rise s is Batch refl) rows finds.same finds.sorted
 
--- the rows that begin with a batch, a round and a clerk are those of his keying, in the order of the papers
+-- the rows that begin with a batch, a round and a clerk are those of the clerk's keying, in the order of the papers
 pub keying_listed : (s : OfficeState) → IsState s → (batch round clerk : ℕ) (rows : List Row)
     → Finds Keying (begins_with (Int (pos batch) ∷ Int (pos round) ∷ Int (pos clerk) ∷ [])) (tables_of s) rows → rows ≡ map row_of_keyed (keying_of s batch round clerk)
 unfolding tables_of tables_with
@@ -197,7 +197,7 @@ unfolding tables_of tables_with
 lots_listed s is ward rows finds =
     listed_as Lot row_of_lot (begins_with (Int (pos ward) ∷ [])) (λ l. l.ward == ward) (λ l. same_number ward l.ward) s.lots (tables_rise s is Lot refl) rows finds.same finds.sorted
 
--- ---- what is tabulated
+-- ---- the tabulation
 
 -- the rows that begin with a ward are those of its bundles, in the order of their lists
 pub bundles_listed : (s : OfficeState) → IsState s → (ward : ℕ) (rows : List Row) → Finds Bundle (begins_with (Int (pos ward) ∷ [])) (tables_of s) rows → rows ≡ map row_of_placed (bundles_at s ward)
@@ -206,7 +206,7 @@ bundles_listed s is ward rows finds =
     listed_as Bundle row_of_placed (begins_with (Int (pos ward) ∷ [])) (λ b. b.ward == ward) (λ b. same_number ward b.ward) (tabulation_of s).bundles
     (tables_rise s is Bundle refl) rows finds.same finds.sorted
 
--- and those of its figures, in the order of stages and candidates
+-- the rows that begin with a ward are those of its figures, in the order of stages and candidates
 pub figures_listed : (s : OfficeState) → IsState s → (ward : ℕ) (rows : List Row) → Finds Vote (begins_with (Int (pos ward) ∷ [])) (tables_of s) rows → rows ≡ map row_of_figure (figures_at s ward)
 unfolding tables_of tables_with
 figures_listed s is ward rows finds =
@@ -230,13 +230,13 @@ pub receipt_fits : (s : OfficeState) → IsState s → (actor : ℕ) (id : List 
 unfolding tables_of tables_with
 receipt_fits s is actor id = found_fits IsReceiptRow row_of_receipt _ s.receipts (receipts_fit s is)
 
--- all rows are those of all receipts, by actor and id
+-- all rows of the table are those of all receipts, by actor and id
 pub all_receipts_listed : (s : OfficeState) → IsState s → (rows : List Row) → Finds Receipt (begins_with []) (tables_of s) rows → rows ≡ map row_of_receipt s.receipts
 unfolding tables_of tables_with
 all_receipts_listed s is rows finds =
     listed_as Receipt row_of_receipt (begins_with []) (λ r. true) (λ r. refl) s.receipts (tables_rise s is Receipt refl) rows finds.same finds.sorted ∙ ap (map row_of_receipt) (all_kept s.receipts)
 
--- the rows that begin with an actor are those of his receipts, by id
+-- the rows that begin with an actor are those of the actor's receipts, by id
 pub receipts_listed : (s : OfficeState) → IsState s → (actor : ℕ) (rows : List Row) → Finds Receipt (begins_with (Int (pos actor) ∷ [])) (tables_of s) rows
     → rows ≡ map row_of_receipt (receipts_of s (Some actor))
 unfolding tables_of tables_with

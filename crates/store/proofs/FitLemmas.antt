@@ -1,4 +1,4 @@
--- What is in range fits a row's columns, so that its row reads.
+-- What is in range fits a row's columns, so its row can be read.
 use Rattle.std.proofs.Common.{◌≡◌, inl, inr, ℕ, zero, suc, ◌<◌, ◌^◌, List, [], ◌∷◌, map, Bool, true, ◌&&◌, nat_le, refl, arith}
 use Rattle.std.specs.Str.{IsAscii}
 use Rattle.std.specs.List.{AllByRecursion, list_all}
@@ -10,17 +10,17 @@ use Rattle.votes.specs.Units.{max_seats}
 use Rattle.paper.specs.Columns.{max_candidates}
 use Rattle.register.specs.Ranges.{is_between, last_ward, last_clerk, last_batch, most_papers, last_round, first_lot_stage, last_lot_stage, is_name, is_id, is_reply, is_id_byte}
 use Rattle.register.specs.Offices.{WardEntry, CandidateEntry, BatchEntry, ThirdEntry, KeyedEntry, JudgedEntry, LotEntry, ReceiptEntry, OfficeState}
-use Rattle.register.specs.Items.{is_ward, is_candidate, is_batch, is_third, is_keyed_paper, is_judged_paper, is_lot, is_receipt, is_about, IsState}
+use Rattle.register.specs.StateConditions.{is_ward, is_candidate, is_batch, is_third, is_keyed_paper, is_judged_paper, is_lot, is_receipt, is_about, IsState}
 use Rattle.tables.specs.declared.table.Table.TheVariants.{Ward, Candidate, Batch, Keying, Verdict, Lot, Receipt, Third}
 use Rattle.store.specs.EntryRows.{row_of_ward, IsWardRow, row_of_candidate, IsCandidateRow, row_of_batch, IsBatchRow, row_of_third, IsThirdRow}
 use Rattle.store.specs.EntryRows.{row_of_keyed, IsKeyedRow, row_of_judged, IsJudgedRow, row_of_lot, IsLotRow, row_of_receipt, IsReceiptRow}
-use Rattle.store.specs.Offices.{tables_of, tables_with}
+use Rattle.store.specs.StateTables.{tables_of, tables_with}
 use Rattle.store.proofs.DoneLemmas.{wards_few}
 
 pub small : (low high n : ℕ) → high < 2 ^ 32 → is_between low high n ≡ true → n < 2 ^ 32
 small low high n below h = let upper = leb-true n high (and_parts (nat_le low n) (nat_le n high) h).1 in omega (arith, upper, below)
 
--- each of a list that passes a test, and its image
+-- if all elements of a list pass a test that implies a property of their rows, all rows have it
 all_passed : {X : Type 0} (p : X → Bool) (P : Row → Type 0) (row : X → Row) → ((x : X) → p x ≡ true → P (row x)) → (xs : List X) → list_all p xs ≡ true → AllByRecursion P (map row xs)
 all_passed p P row each [] all = tt
 all_passed p P row each (x ∷ xs) all = (each x (and_parts _ _ all).0, all_passed p P row each xs (and_parts _ _ all).1)
@@ -144,7 +144,7 @@ receipt_fits r h =
       (r.reply, IsUtf8-from_is_utf8 r.reply (and_parts _ _ d.1).0, refl),
     )
 
--- ---- the rows of a state read as entries
+-- ---- the rows of a state can be read as entries
 
 pub wards_fit : (s : OfficeState) → IsState s → AllByRecursion IsWardRow (tables_of s Ward)
 unfolding tables_of tables_with
@@ -154,7 +154,7 @@ pub candidates_fit : (s : OfficeState) → IsState s → AllByRecursion IsCandid
 unfolding tables_of tables_with
 candidates_fit s is = all_passed is_candidate IsCandidateRow row_of_candidate candidate_fits s.candidates (and_parts _ _ (and_parts _ _ is.in_range).1).0
 
--- what the papers and the receipts are in range by
+-- the batches are in range, and so is everything after them
 beyond_candidates : (s : OfficeState) → IsState s
     → (list_all is_batch s.batches && (list_all is_third s.thirds &&
     (list_all is_keyed_paper s.keyings && (list_all is_judged_paper s.verdicts && (list_all is_lot s.lots && list_all is_receipt s.receipts))))) ≡ true

@@ -5,7 +5,7 @@ use Rattle.sqlite.specs.Tree.{Trees}
 use Rattle.sqlite.specs.Effect.{Database}
 use Rattle.sqlite.specs.State.{State, HasCleanDisk, Survives}
 use Rattle.register.specs.Offices.{OfficeState}
-use Rattle.register.specs.Items.{IsState}
+use Rattle.register.specs.StateConditions.{IsState}
 use Rattle.register.specs.declared.decision.Change.{Change}
 use Rattle.register.specs.Effects.{change_entry, with_change}
 use Rattle.register.specs.Tabulated.{TabulationEntries, tabulation_of, SameTabulation, addition_entries, with_addition, IsTabulated}
@@ -13,7 +13,7 @@ use Rattle.tables.specs.declared.table.Table.TheVariants.{Office, Ward, Candidat
 use Rattle.tables.specs.Contents.{Contents, SameContents, Stores, Rests, RestsAt}
 use Rattle.tables.specs.Reading.{OnlyReads}
 use Rattle.store.specs.EntryRows.{row_of_placed, row_of_figure}
-use Rattle.store.specs.Offices.{tables_of, tables_with, ChangesTo, HoldsState, IsAt, LeavesState, Wears}
+use Rattle.store.specs.StateTables.{tables_of, tables_with, ChangesTo, HoldsState, IsAt, LeavesState, KeepsConnection}
 use Rattle.tables.proofs.StopLemmas.{rests_leaves}
 use Rattle.tables.proofs.ReadLemmas.{rests_read, rests_from}
 use Rattle.tables.proofs.SameLemmas.{rests_same, stores_same}
@@ -36,7 +36,7 @@ is_at_read s old new reads honest at = record {
 
 -- ---- changes
 
--- the tables of a state, and of the same tabulation in another order
+-- the tables of a state with its tabulation in another order
 same_tables : (s : OfficeState) (t u : TabulationEntries) → SameTabulation t u → SameContents (tables_with s t) (tables_with s u)
 unfolding tables_with
 same_tables s t u same Office = IsPermutation-refl _
@@ -51,14 +51,14 @@ same_tables s t u same Bundle = IsPermutation-map row_of_placed t.bundles u.bund
 same_tables s t u same Vote = IsPermutation-map row_of_figure t.figures u.figures same.figures
 same_tables s t u same Third = IsPermutation-refl _
 
--- what a change, and what it adds to the tabulation, make of the tables of a state
+-- what a change, with its addition to the tabulation, makes of the tables of a state
 abbrev pub changed_tables : Change → OfficeState → Contents
 changed_tables change s = tables_with (with_change (change_entry change) s) (with_addition (addition_entries change.addition) (tabulation_of s))
 
 pub changes_to : (change : Change) (s : OfficeState) → ChangesTo (change_entry change) (addition_entries change.addition) (tables_of s) (changed_tables change s)
 changes_to change s = record { old = s; from = refl; to = refl }
 
--- they are the tables of the state after it, where the addition is what is tabulated anew
+-- they are the tables of the state after the change, if the addition is right
 changed_same : (change : Change) (s : OfficeState) → IsTabulated s change → SameContents (changed_tables change s) (tables_of (with_change (change_entry change) s))
 unfolding tables_of
 changed_same change s tabulated = same_tables (with_change (change_entry change) s) _ _ tabulated
@@ -69,7 +69,7 @@ pub if_change_is_at : {X E : Type 0} (r : Result X E) (change : Change) (s : Off
 if_change_is_at (Ok x) change s st settled tabulated is rests = rests_is_at (with_change (change_entry change) s) st settled is (rests_same _ _ st (changed_same change s tabulated) rests)
 if_change_is_at (Err e) change s st settled tabulated is rests = tt
 
--- a stop in a change leaves the old tables or the new ones
+-- a stop during a change leaves the old tables or the new ones
 pub change_stops : (change : Change) (s : OfficeState) (old new : State) → HasCleanDisk new → IsAt s old → IsTabulated s change → Survives old new (Stores (changed_tables change s))
     → (trees : Trees) → new.may_leave trees → Stores (tables_of s) trees ⊎ Stores (tables_of (with_change (change_entry change) s)) trees
 change_stops change s old new honest at tabulated survives trees may = elim (survives.crash honest trees may) [
@@ -77,7 +77,7 @@ change_stops change s old new honest at tabulated survives trees may = elim (sur
   | inr made ↦ inr (stores_same _ _ trees (changed_same change s tabulated) made)
 ]
 
--- and so the old state or the new one
+-- so it leaves the old state or the new one
 pub change_leaves : (change : Change) (s : OfficeState) (old new : State) → HasCleanDisk new → IsAt s old → IsTabulated s change
     → IsState (with_change (change_entry change) s) → Survives old new (Stores (changed_tables change s))
     → LeavesState new (λ x. (x ≡ s) ⊎ (x ≡ with_change (change_entry change) s))
@@ -86,7 +86,7 @@ change_leaves change s old new honest at tabulated after survives trees may = el
   | inr made ↦ (with_change (change_entry change) s, inr refl, record { is = after; stores = stores_same _ _ trees (changed_same change s tabulated) made })
 ]
 
--- a database that holds a state, found by reads alone, is kept at it
+-- a connection to a database that contains a state, found by reads alone, keeps it
 pub opened_is_at : (db : Database) (old new : State) → ((trees : Trees) → IsTrue new.is_open → new.may_leave trees → trees ≡ new.committed.trees)
     → HasCleanDisk new → IsTrue new.is_open → OnlyReads old new → RestsAt db old → (s : OfficeState) × HoldsState db s → (s : OfficeState) × HoldsState db s × IsAt s new
 opened_is_at db old new settled honest is_open reads at found =
@@ -94,17 +94,17 @@ opened_is_at db old new settled honest is_open reads at found =
 
 -- ---- what each call does to the connection
 
-pub survives_wears : (old new : State) (P : Trees → Type 0) → Survives old new P → Wears old new
-survives_wears old new P h = record { limit = h.limit; counts = h.counts; closes = h.closes }
+pub survives_connection : (old new : State) (P : Trees → Type 0) → Survives old new P → KeepsConnection old new
+survives_connection old new P h = record { limit = h.limit; counts = h.counts; closes = h.closes }
 
-pub reads_wear : (old new : State) → OnlyReads old new → Wears old new
-reads_wear old new h = record { limit = h.limit; counts = h.counts; closes = h.closes }
+pub reads_connection : (old new : State) → OnlyReads old new → KeepsConnection old new
+reads_connection old new h = record { limit = h.limit; counts = h.counts; closes = h.closes }
 
-pub wears_itself : (a : State) → Wears a a
-wears_itself a = record { limit = refl; counts = omega arith; closes = λ honest was. inl was }
+pub connection_itself : (a : State) → KeepsConnection a a
+connection_itself a = record { limit = refl; counts = omega arith; closes = λ honest was. inl was }
 
-pub wears_then : (a b c : State) → (HasCleanDisk c → HasCleanDisk b) → Wears a b → Wears b c → Wears a c
-wears_then a b c clean first second = record {
+pub connection_then : (a b c : State) → (HasCleanDisk c → HasCleanDisk b) → KeepsConnection a b → KeepsConnection b c → KeepsConnection a c
+connection_then a b c clean first second = record {
   limit = second.limit ∙ first.limit;
   counts = omega (arith, first.counts, second.counts);
   closes = λ honest was. elim (first.closes (clean honest) was) [

@@ -1,4 +1,4 @@
--- Listings of rows, one after the other.
+-- Listings of rows, one after another.
 use Rattle.std.proofs.Common.{◌≡◌, ◌⊎◌, ℕ, ◌<◌, true, false, List, Result, Ok, Err, IsTrue, sym, subst}
 use Rattle.std.specs.List.{AllByRecursion}
 use Rattle.std.specs.Result.{IsErrAnd}
@@ -6,7 +6,7 @@ use Rattle.sqlite.specs.Order.{Row}
 use Rattle.sqlite.specs.Effect.{Database}
 use Rattle.sqlite.specs.State.{State, HasCleanDisk}
 use Rattle.register.specs.Offices.{OfficeState}
-use Rattle.register.specs.Items.{IsState}
+use Rattle.register.specs.StateConditions.{IsState}
 use Rattle.tables.specs.declared.fault.Fault.{Fault}
 use Rattle.tables.specs.declared.fault.Fault.TheVariants.{Memory, Store, Damaged}
 use Rattle.tables.specs.declared.table.Table.{Table}
@@ -15,12 +15,12 @@ use Rattle.tables.specs.Contents.{RestsAt}
 use Rattle.tables.specs.Reading.{OnlyReads, FailsToList, ListsEntries, HoldsNone}
 use Rattle.tables.proofs.ReadLemmas.{only_reads_then}
 use Rattle.tables.proofs.CauseLemmas.{lists_later}
-use Rattle.store.specs.Offices.{tables_of}
+use Rattle.store.specs.StateTables.{tables_of}
 use Rattle.store.specs.Openings.{has_entries}
 use Rattle.store.specs.Listings.{BeginsFirst, ListsAt, TellsStrange}
 use Rattle.store.proofs.TellLemmas.{told_strange}
 
--- all entries of one of the first tables
+-- all entries of one of the first tables are listed
 pub entries_listed : {V : Type 0} {old new : State} {rows : List Row} (n : ℕ) (t : Table) (v : V) → place_of t < n
     → (HasCleanDisk new → (db : Database) → BeginsTo t db.schema → RestsAt db old → ListsEntries t db rows)
     → (HasCleanDisk new → IsTrue new.is_open) → OnlyReads old new → new.in_transaction ≡ false → ListsAt old new (Ok v) (λ db. BeginsFirst n db.schema)
@@ -34,7 +34,7 @@ entries_listed n t v low lists opens reads outside = record {
   outside = outside;
 }
 
--- they aren't listed
+-- they could not be listed
 pub entries_unlisted : {old new : State} {f : Fault} (n : ℕ) (t : Table) (IsRow : Row → Type 0) → has_entries t ≡ true → place_of t < n
     → ((s : OfficeState) → IsState s → AllByRecursion IsRow (tables_of s t))
     → (HasCleanDisk new → (db : Database) → BeginsTo t db.schema → RestsAt db old → (f ≡ Memory) ⊎ ((f ≡ Store) ⊎ ((f ≡ Damaged) × HoldsNone t IsRow db)))
@@ -49,7 +49,7 @@ entries_unlisted {f = f} n t IsRow has low fits cause fails reads outside = reco
   outside = outside;
 }
 
--- what was listed, told in other words
+-- what was listed, restated
 pub lists_as : {X Y : Type 0} {K : Database → Type 0} {P : Database → X → Type 0} {Q : Database → Y → Type 0} {G : Database → Fault → Type 0} {old new : State} {x : X} {y : Y}
     → ListsAt old new (Ok x) K P G → ((db : Database) → P db x → Q db y) → ListsAt old new (Ok y) K Q G
 lists_as one told = record {
@@ -61,7 +61,7 @@ lists_as one told = record {
   outside = one.outside;
 }
 
--- the same of databases of a narrower kind
+-- the same for a narrower kind of database
 pub lists_of : {X : Type 0} {K L : Database → Type 0} {P : Database → X → Type 0} {G H : Database → Fault → Type 0} {old new : State} {r : Result X Fault}
     → ((db : Database) → L db → K db) → ((db : Database) (f : Fault) → G db f → H db f) → ListsAt old new r K P G → ListsAt old new r L P H
 lists_of {r = Ok x} narrow more one = record {
@@ -106,7 +106,7 @@ lists_failed {G = G} {old = old} {new = new} {r = Err e} is failed = record {
   outside = failed.outside;
 }
 
--- the fault of a listing after another
+-- the fault of a listing that follows another
 pub lists_cut : {X Y Z : Type 0} {K : Database → Type 0} {P : Database → X → Type 0} {Q : Database → Y → Type 0} {R : Database → Z → Type 0} {G : Database
     → Fault → Type 0} {old mid new : State} {x : X} {f : Fault} {r : Result Z Fault}
     → IsErrAnd r (λ e. e ≡ f) → ListsAt old mid (Ok x) K P G → ListsAt mid new (Err f) K Q G → ListsAt old new r K R G

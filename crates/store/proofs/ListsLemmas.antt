@@ -8,9 +8,9 @@ use Rattle.register.specs.declared.candidates.Candidate.{Candidate as CandidateV
 use Rattle.register.specs.declared.batches.ThirdClerk.{ThirdClerk}
 use Rattle.register.specs.declared.counts.DrawnLot.{DrawnLot}
 use Rattle.register.specs.declared.receipt.Receipt.{Receipt as ReceiptValue}
-use Rattle.register.specs.declared.tabulated.PlacedBundle.{PlacedBundle}
-use Rattle.register.specs.declared.tabulated.StageFigure.{StageFigure}
-use Rattle.register.specs.Offices.{OfficeState, MapsRise, third_cmp, ward_entry, candidate_entry, batch_entry, third_entry, keyed_entry, judged_entry, lot_entry, receipt_entry}
+use Rattle.register.specs.declared.tabulations.PlacedBundle.{PlacedBundle}
+use Rattle.register.specs.declared.tabulations.StageFigure.{StageFigure}
+use Rattle.register.specs.Offices.{OfficeState, MapsAreSorted, third_cmp, ward_entry, candidate_entry, batch_entry, third_entry, keyed_entry, judged_entry, lot_entry, receipt_entry}
 use Rattle.register.specs.Tabulated.{TabulationEntries, placed_entry, figure_entry}
 use Rattle.tables.specs.declared.table.Table.{Table}
 use Rattle.tables.specs.declared.table.Table.TheVariants.{Office, Ward, Candidate, Batch, Keying, Verdict, Lot, Receipt, Bundle, Vote, Third}
@@ -18,7 +18,7 @@ use Rattle.tables.specs.Rows.{row_cmp}
 use Rattle.tables.specs.Reading.{ListsEntries}
 use Rattle.store.specs.declared.listing.Papers.{Papers}
 use Rattle.store.specs.EntryRows.{row_of_ward, row_of_candidate, row_of_batch, row_of_third, row_of_keyed, row_of_judged, row_of_lot, row_of_receipt, row_of_placed, row_of_figure}
-use Rattle.store.specs.Offices.{no_tabulation, tables_with}
+use Rattle.store.specs.StateTables.{no_tabulation, tables_with}
 use Rattle.store.specs.Openings.{has_entries, ListsMaps}
 use Rattle.store.specs.Listings.{ListsFirst, ListsPapers, PapersRise}
 use Rattle.tables.proofs.ListLemmas.{mapped_twice}
@@ -30,7 +30,7 @@ unfolding IsStrictlySortedBy
 none_rises by = tt
 
 module _ (wards : List WardValue) (candidates : List CandidateValue) (papers : Papers) (lots : List DrawnLot) (receipts : List ReceiptValue) where
-  -- the maps of the values, where nothing is read of third clerks
+  -- the maps of the values, without third clerks
   abbrev maps : OfficeState
   maps = record {
     wards = map ward_entry wards;
@@ -63,7 +63,7 @@ module _ (wards : List WardValue) (candidates : List CandidateValue) (papers : P
   pub first_rise : IsStrictlySortedBy (row_cmp Ward) (map (λ (w : WardValue). row_of_ward (ward_entry w)) wards)
       → IsStrictlySortedBy (row_cmp Candidate) (map (λ (c : CandidateValue). row_of_candidate (candidate_entry c)) candidates)
       → PapersRise papers → IsStrictlySortedBy (row_cmp Lot) (map (λ (l : DrawnLot). row_of_lot (lot_entry l)) lots)
-      → IsStrictlySortedBy (row_cmp Receipt) (map (λ (r : ReceiptValue). row_of_receipt (receipt_entry r)) receipts) → MapsRise maps
+      → IsStrictlySortedBy (row_cmp Receipt) (map (λ (r : ReceiptValue). row_of_receipt (receipt_entry r)) receipts) → MapsAreSorted maps
   unfolding tables_with
   first_rise own standing read drawn kept = maps_rise maps no_tabulation each
     where
@@ -80,7 +80,7 @@ module _ (wards : List WardValue) (candidates : List CandidateValue) (papers : P
       each Third has = none_rises (row_cmp Third)
       each Office has = absurd (true≢false (sym has))
 
--- the first tables, and those of what is tabulated
+-- the first tables, and those of the tabulation
 pub lists_counted : (db : Database) (s : OfficeState) (t : TabulationEntries) (bundles : List PlacedBundle) (figures : List StageFigure) → ListsFirst 8 db s t
     → ListsEntries Bundle db (map (λ (b : PlacedBundle). row_of_placed (placed_entry b)) bundles)
     → ListsEntries Vote db (map (λ (f : StageFigure). row_of_figure (figure_entry f)) figures) → ListsFirst 10 db s (record { bundles = map placed_entry bundles; figures = map figure_entry figures })
@@ -117,8 +117,8 @@ lists_maps db s t thirds first second Vote has = first Vote refl (omega arith)
 lists_maps db s t thirds first second Third has = subst (ListsEntries Third db) (sym (mapped_twice third_entry row_of_third thirds)) second
 lists_maps db s t thirds first second Office has = absurd (true≢false (sym has))
 
-pub thirds_rise : (s : OfficeState) (thirds : List ThirdClerk) → MapsRise s → IsStrictlySortedBy (row_cmp Third) (map (λ (x : ThirdClerk). row_of_third (third_entry x)) thirds)
-    → MapsRise (with_thirds thirds s)
+pub thirds_rise : (s : OfficeState) (thirds : List ThirdClerk) → MapsAreSorted s → IsStrictlySortedBy (row_cmp Third) (map (λ (x : ThirdClerk). row_of_third (third_entry x)) thirds)
+    → MapsAreSorted (with_thirds thirds s)
 thirds_rise s thirds rise up = record {
   wards = rise.wards;
   candidates = rise.candidates;

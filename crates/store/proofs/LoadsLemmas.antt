@@ -1,4 +1,4 @@
--- Loads, one after the other.
+-- Loads, one after another.
 use Rattle.std.proofs.Common.{◌≡◌, ◌⊎◌, inl, inr, ℕ, ◌+◌, ◌<◌, ◌≤◌, Bool, true, List, [], ◌∷◌, ◌++◌, map, filter, length}
 use Rattle.std.proofs.Common.{take, get_or, Option, option_map, IfSome, Result, Ok, Err, IfOk, IfErr, OnOk, IsTrue, sym, ap, subst, ◌∙◌, arith}
 use Rattle.std.proofs.lemmas.List.{take_more, take_all}
@@ -9,7 +9,7 @@ use Rattle.sqlite.specs.Order.{Row}
 use Rattle.sqlite.specs.State.{State, HasCleanDisk}
 use Rattle.register.specs.declared.batches.Batch.{Batch}
 use Rattle.register.specs.Offices.{OfficeState}
-use Rattle.register.specs.Items.{IsState}
+use Rattle.register.specs.StateConditions.{IsState}
 use Rattle.tables.specs.declared.fault.Fault.{Fault}
 use Rattle.tables.specs.declared.fault.Fault.TheVariants.{Memory}
 use Rattle.tables.specs.declared.table.Table.{Table}
@@ -19,14 +19,14 @@ use Rattle.tables.specs.Walking.{TakesFound}
 use Rattle.tables.proofs.ListLemmas.{get_mapped, mapped_length}
 use Rattle.tables.proofs.ReadLemmas.{only_reads_then, only_reads_itself}
 use Rattle.tables.proofs.CauseLemmas.{fails_later}
-use Rattle.store.specs.Offices.{tables_of}
+use Rattle.store.specs.StateTables.{tables_of}
 use Rattle.store.specs.Loads.{LoadsAt}
 use Rattle.store.proofs.KeepLemmas.{is_at_read}
 use Rattle.store.proofs.RowLemmas.{if_entry_told, if_entries_told}
 
 -- ---- one query
 
--- a query for the entry with a key, where the row with that key is the one of a state's entry
+-- a query for the entry with a key, if the row with that key is that of the state's entry
 pub loads_entry : {V X : Type 0} {old new : State} {r : Result (Option V) Fault} {kinds : Bool} (t : Table) (test : Row → Bool) (IsRow : Row → Type 0)
     (entry : V → X) (row : X → Row) (back : Row → X) → ((x : X) → back (row x) ≡ x) → (there : OfficeState → Option X)
     → ((s : OfficeState) → IsState s → filter test (tables_of s t) ≡ option_to_list (option_map row (there s))) → ((s : OfficeState) → IsState s → IfSome (option_map row (there s)) IsRow)
@@ -64,12 +64,12 @@ loads_entries {old = old} {new = new} {r = r} {t = t} {test = test} items entry 
 pub loads_none : {X : Type 0} {P : OfficeState → X → Type 0} {st : State} {x : X} → (HasCleanDisk st → IsTrue st.is_open) → ((s : OfficeState) → IsState s → P s x) → LoadsAt st st (Ok x) P
 loads_none {st = st} is_open told = record { shows = λ clean s at. told s at.is; cause = λ clean s at. tt; opens = is_open; reads = only_reads_itself st; keeps = λ clean s at. at }
 
--- what was read, told in other words
+-- what was read, restated
 pub loads_as : {X Y : Type 0} {P : OfficeState → X → Type 0} {Q : OfficeState → Y → Type 0} {old new : State} {x : X} {y : Y} → LoadsAt old new (Ok x) P
     → ((s : OfficeState) → IsState s → P s x → Q s y) → LoadsAt old new (Ok y) Q
 loads_as one told = record { shows = λ clean s at. told s at.is (one.shows clean s at); cause = λ clean s at. tt; opens = one.opens; reads = one.reads; keeps = one.keeps }
 
--- the same of what a read told, if it told anything
+-- the same for what a read returned, if it succeeded
 pub loads_told : {X : Type 0} {P Q : OfficeState → X → Type 0} {old new : State} {r : Result X Fault} → LoadsAt old new r P → ((s : OfficeState) (x : X) → P s x → Q s x) → LoadsAt old new r Q
 loads_told {r = Ok x} one told = record { shows = λ clean s at. told s x (one.shows clean s at); cause = λ clean s at. tt; opens = one.opens; reads = one.reads; keeps = one.keeps }
 loads_told {r = Err f} one told = record { shows = λ clean s at. tt; cause = one.cause; opens = one.opens; reads = one.reads; keeps = one.keeps }
@@ -99,7 +99,7 @@ loads_failed {old = old} {new = new} {r = Err e} is failed = record {
   keeps = failed.keeps;
 }
 
--- a read after another fails, which is passed on
+-- a read after another fails, and its failure is passed on
 pub loads_cut : {X Y Z : Type 0} {P : OfficeState → X → Type 0} {Q : OfficeState → Y → Type 0} {R : OfficeState → Z → Type 0} {old mid new : State} {x : X} {f : Fault} {r : Result Z Fault}
     → IsErrAnd r (λ e. e ≡ f) → LoadsAt old mid (Ok x) P → LoadsAt mid new (Err f) Q → LoadsAt old new r R
 loads_cut {r = Ok z} is one failed = absurd is
@@ -113,7 +113,7 @@ loads_cut {old = old} {mid = mid} {new = new} {f = f} {r = Err e} is one failed 
   keeps = λ clean s at. failed.keeps clean s (one.keeps (failed.reads.clean clean) s at);
 }
 
--- want of memory after what was read
+-- an allocation that fails after a read
 pub loads_stopped : {X Y : Type 0} {P : OfficeState → X → Type 0} {Q : OfficeState → Y → Type 0} {old new : State} {x : X} {f : Fault} {r : Result Y Fault}
     → IsErrAnd r (λ e. e ≡ f) → LoadsAt old new (Ok x) P → ((s : OfficeState) → IsState s → P s x → f ≡ Memory) → LoadsAt old new r Q
 loads_stopped {r = Ok y} is one memory = absurd is
@@ -127,30 +127,30 @@ loads_stopped {old = old} {new = new} {r = Err e} is one memory = record {
 
 -- ---- a loop of reads
 
--- a batch that stands where a list has none
+-- a default batch, for an index past the end of a list
 abbrev pub no_batch : Batch
 no_batch = record { number = 0; ward = 0; size = 0; first_clerk = 0; second_clerk = 0; round = 0 }
 
--- the entries of some items, and of the next one
+-- the entries of the first elements, and of the next one
 pub entries_more : {A B : Type 0} (entry : A → B) (xs : List A) (k : ℕ) (none : A) → k < length xs → take (k + 1) (map entry xs) ≡ take k (map entry xs) ++ entry (get_or xs k none) ∷ []
 entries_more {B = B} entry xs k none within =
     let x = entry (get_or xs k none) in
     take_more (map entry xs) k x (omega (arith, mapped_length entry xs, within)) ∙ ap (λ (y : B). take k (map entry xs) ++ y ∷ []) (get_mapped entry xs k x none within)
 
--- the entries of all items
+-- the entries of all elements
 pub entries_all : {A B : Type 0} (entry : A → B) (xs : List A) (k : ℕ) → length xs ≤ k → take k (map entry xs) ≡ map entry xs
 entries_all entry xs k past = take_all k (map entry xs) (omega (arith, mapped_length entry xs, past))
 
--- ---- rows taken in one after the other
+-- ---- rows consumed one after another
 
--- a walk over the entries that pass a test, which are those of a state: they are taken in, in their order
-pub loads_walked : {V E X : Type 0} {old new : State} {v visitor : V} {t : Table} {test : Row → Bool} (HasTaken : V → List E → Type 0) (entry : E → X) (row : X → Row) (back : Row → X)
+-- a walk through the entries that pass a test, which are those of a state: they are consumed in order
+pub loads_walked : {V E X : Type 0} {old new : State} {v visitor : V} {t : Table} {test : Row → Bool} (HasVisited : V → List E → Type 0) (entry : E → X) (row : X → Row) (back : Row → X)
     → ((x : X) → back (row x) ≡ x) → (there : OfficeState → List X)
     → ((s : OfficeState) → IsState s → (rows : List Row) → Finds t test (tables_of s) rows → rows ≡ map row (there s))
-    → (HasCleanDisk new → (c : Contents) → RestsIfOpen c old → TakesFound HasTaken (λ e. row (entry e)) t test c visitor v)
+    → (HasCleanDisk new → (c : Contents) → RestsIfOpen c old → TakesFound HasVisited (λ e. row (entry e)) t test c visitor v)
     → (HasCleanDisk new → IsTrue new.is_open) → OnlyReads old new
-    → HasTaken visitor [] → LoadsAt old new (Ok v) (λ s u. (found : List E) × (map entry found ≡ there s) × HasTaken u found)
-loads_walked {V} {E} {X} {old} {new} {v} {visitor} {t} {test} HasTaken entry row back returns there is told opens reads none = record {
+    → HasVisited visitor [] → LoadsAt old new (Ok v) (λ s u. (found : List E) × (map entry found ≡ there s) × HasVisited u found)
+loads_walked {V} {E} {X} {old} {new} {v} {visitor} {t} {test} HasVisited entry row back returns there is told opens reads none = record {
   shows = λ clean s at. taken s at.is (told clean (tables_of s) at.rests);
   cause = λ clean s at. tt;
   opens = opens;
@@ -158,7 +158,7 @@ loads_walked {V} {E} {X} {old} {new} {v} {visitor} {t} {test} HasTaken entry row
   keeps = λ clean s at. is_at_read s old new reads clean at;
 }
   where
-    taken : (s : OfficeState) → IsState s → TakesFound HasTaken (λ e. row (entry e)) t test (tables_of s) visitor v → (found : List E) × (map entry found ≡ there s) × HasTaken v found
+    taken : (s : OfficeState) → IsState s → TakesFound HasVisited (λ e. row (entry e)) t test (tables_of s) visitor v → (found : List E) × (map entry found ≡ there s) × HasVisited v found
     taken s state (found, finds, takes) = (
       found,
       if_entries_told {W = List E} {F = Fault} (λ es. es) entry row back returns (Ok found) (there s)
@@ -166,7 +166,7 @@ loads_walked {V} {E} {X} {old} {new} {v} {visitor} {t} {test} HasTaken entry row
       takes [] none,
     )
 
--- a walk that stops for want of memory, or fails
+-- a walk that fails, or stops because an allocation fails
 pub loads_unwalked : {X : Type 0} {P : OfficeState → X → Type 0} {old new : State} {f : Fault} {t : Table} {IsRow : Row → Type 0} {kinds : Bool}
     → ((s : OfficeState) → IsState s → AllByRecursion IsRow (tables_of s t))
     → (HasCleanDisk new → (c : Contents) → RestsIfOpen c old → kinds ≡ true → AllByRecursion IsRow (c t) → FailsBy old new f ⊎ (f ≡ Memory))

@@ -1,4 +1,4 @@
--- An older office, and what a migration makes of it.
+-- An older office, and its migration.
 use Rattle.std.proofs.Common.{IsTrue, ◌≡◌, ◌≢◌, ◌⊎◌, inl, inr, ℕ, ◌<◌, ◌≤◌, List, [], ◌∷◌, map, true, false, refl, sym}
 use Rattle.std.proofs.Common.{ap, subst, ◌∙◌, true≢false, arith, pos, ◌||◌, Option, Some, None, IfSome, Result, Ok, Err, IfOk, IfErr, OnOk}
 use Rattle.std.specs.List.{list_any}
@@ -14,9 +14,9 @@ use Rattle.sqlite.specs.Effect.{Database, IsDatabase}
 use Rattle.sqlite.specs.State.{State, HasCleanDisk, Survives}
 use Rattle.sqlite.proofs.Callers.{one_permutation}
 use Rattle.register.specs.declared.receipt.Receipt.{Receipt as ReceiptValue}
-use Rattle.register.specs.declared.tabulated.Addition.{Addition}
-use Rattle.register.specs.Offices.{ReceiptEntry, OfficeState, MapsRise, receipt_entry}
-use Rattle.register.specs.Items.{IsState}
+use Rattle.register.specs.declared.tabulations.Addition.{Addition}
+use Rattle.register.specs.Offices.{ReceiptEntry, OfficeState, MapsAreSorted, receipt_entry}
+use Rattle.register.specs.StateConditions.{IsState}
 use Rattle.register.specs.Tabulated.{TabulationEntries, AdditionEntries, with_addition, addition_entries}
 use Rattle.rowcheck.specs.declared.rows.Rows.{Rows}
 use Rattle.rowcheck.specs.States.{state_of, tabulated}
@@ -24,20 +24,20 @@ use Rattle.tables.specs.declared.fault.Fault.{Fault}
 use Rattle.tables.specs.declared.fault.Fault.TheVariants.{Memory, Store, Damaged, Closed, WrongDatabase, NewerSchema, OlderSchema}
 use Rattle.tables.specs.declared.table.Table.{Table}
 use Rattle.tables.specs.declared.table.Table.TheVariants.{Office, Ward, Candidate, Batch, Keying, Verdict, Lot, Receipt, Bundle, Vote, Third}
-use Rattle.tables.specs.declared.table.Setting.TheVariants.{VersionOfOffice}
-use Rattle.tables.specs.declared.presence.Form.TheVariants.{Whole, WithoutThird, WithoutCounts as WithoutCountTables}
+use Rattle.tables.specs.declared.table.SettableColumn.TheVariants.{VersionOfOffice}
+use Rattle.tables.specs.declared.presence.TablesPresent.TheVariants.{Whole, WithoutThird, WithoutCounts as WithoutCountTables}
 use Rattle.tables.specs.Schema.{schema_from, place_of}
 use Rattle.tables.specs.Rows.{tuples, row_cmp}
 use Rattle.tables.specs.Contents.{Contents, SameContents, HoldsTable, IsOffice, value_put, Stores, RestsAt, Sees}
-use Rattle.tables.specs.Making.{FirstAt, HasFirst, SeesMade}
-use Rattle.tables.specs.Presence.{has_table, has_every_table, form_of, IsOurs, IsOlderSchema}
+use Rattle.tables.specs.Making.{FirstAt, HasFirstTables, SeesMade}
+use Rattle.tables.specs.Presence.{has_table, has_every_table, tables_present, IsOurs, IsOlderSchema}
 use Rattle.tables.specs.Reading.{OnlyReads}
 use Rattle.store.specs.declared.older.OlderForm.{OlderForm}
 use Rattle.store.specs.declared.older.OlderForm.TheVariants.{WithCounts, WithoutCounts}
 use Rattle.store.specs.declared.migration.Migrated.{Migrated}
 use Rattle.store.specs.declared.migration.Migrated.TheVariants.{Done, Already}
 use Rattle.store.specs.EntryRows.{this_version, office_row}
-use Rattle.store.specs.Offices.{no_tabulation, tables_of, tables_with, HoldsState, IsAt}
+use Rattle.store.specs.StateTables.{no_tabulation, tables_of, tables_with, HoldsState, IsAt}
 use Rattle.store.specs.Openings.{HasNoOffice, IsNewer, HoldsNoState, IsToldBy, HasVersion, has_entries, IsTabulatedAs}
 use Rattle.store.specs.Listings.{TellsStrange, ListsFirst}
 use Rattle.store.specs.Migrations.{tables_in, name_of, tabulation_in, older_tables, is_about_third, IsOlderState, HoldsOlder, RestsOlder, HoldsNoOlder, StoresOlder}
@@ -59,7 +59,7 @@ older_office : (form : OlderForm) (s : OfficeState) → older_tables form s Offi
 unfolding older_tables
 older_office form s = refl
 
--- but for the office's, the rows are those of the maps and of what is tabulated
+-- all rows but the office's are those of the maps and of the tabulation
 older_entries : (form : OlderForm) (s : OfficeState) (t : Table) → has_entries t ≡ true → older_tables form s t ≡ tables_with s (tabulation_in form s) t
 unfolding older_tables
 older_entries form s Ward has = refl
@@ -74,7 +74,7 @@ older_entries form s Vote has = refl
 older_entries form s Third has = refl
 older_entries form s Office has = absurd (true≢false (sym has))
 
--- and, in the tables that are there, those of this version
+-- in the tables that exist, they are also those of this version
 first_entries : (form : OlderForm) (s : OfficeState) (t : Table) → place_of t < tables_in form → tables_with s (tabulation_in form s) t ≡ tables_of s t
 unfolding tables_of tables_with
 first_entries WithCounts s t low = refl
@@ -90,7 +90,7 @@ first_entries WithoutCounts s Bundle low = absurd (omega (arith, low))
 first_entries WithoutCounts s Vote low = absurd (omega (arith, low))
 first_entries WithoutCounts s Third low = absurd (omega (arith, low))
 
--- of tables that are not there, the maps and the tabulation have no row
+-- for tables that do not exist, the maps and the tabulation have no row
 later_none : (form : OlderForm) (s : OfficeState) (t : TabulationEntries) → IsBare form s t → (u : Table) → tables_in form ≤ place_of u → tables_with s t u ≡ []
 unfolding tables_with
 later_none form s t bare Third up = rw bare.no_thirds refl
@@ -115,7 +115,7 @@ later_none WithoutCounts s t bare Verdict up = absurd (omega (arith, up))
 later_none WithoutCounts s t bare Lot up = absurd (omega (arith, up))
 later_none WithoutCounts s t bare Receipt up = absurd (omega (arith, up))
 
--- a state as it was then, with what was tabulated of it
+-- a state of the older version, with its tabulation
 bare_state : (form : OlderForm) (s : OfficeState) → IsOlderState s → IsBare form s (tabulation_in form s)
 bare_state WithCounts s is = record { no_thirds = is.no_thirds; no_counts = λ other. absurd cc }
 bare_state WithoutCounts s is = record { no_thirds = is.no_thirds; no_counts = λ _. refl }
@@ -123,7 +123,7 @@ bare_state WithoutCounts s is = record { no_thirds = is.no_thirds; no_counts = �
 pub rows_bare : (form : OlderForm) (s : OfficeState) (t : TabulationEntries) → s.thirds ≡ [] → (form ≡ WithoutCounts → t ≡ no_tabulation) → IsBare form s t
 rows_bare form s t thirds counts = record { no_thirds = thirds; no_counts = counts }
 
--- ---- a database has the older tables of one state at most
+-- ---- a database has the older tables of at most one state
 
 pub same_older : (form : OlderForm) (s x : OfficeState) → IsOlderState s → IsOlderState x → SameContents (older_tables form s) (older_tables form x) → s ≡ x
 unfolding older_tables tables_with
@@ -142,7 +142,7 @@ same_older form s x is also same = equal_maps s x (tabulation_in form s) (tabula
     each Vote = same Vote
     each Third = same Third
 
--- what an older office holds
+-- what an older office contains
 pub at_first : (form : OlderForm) (db : Database) (s : OfficeState) → HoldsOlder form db s → FirstAt (tables_in form) (older_tables form s) db
 at_first form db s held = first_at (tables_in form) (older_tables form s) db held.first
 
@@ -176,11 +176,11 @@ one_older form db s x first second = same_older form s x first.is second.is each
           (subst (IsPermutation []) (sym (older_none form x second.is t up)) (IsPermutation-refl []))
     ]
 
--- the schema tells the form
-pub named : (form : OlderForm) (s : Schema) → s ≡ schema_from (tables_in form) [] [] [] → form_of s ≡ name_of form
+-- the schema determines the form
+pub named : (form : OlderForm) (s : Schema) → s ≡ schema_from (tables_in form) [] [] [] → tables_present s ≡ name_of form
 unfolding same_name
-named WithCounts s is = subst (λ (x : Schema). form_of x ≡ WithoutThird) (sym is) refl
-named WithoutCounts s is = subst (λ (x : Schema). form_of x ≡ WithoutCountTables) (sym is) refl
+named WithCounts s is = subst (λ (x : Schema). tables_present x ≡ WithoutThird) (sym is) refl
+named WithoutCounts s is = subst (λ (x : Schema). tables_present x ≡ WithoutCountTables) (sym is) refl
 
 one_name : (form other : OlderForm) → name_of form ≡ name_of other → form ≡ other
 one_name WithCounts WithCounts same = refl
@@ -196,7 +196,7 @@ older_once db form other s x first second =
     let same = one_form form other db s x first second in
     (same, one_older form db s x first (subst (λ (f : OlderForm). HoldsOlder f db x) (sym same) second))
 
--- ---- what an opening tells of it
+-- ---- what is reported when it is opened
 
 lacks_table : (form : OlderForm) (s : Schema) → s ≡ schema_from (tables_in form) [] [] [] → has_every_table s ≡ false
 unfolding same_name
@@ -211,8 +211,8 @@ has_office WithoutCounts s is = subst (λ (x : Schema). has_table Office x ≡ t
 pub older_ours : (form : OlderForm) (s : Schema) → s ≡ schema_from (tables_in form) [] [] [] → IsOurs s
 older_ours form s is = record { office = λ _. first_begins (tables_in form) s is Office (some_tables form); every = λ all. absurd (true≢false (sym all ∙ lacks_table form s is)) }
 
--- of a schema with such a name, the tables are those of the form
-pub form_schema : (form : OlderForm) (s : Schema) → IsOlderSchema s → form_of s ≡ name_of form → s ≡ schema_from (tables_in form) [] [] []
+-- a schema with such a name has the tables of the form
+pub form_schema : (form : OlderForm) (s : Schema) → IsOlderSchema s → tables_present s ≡ name_of form → s ≡ schema_from (tables_in form) [] [] []
 form_schema WithCounts s is same = is.without_third same
 form_schema WithoutCounts s is same = is.without_counts same
 
@@ -225,7 +225,7 @@ older_version form db s held = subst (λ rows. HoldsTable Office rows db.trees) 
 
 -- ---- from the rows that were read
 
--- rows of an older state, and the office row of its version, are an older office
+-- the rows of an older state, with the office row of its version, make an older office
 pub older_held : (form : OlderForm) (db : Database) (s : OfficeState) (t : TabulationEntries) → db.schema ≡ schema_from (tables_in form) [] [] []
     → IsDatabase db → HasVersion 1 db → IsOlderOf form s t → ListsFirst (tables_in form) db s t → HoldsOlder form db s
 older_held form db s t schema sound office is lists = record { is = is.is; first = first_from (tables_in form) (older_tables form s) db (record { schema = schema; sound = sound; holds = each }) }
@@ -238,7 +238,7 @@ older_held form db s t schema sound office is lists = record { is = is.is; first
           (rows_held u db (first_begins (tables_in form) db.schema schema u low) sound (tables_with s t u) (lists u has low).all (lists u has low).typed)
     ]
 
--- the rows that were read are those of each older state that the database holds
+-- the rows that were read are those of each older state that the database contains
 older_listed : (form : OlderForm) (db : Database) (s x : OfficeState) (t : TabulationEntries) → ListsFirst (tables_in form) db s t → IsBare form s t
     → HoldsOlder form db x → SameContents (tables_with x (tabulation_in form x)) (tables_with s t)
 older_listed form db s x t lists bare held u = elim (which_kind u) [
@@ -268,8 +268,8 @@ unfolding tables_of
 older_tabulated WithCounts s x t is bare each same = tabulated_same s x t is each same
 older_tabulated WithoutCounts s x t is bare each same = bare.no_counts refl
 
--- such a state has just these maps, and what stands beside them
-pub older_are : (form : OlderForm) (db : Database) (s x : OfficeState) (t : TabulationEntries) → ListsFirst (tables_in form) db s t → MapsRise s
+-- such a state has exactly these maps and this tabulation
+pub older_are : (form : OlderForm) (db : Database) (s x : OfficeState) (t : TabulationEntries) → ListsFirst (tables_in form) db s t → MapsAreSorted s
     → IsBare form s t → HoldsOlder form db x → IsOlderOf form s t
 older_are form db s x t lists rise bare held =
     let same = older_listed form db s x t lists bare held in
@@ -285,7 +285,7 @@ form_told form other db x schema held = one_name form other (sym (named form db.
 pub none_of_form : (form : OlderForm) (db : Database) → db.schema ≡ schema_from (tables_in form) [] [] [] → ((x : OfficeState) → ¬ HoldsOlder form db x) → HoldsNoOlder db
 none_of_form form db schema none other x held = none x (subst (λ (f : OlderForm). HoldsOlder f db x) (sym (form_told form other db x schema held)) held)
 
-pub none_of_schema : (db : Database) → ((form : OlderForm) → form_of db.schema ≢ name_of form) → HoldsNoOlder db
+pub none_of_schema : (db : Database) → ((form : OlderForm) → tables_present db.schema ≢ name_of form) → HoldsNoOlder db
 none_of_schema db none form x held = none form (named form db.schema (at_first form db x held).schema)
 
 pub strange_older : (form : OlderForm) (db : Database) → db.schema ≡ schema_from (tables_in form) [] [] [] → (f : Fault) → TellsStrange (tables_in form) db f → TellsOlder db f
@@ -319,7 +319,7 @@ not_newer db first newer =
 pub no_state_there : (db : Database) → HasVersion 1 db → HoldsNoState db
 no_state_there db first s held = two_versions db first (state_version db s held)
 
--- of an older office an opening tells want of memory, a failing store, or that it is older
+-- an older office has an office row, which is not of a later version
 pub older_told : (form : OlderForm) (db : Database) (s : OfficeState) → HoldsOlder form db s → (¬ HasNoOffice db) × (¬ IsNewer db)
 older_told form db s held =
     let version = older_version form db s held in (
@@ -330,7 +330,7 @@ older_told form db s held =
       not_newer db version,
     )
 
--- what an opening tells at once
+-- a fault reported when an office is opened is also reported by a migration, unless it is `OlderSchema`
 pub told_at_once : (db : Database) (f : Fault) → IsToldBy db f → f ≢ OlderSchema → IsToldInMigration db f
 told_at_once db Memory told other = tt
 told_at_once db Store told other = tt
@@ -346,7 +346,7 @@ told_at_once db WrongDatabase told other = told
 told_at_once db NewerSchema told other = told
 told_at_once db OlderSchema told other = absurd (other refl)
 
--- and what is told of the rows of an older office
+-- so is a fault reported for the rows of an older office
 pub told_later : (db : Database) → (¬ HasNoOffice db) × HasVersion 1 db → (f : Fault) → TellsOlder db f → IsToldInMigration db f
 told_later db office Memory told = tt
 told_later db office Store told = tt
@@ -374,7 +374,7 @@ version_put form s Bundle = IsPermutation-refl _
 version_put form s Vote = IsPermutation-refl _
 version_put form s Third = IsPermutation-refl _
 
--- tables that are made with no row
+-- tables that are created empty
 pub third_none : (form : OlderForm) (s : OfficeState) → IsOlderState s → older_tables form s Third ≡ []
 third_none WithCounts s is = older_none WithCounts s is Third (omega arith)
 third_none WithoutCounts s is = older_none WithoutCounts s is Third (omega arith)
@@ -385,7 +385,7 @@ bundles_none s is = older_none WithoutCounts s is Bundle (omega arith)
 pub figures_none : (s : OfficeState) → IsOlderState s → older_tables WithoutCounts s Vote ≡ []
 figures_none s is = older_none WithoutCounts s is Vote (omega arith)
 
--- with what it lacked, an older office has what is tabulated
+-- with what it lacked, an older office has the whole tabulation
 pub lacks_filled : (form : OlderForm) (s : OfficeState) (a : AdditionEntries) → Lacks form s a → tables_with s (with_addition a (tabulation_in form s)) ≡ tables_of s
 unfolding tables_of
 lacks_filled form s a lacks = ap (tables_with s) lacks
@@ -399,7 +399,7 @@ rests_older form db s st rests held = record {
     is_open = rests.is_open;
     outside = rests.outside;
     settled = rests.now ∙ sym rests.committed;
-    first = subst (HasFirst (tables_in form) (older_tables form s)) (sym rests.now) held.first;
+    first = subst (HasFirstTables (tables_in form) (older_tables form s)) (sym rests.now) held.first;
   };
 }
 
@@ -413,7 +413,7 @@ older_rests form s st older = (
 pub older_again : (form : OlderForm) (s : OfficeState) (db : Database) → IsDatabase db → StoresOlder form s db.trees → HoldsOlder form db s
 older_again form s db sound left = record { is = left.is; first = first_found (tables_in form) (older_tables form s) db sound left.stores }
 
--- a stop in the transaction leaves what it left before, or the tables of the state
+-- a stop in the transaction leaves what it could leave before, or the tables of the state
 pub older_leaves : (form : OlderForm) (db : Database) (s : OfficeState) (old mid new : State) → HoldsOlder form db s → OnlyReads old mid → HasCleanDisk mid
     → HasCleanDisk new → Survives mid new (Stores (tables_of s)) → LeavesOlderOr db old new
 older_leaves form db s old mid new held reads before clean survives trees may = elim (survives.crash clean trees may) [
@@ -427,12 +427,12 @@ leaves_later db old mid new reads before leaves trees may = elim (leaves trees m
   | inr made ↦ inr made
 ]
 
--- ---- a migration, at a database whose state is known
+-- ---- a migration of a database with a known state
 
 state_older : (db : Database) (s : OfficeState) → HoldsState db s → IsOlderSchema db.schema
 unfolding IsOffice
 state_older db s held =
-    let whole : form_of db.schema ≡ Whole = rw (all_there db.schema held.office.begins) refl in
+    let whole : tables_present db.schema ≡ Whole = rw (all_there db.schema held.office.begins) refl in
     record { without_third = λ same. absurd (let it : Whole ≡ WithoutThird = sym whole ∙ same in cc); without_counts = λ same. absurd (let it : Whole ≡ WithoutCountTables = sym whole ∙ same in cc) }
 
 pub state_ours : (db : Database) (s : OfficeState) → HoldsState db s → IsOurs db.schema
@@ -440,7 +440,7 @@ unfolding IsOffice
 state_ours db s held = record { office = λ _. begins_to Office db.schema held.office.begins; every = λ _. held.office.begins }
 
 module _ (r : Result Migrated Fault) (old new : State) where
-  -- what a migration promises at any database, of what it opened, of what a stop leaves, and of a fault
+  -- what a migration guarantees for any database, about what it opened, about a fault, and about what a stop leaves
   abbrev Opens : Type 0
   Opens = (db : Database) → IsOurs db.schema → IsOlderSchema db.schema → RestsAt db old → IfOk r (λ m. (x : OfficeState) × WasAt db m x × IsAt x new)
 
@@ -506,14 +506,14 @@ module _ (r : Result Migrated Fault) (old new : State) where
       go Already found = (refl, subst (λ (y : OfficeState). IsAt y new) (sym (one_state db s found.0 held found.1)) found.2)
       go Done found = absurd (two_versions db (older_version found.1.0 db found.0 found.1.1) (state_version db s held))
 
--- why a migration that began with a read came to nothing
+-- why a migration that began with a read failed
 pub if_failed_later : (r : Result Migrated Fault) (db : Database) (a b c : State) → OnlyReads a b → HasCleanDisk b → b.faults ≤ c.faults
     → IfErr r (FailsToMigrate db b c) → IfErr r (FailsToMigrate db a c)
 if_failed_later (Ok m) db a b c first clean counts fails = tt
 if_failed_later (Err f) db a b c first clean counts (inl listed) = inl (λ store. elim (listed store) [ inl failed ↦ inl (failed_later a b c first clean counts failed) | inr shared ↦ inr shared ])
 if_failed_later (Err f) db a b c first clean counts (inr held) = inr held
 
--- ---- the parts of a reading
+-- ---- the parts of a read
 
 -- a receipt about a third clerk, among those that were read
 asked_mapped : (rs : List ReceiptValue) → list_any (λ (r : ReceiptEntry). is_about_third r.subject) (map receipt_entry rs) ≡ list_any
@@ -524,7 +524,7 @@ asked_mapped (r ∷ rs) = ap (λ b. is_about_third (receipt_entry r).subject || 
 pub asked : (rows : Rows) (form : OlderForm) → list_any (λ (r : ReceiptValue). is_about_third (receipt_entry r).subject) rows.receipts.items ≡ true → ¬ IsOlderOf form (state_of rows) (tabulated rows)
 asked rows form hit is = true≢false (sym hit ∙ sym (asked_mapped rows.receipts.items) ∙ is.is.unasked)
 
--- what was counted of an older state, and what it lacks of that
+-- what an older office lacks of the tabulation that was counted
 pub if_lacking : (o : Option Addition) (rows : Rows) (form : OlderForm) (u : TabulationEntries) → list_any (λ (r : ReceiptValue). is_about_third (receipt_entry r).subject) rows.receipts.items ≡ false
     → IsBare form (state_of rows) (tabulated rows) → IsTabulatedAs (state_of rows) u
     → IfSome o (λ a. IsTabulatedAs (state_of rows) u → (tabulated rows ≡ tabulation_in form (state_of rows)) × Lacks form (state_of rows) (addition_entries a))
@@ -534,7 +534,7 @@ if_lacking (Some a) rows form u unasked bare is lacks =
     let it = lacks is in
     (record { is = record { is = is.0; no_thirds = bare.no_thirds; unasked = asked_mapped rows.receipts.items ∙ unasked }; tabulated = it.0 }, it.1)
 
--- once the last table is made, the tables are all there
+-- once the last table is created, all tables exist
 pub if_all_made : {X E : Type 0} (r : Result X E) (c : Contents) (st : State) → OnOk r (SeesMade 11 c st) → OnOk r (Sees c st)
 if_all_made (Ok x) c st made = all_made c st made
 if_all_made (Err e) c st made = tt
@@ -545,7 +545,7 @@ pub store_older : (db : Database) (f : Fault) → (f ≡ Memory) ⊎ (f ≡ Stor
 store_older db f (inl same) = subst (TellsOlder db) (sym same) tt
 store_older db f (inr same) = subst (TellsOlder db) (sym same) tt
 
--- what a fault in the transaction leaves, and one before it
+-- what a fault in the transaction leaves, and what one before it leaves
 abbrev pub LeavesUnlessBroken : State → State → Fault → Type 0
 LeavesUnlessBroken old new f = (f ≡ Memory) ⊎ ((f ≡ Store) ⊎ OnlyReads old new)
 

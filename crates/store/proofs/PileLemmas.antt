@@ -1,4 +1,4 @@
--- Why the twins that are found are the batches' own.
+-- Proof that the twins found are those of the batches.
 use Rattle.std.proofs.Common.{◌≡◌, ◌==◌, ℕ, Bool, true, false, cond, not, ◌&&◌, List, [], ◌∷◌, ◌++◌, map, filter, find, Option, Some, None, option_map, refl, sym, ap, ◌∙◌}
 use Rattle.std.proofs.Math.Bool.{and-false}
 use Rattle.std.proofs.lemmas.Bool.{cond-true, cond-false}
@@ -11,21 +11,21 @@ use Rattle.std.specs.Prelude.{String, Vec}
 use Rattle.std.specs.Str.{bytes_eq}
 use Rattle.register.specs.Offices.{BatchEntry, KeyedEntry, JudgedEntry, OfficeState, candidates_of, verdicts_of}
 use Rattle.register.specs.Marks.{columns_of}
-use Rattle.register.specs.Papers.{is_keyed, agreed, clerks_of, keyings_now, taken_papers, is_taken}
+use Rattle.register.specs.Agreement.{is_keyed, agreed, clerks_of, keyings_now, taken_papers, is_taken}
 use Rattle.store.specs.declared.overviews.batches.BatchOverview.{BatchOverview}
 use Rattle.store.specs.Overviews.{BatchView, clerk_view_of, batch_view, batch_view_with, batch_view_of, batch_views, is_twin, twin_of, pile_text, pile_in, pile_text_of}
 use Rattle.store.specs.Piles.{ReadView, view_by, read_view_of, is_pile, numbers_with, numbers_under, twin_under, paired, all_paired}
 
 -- ---- lists
 
--- the numbers with one batch more
+-- the numbers, with one more batch
 pub numbers_more : (rs : List ReadView) (r : ReadView) (q : List ℕ) → numbers_with rs q ++ numbers_with (r ∷ []) q ≡ numbers_with (rs ++ r ∷ []) q
 numbers_more rs r q =
     let has = λ (x : ReadView). is_pile q x.pile in
     let number = λ (x : ReadView). x.number in
     sym (ap (map number) (filter-append has rs (r ∷ [])) ∙ map-append number (filter has rs) (filter has (r ∷ [])))
 
--- what is told with one batch more
+-- the overviews, with one more batch
 pub one_paired : (numbers : List ℕ → List ℕ) (before : List BatchOverview) (found : Option BatchOverview) (rs : List ReadView) (r : ReadView)
     → map batch_view before ≡ all_paired numbers rs → option_map batch_view found ≡ paired numbers r
     → map batch_view (before ++ option_to_list found) ≡ all_paired numbers (rs ++ r ∷ [])
@@ -43,19 +43,19 @@ one_paired numbers before found rs r all one =
     last None = refl
     last (Some v) = refl
 
--- the numbers that were found under a text
+-- the numbers found for a text
 pub group_told : {Y A S : Type 0} (numbers : HashMap (String Y) (Vec ℕ A) S) (text : List ℕ) (group : Vec ℕ A) → Some group ≡ get_by_text numbers text → group.items ≡ numbers_under numbers text
 group_told {A = A} numbers text group found = ap (λ (o : Option (Vec ℕ A)). option_map_or (λ v. v.items) o []) found
 
 -- ---- twins
 
 module _ (s : OfficeState) (ward : ℕ) where
-  -- a batch has a pile where it is taken with these papers
+  -- a batch has this pile if it is taken with these papers
   has_pile : (text own : List ℕ) (taken : Bool) → is_pile text (cond taken (Some own) None) ≡ (taken && bytes_eq text own)
   has_pile text own true = refl
   has_pile text own false = refl
 
-  -- the first other number under a batch's pile is that of the first batch that is its twin
+  -- the first other number with a batch's pile is that of the first batch that is its twin
   first_twin : (b : BatchEntry) (cs : List BatchEntry)
       → find (λ n. not (n == b.number)) (numbers_with (map (read_view_of s ward) cs) (pile_text_of s b)) ≡ option_map (λ (c : BatchEntry). c.number) (find (is_twin s b) cs)
   first_twin b [] = refl
@@ -107,7 +107,7 @@ module _ (s : OfficeState) (ward : ℕ) where
         go true later = ap (λ (t : Option ℕ). batch_view_with s b t ∷ others) (twin_found b) ∙ ap (λ (vs : List BatchView). batch_view_of s b ∷ vs) later
         go false later = later
 
-    -- all batches that were read tell how those of the ward stand
+    -- the overviews from all batches that were read are those of the ward's batches
     batches_paired : all_paired numbers (map (read_view_of s ward) s.batches) ≡ batch_views s ward
     batches_paired = each_paired s.batches
 
@@ -118,7 +118,7 @@ module _ (s : OfficeState) (ward : ℕ) where
 
 -- ---- one batch
 
--- what is told of a batch by what was read of it
+-- the overview of a batch, from what was read of it
 pub view_told : (s : OfficeState) (b : BatchEntry) (clerks : List (ℕ × Bool)) (keyings : List (List KeyedEntry)) (verdicts : List JudgedEntry)
     → clerks ≡ map (clerk_view_of s b) (clerks_of s b) → keyings ≡ keyings_now s b → verdicts ≡ verdicts_of s b.number
     → view_by b clerks keyings verdicts ≡ batch_view_with s b None
@@ -136,11 +136,11 @@ pile_told s b columns text papers keyings is told taken now there =
     ap (λ (t : List ℕ). Some t) (is ∙ ap (λ (cs : List ℕ). pile_text cs papers) told ∙ ap (pile_text (columns_of (candidates_of s b.ward))) same)
     ∙ sym (cond-true (is_taken s b) (Some (pile_text_of s b)) None (ap is_keyed (sym same) ∙ there))
 
--- a batch that isn't taken has none
+-- a batch that isn't taken has no such text
 pub no_pile : (s : OfficeState) (b : BatchEntry) (papers : List KeyedEntry) (keyings : List (List KeyedEntry)) → papers ≡ agreed keyings
     → keyings ≡ keyings_now s b → is_keyed papers ≡ false → None ≡ pile_in s b
 no_pile s b papers keyings taken now there = sym (cond-false (is_taken s b) (Some (pile_text_of s b)) None (ap is_keyed (sym (taken ∙ ap agreed now)) ∙ there))
 
--- batches that were read with the same fields are the same
+-- batches that were read with the same fields are equal
 pub same_read_view : (x y : ReadView) → x.number ≡ y.number → x.pile ≡ y.pile → x.overview ≡ y.overview → x ≡ y
 same_read_view x y number pile overview = ap (λ v. record x { number = v }) number ∙ ap (λ v. record x { number = y.number; pile = v }) pile ∙ ap (λ v. record y { overview = v }) overview

@@ -1,4 +1,4 @@
--- A database that a stop left opens again, at the state whose tables it holds.
+-- A database that a stop left reopens, at the state whose tables it contains.
 use Rattle.std.proofs.Common.{◌≡◌, ◌⊎◌, inl, inr, true, [], ◌∷◌, refl, sym, ap₂, subst, IsTrue}
 use Rattle.std.specs.List.Sorted.{IsStrictlySortedBy}
 use Rattle.std.specs.declared.cmp.Ordering.{Ordering}
@@ -13,7 +13,7 @@ use Rattle.sqlite.specs.Effect.{Database, IsDatabase}
 use Rattle.sqlite.specs.State.{State}
 use Rattle.sqlite.proofs.Callers.{one_permutation}
 use Rattle.register.specs.Offices.{OfficeState}
-use Rattle.register.specs.Items.{IsState}
+use Rattle.register.specs.StateConditions.{IsState}
 use Rattle.tables.specs.declared.fault.Fault.{Fault}
 use Rattle.tables.specs.declared.fault.Fault.TheVariants.{Memory, Store, Damaged, Closed, WrongDatabase, NewerSchema, OlderSchema}
 use Rattle.tables.specs.declared.table.Table.{Table}
@@ -24,7 +24,7 @@ use Rattle.tables.specs.Contents.{Contents, IsOffice, RestsAt}
 use Rattle.tables.specs.Presence.{has_table, IsOurs}
 use Rattle.tables.specs.Reading.{SharesRowids, FailsToList, FailsBy}
 use Rattle.store.specs.EntryRows.{this_version, office_row}
-use Rattle.store.specs.Offices.{tables_of, HoldsState, IsAt}
+use Rattle.store.specs.StateTables.{tables_of, HoldsState, IsAt}
 use Rattle.store.specs.Openings.{HasNoOffice, IsNewer, IsOlder, IsLeftAt, IsToldBy}
 use Rattle.tables.proofs.ListingLemmas.{begins_to}
 use Rattle.tables.proofs.HoldLemmas.{own_rowids}
@@ -40,7 +40,7 @@ begins : (c : Contents) (db : Database) → IsOffice c db → IsOfficeSchema db.
 unfolding IsOffice
 begins c db office = office.begins
 
--- the trees tell the schema, so the database is the one whose tables they are
+-- the trees determine the schema, so the database is the one with these tables
 pub left_holds : (s : OfficeState) (db : Database) → IsLeftAt s db → HoldsState db s
 left_holds s db left =
     let it = left.stores in
@@ -58,12 +58,12 @@ office_there : (s : Schema) → IsOfficeSchema s → has_table Office s ≡ true
 unfolding same_name
 office_there s h = subst (λ (x : Schema). has_table Office x ≡ true) (sym h.is) refl
 
--- where a state is held, there is an office of this version
+-- a database that contains a state is an office of this version
 holds_office : (s : OfficeState) (db : Database) → HoldsState db s → (¬ HasNoOffice db) × (¬ IsNewer db) × (¬ IsOlder db)
 unfolding IsOffice
 holds_office s db held = this_office db (office_there db.schema held.office.begins) (state_version db s held)
 
--- no fault is told of it but those that come at any database
+-- no fault is reported for it but those that may be reported for any database
 pub left_told : (s : OfficeState) (db : Database) (f : Fault) → IsLeftAt s db → IsToldBy db f → (f ≡ Memory) ⊎ (f ≡ Store)
 left_told s db f left told = go f told
   where
@@ -76,12 +76,12 @@ left_told s db f left told = go f told
     go NewerSchema told = absurd ((holds_office s db (left_holds s db left)).1 told)
     go OlderSchema told = absurd ((holds_office s db (left_holds s db left)).2 (one_permutation (office_row 1) (tuples Office db.trees) told.1.same))
 
--- one row rises
+-- one row is in ascending order
 one_rises : (by : Row → Row → Ordering) (row : Row) → IsStrictlySortedBy by (row ∷ [])
 unfolding IsStrictlySortedBy
 one_rises by row = (tt, tt)
 
--- the rows of each table rise
+-- the rows of each table are in ascending order
 all_rise : (s : OfficeState) → IsState s → (t : Table) → IsStrictlySortedBy (row_cmp t) (tables_of s t)
 all_rise s is t = elim (which_kind t) [
   | inl office ↦ subst (λ (u : Table). IsStrictlySortedBy (row_cmp u) (tables_of s u)) (sym office)
@@ -89,7 +89,7 @@ all_rise s is t = elim (which_kind t) [
   | inr has ↦ tables_rise s is t has
 ]
 
--- rowids are the rows' own, so the store failed where that is told
+-- if a database contains a state, rowids are distinct integers; so if a fault of the store is reported, the store failed
 own_there : (s : OfficeState) (db : Database) → HoldsState db s → ¬ SharesRowids db
 unfolding IsOffice
 own_there s db held shared =
@@ -108,6 +108,6 @@ at_left s st at is_open =
     let rests = at.rests is_open in
     (rests_at (tables_of s) st rests, record { is = at.is; sound = sound (tables_of s) st.now rests.office; stores = record { db = st.now; office = rests.office; same = refl } })
 
--- and the state found in it is this one
+-- the state found in it is this one
 pub left_opened : (s : OfficeState) (db : Database) (st : State) → IsLeftAt s db → (x : OfficeState) × HoldsState db x × IsAt x st → IsAt s st
 left_opened s db st left found = subst (λ (x : OfficeState). IsAt x st) (one_state db found.0 s found.1 (left_holds s db left)) found.2

@@ -1,4 +1,4 @@
--- Entries and their rows, whatever the table.
+-- Entries and their rows, for any table.
 use Rattle.std.proofs.Common.{◌≡◌, List, [], ◌∷◌, map, filter, find, Option, Some, None, option_map, IfSome, Result, Ok, Err, IfOk, Bool, true, false, cond, refl, sym, ap, ◌∙◌, Ordering, Less, Equal}
 use Rattle.std.specs.Option.{option_to_list}
 use Rattle.std.specs.Ordering.{is_eq}
@@ -23,19 +23,19 @@ above : {X : Type 0} (row : X → Row) (by : Row → Row → Ordering) (cmp : X 
 above row by cmp alike x [] all = tt
 above row by cmp alike x (y ∷ ys) all = (sym (alike x y) ∙ all.0, above row by cmp alike x ys all.1)
 
--- and the entries as their rows
+-- entries are in ascending order if their rows are
 pub entries_rise : {X : Type 0} (row : X → Row) (by : Row → Row → Ordering) (cmp : X → X → Ordering) → ((x y : X) → by (row x) (row y) ≡ cmp x y)
     → (xs : List X) → IsStrictlySortedBy by (map row xs) → IsStrictlySortedBy cmp xs
 unfolding IsStrictlySortedBy
 entries_rise row by cmp alike [] up = tt
 entries_rise row by cmp alike (x ∷ xs) up = (above row by cmp alike x xs up.0, entries_rise row by cmp alike xs up.1)
 
--- ---- rows that tell their entries
+-- ---- rows that determine their entries
 
 back_all : {X : Type 0} (row : X → Row) (back : Row → X) → ((x : X) → back (row x) ≡ x) → (xs : List X) → map back (map row xs) ≡ xs
 back_all row back returns xs = mapped_twice row back xs ∙ mapped_same (λ x. back (row x)) (λ x. x) xs (λ x h. returns x) ∙ mapped_itself xs
 
--- entries whose rows rise are those of their rows, in whatever order these stand
+-- entries whose rows are in ascending order are determined by these rows, in any order
 pub entries_same : {X : Type 0} (t : Table) (row : X → Row) (back : Row → X) → ((x : X) → back (row x) ≡ x) → (xs ys : List X) → IsStrictlySortedBy (row_cmp t) (map row xs)
     → IsStrictlySortedBy (row_cmp t) (map row ys)
     → IsPermutation (map row xs) (map row ys) → xs ≡ ys
@@ -44,7 +44,7 @@ entries_same t row back returns xs ys up also same =
     (λ r h. permuted_has r (map row ys) (map row xs) (IsPermutation-sym _ _ same) h) in
     sym (back_all row back returns xs) ∙ ap (map back) rows ∙ back_all row back returns ys
 
--- what a read tells of the entry, where it tells its row
+-- a value that was read with the row of an entry represents this entry
 pub entry_told : {V X : Type 0} (entry : V → X) (row : X → Row) (back : Row → X) → ((x : X) → back (row x) ≡ x) → (v : Option V) (x : Option X)
     → option_map (λ u. row (entry u)) v ≡ option_map row x → option_map entry v ≡ x
 entry_told entry row back returns None None is = refl
@@ -60,7 +60,7 @@ pub if_entry_told : {V X F : Type 0} (entry : V → X) (row : X → Row) (back :
 if_entry_told entry row back returns (Ok v) x told = entry_told entry row back returns v x told
 if_entry_told entry row back returns (Err f) x told = tt
 
--- the same of a list of entries, whose rows a read tells
+-- the same for a list of entries
 pub if_entries_told : {V X W F : Type 0} (items : W → List V) (entry : V → X) (row : X → Row) (back : Row → X) → ((x : X) → back (row x) ≡ x)
     → (r : Result W F) (xs : List X) (P : List Row → Type 0) → ((rows : List Row) → P rows → rows ≡ map row xs)
     → IfOk r (λ v. P (map (λ u. row (entry u)) (items v))) → IfOk r (λ v. map entry (items v) ≡ xs)
@@ -70,12 +70,12 @@ if_entries_told items entry row back returns (Err f) xs P are told = tt
 
 -- ---- the one row with a key
 
--- tests that say the same keep the same
+-- two equal tests keep the same elements
 pub filter_alike : {X : Type 0} (p q : X → Bool) → ((x : X) → p x ≡ q x) → (xs : List X) → filter p xs ≡ filter q xs
 filter_alike p q alike [] = refl
 filter_alike p q alike (x ∷ xs) = ap (λ b. cond b (x ∷ filter p xs) (filter p xs)) (alike x) ∙ ap (λ l. cond (q x) (x ∷ l) l) (filter_alike p q alike xs)
 
--- the rows that pass a test, in the order of their keys, are those of the entries that pass it
+-- the rows that pass a test, in key order, are those of the entries that pass it
 pub listed_as : {X : Type 0} (t : Table) (row : X → Row) (test : Row → Bool) (keep : X → Bool) → ((x : X) → test (row x) ≡ keep x) → (xs : List X) → IsStrictlySortedBy (row_cmp t) (map row xs)
     → (rows : List Row) → IsPermutation (filter test (map row xs)) rows → IsSorted (row_cmp t) rows → rows ≡ map row (filter keep xs)
 listed_as t row test keep alike xs up rows same sorted =
@@ -86,7 +86,7 @@ none_pass : {X : Type 0} (q : X → Bool) (P : X → Type 0) → ((x : X) → P 
 none_pass q P fails [] all = refl
 none_pass q P fails (x ∷ xs) all = rw (fails x all.0) (none_pass q P fails xs all.1)
 
--- where the test tells one key, a map has one entry that passes, or none
+-- if only one key passes the test, at most one entry of a map passes
 one_found : {X : Type 0} {cmp : X → X → Ordering} (q : X → Bool) → ((x y : X) → q x ≡ true → q y ≡ true → cmp x y ≡ Equal) → (xs : List X)
     → IsStrictlySortedBy cmp xs → filter q xs ≡ option_to_list (find q xs)
 one_found q apart [] up = refl
@@ -107,7 +107,7 @@ mapped_option : {X : Type 0} (row : X → Row) (x : Option X) → map row (optio
 mapped_option row None = refl
 mapped_option row (Some x) = refl
 
--- the row with a key is that of the entry with it
+-- the row with a key is that of the entry with this key
 pub row_found : {X : Type 0} {cmp : X → X → Ordering} (row : X → Row) (key : Row) (compared : X → Ordering) → ((x : X) → begins_with key (row x) ≡ is_eq (compared x))
     → ((x y : X) → compared x ≡ Equal → compared y ≡ Equal → cmp x y ≡ Equal)
     → (xs : List X) → IsStrictlySortedBy cmp xs → filter (begins_with key) (map row xs) ≡ option_to_list (option_map row (entry_at compared xs))
@@ -121,7 +121,7 @@ row_found row key compared alike apart xs up =
     equal Equal is = refl
     equal _ is = absurd cc
 
--- the row of what is found fits, where all rows do
+-- the row of the entry found fits, if all rows do
 pub found_fits : {X : Type 0} (R : Row → Type 0) (row : X → Row) (q : X → Bool) (xs : List X) → AllByRecursion R (map row xs) → IfSome (option_map row (find q xs)) R
 found_fits R row q [] all = tt
 found_fits {X} R row q (x ∷ xs) all = elim (q x) as (λ b. IfSome (option_map row (cond b (Some x) (find q xs))) R) [ true ↦ all.0 | false ↦ found_fits R row q xs all.1 ]

@@ -1,4 +1,4 @@
--- Papers that stand side by side are a keying, where they have its numbers.
+-- Adjacent papers are a keying if they have its numbers.
 use Rattle.std.proofs.Common.{◌≡◌, ℕ, zero, suc, ◌+◌, Bool, true, cond, ◌&&◌, ◌==◌, List, [], ◌∷◌, map, filter, length, Option, Some, None, IfSome}
 use Rattle.std.proofs.Common.{Result, Ok, Err, IfOk, IfErr, OnOk, IsTrue, inl, inr, refl, sym, ap, subst, ◌∙◌, arith, Ordering, Less, Equal, nat_cmp}
 use Rattle.std.specs.Prelude.{⊤}
@@ -12,8 +12,8 @@ use Rattle.sqlite_rules.proofs.ListLemmas.{all_has, has_filtered}
 use Rattle.sqlite.specs.State.{State, HasCleanDisk}
 use Rattle.register.specs.declared.keyings.KeyedPaper.{KeyedPaper}
 use Rattle.register.specs.Offices.{BatchEntry, KeyedEntry, OfficeState, keyed_entry, keyed_cmp, batch_at, keying_of}
-use Rattle.register.specs.Keyed.{are_numbered, is_whole}
-use Rattle.register.specs.Items.{IsState}
+use Rattle.register.specs.BatchConditions.{are_numbered, is_whole}
+use Rattle.register.specs.StateConditions.{IsState}
 use Rattle.tables.specs.declared.fault.Fault.{Fault}
 use Rattle.tables.specs.declared.table.Table.TheVariants.{Keying}
 use Rattle.tables.specs.Contents.{Contents, RestsIfOpen}
@@ -22,15 +22,15 @@ use Rattle.tables.proofs.ListLemmas.{has_mapped, filtered_has, all_from}
 use Rattle.store.specs.EntryRows.{row_of_keyed, IsKeyedRow}
 use Rattle.store.specs.Loads.{LoadsAt}
 use Rattle.store.specs.Keyings.{is_paper_of}
-use Rattle.store.specs.Offices.{tables_of, tables_with}
+use Rattle.store.specs.StateTables.{tables_of, tables_with}
 use Rattle.store.proofs.StateLemmas.{keyed_in, keyed_back}
 use Rattle.store.proofs.FitLemmas.{keyings_fit}
 use Rattle.store.proofs.KeepLemmas.{is_at_read}
 use Rattle.store.proofs.KeyingLemmas.{HasNumbers, has_numbers, there_whole_of}
 
--- ---- what a state has once
+-- ---- what occurs once in a state
 
--- of a list that rises, two that compare equal are one
+-- two elements of a strictly ascending list that compare as equal are the same
 once : {X : Type 0} (cmp : X → X → Ordering) (xs : List X) → IsStrictlySortedBy cmp xs → (a b : X) → Has xs a → Has xs b → cmp a b ≡ Equal → cmp b a ≡ Equal → a ≡ b
 once cmp [] up a b here there one other = absurd here
 once cmp (x ∷ xs) up a b (inl first) (inl also) one other = first ∙ sym also
@@ -45,20 +45,20 @@ once cmp (x ∷ xs) up a b (inr here) (inr there) one other = once cmp xs (sorte
 same_numbers : (m n : ℕ) → m ≡ n → nat_cmp m n ≡ Equal
 same_numbers m n same = ap (nat_cmp m) (sym same) ∙ tied_itself nat_cmp_total m
 
--- papers with the same numbers compare equal
+-- papers with the same numbers compare as equal
 same_place : (j k : KeyedEntry) → j.batch ≡ k.batch → j.round ≡ k.round → j.clerk ≡ k.clerk → j.paper ≡ k.paper → keyed_cmp j k ≡ Equal
 same_place j k batch round clerk paper =
     rw (same_numbers j.batch k.batch batch, same_numbers j.round k.round round, same_numbers j.clerk k.clerk clerk) (same_numbers j.paper k.paper paper)
 
 -- ---- keyings
 
--- a paper of a state, and of a keying
+-- a paper of a state and of a keying
 record IsIn (s : OfficeState) (batch round clerk : ℕ) (k : KeyedEntry) : Type 0 where
   there : Has s.keyings k
   own : is_paper_of batch round clerk k ≡ true
 
 module _ (s : OfficeState) (is : IsState s) (batch round clerk : ℕ) where
-  -- two papers of a keying with one number are one
+  -- two papers of a keying with the same number are equal
   one_paper : (j k : KeyedEntry) → IsIn s batch round clerk j → IsIn s batch round clerk k → j.paper ≡ k.paper → j ≡ k
   one_paper j k first second paper =
       let a = has_numbers batch round clerk j first.own in
@@ -67,7 +67,7 @@ module _ (s : OfficeState) (is : IsState s) (batch round clerk : ℕ) where
       (same_place j k (a.batch_is ∙ sym b.batch_is) (a.round_is ∙ sym b.round_is) (a.clerk_is ∙ sym b.clerk_is) paper)
       (same_place k j (b.batch_is ∙ sym a.batch_is) (b.round_is ∙ sym a.round_is) (b.clerk_is ∙ sym a.clerk_is) (sym paper))
 
-  -- papers of a keying with the same numbers are the same
+  -- papers of a keying with the same numbers are equal
   same_numbered : (n : ℕ) (js ks : List KeyedEntry) → length js ≡ length ks → are_numbered n js ≡ true → are_numbered n ks ≡ true
       → AllByRecursion (IsIn s batch round clerk) js → AllByRecursion (IsIn s batch round clerk) ks → js ≡ ks
   unfolding are_numbered
@@ -117,14 +117,14 @@ all_mapped : {A X : Type 0} (p : X → Bool) (f : A → X) (xs : List A) → lis
 all_mapped p f [] = refl
 all_mapped p f (x ∷ xs) = ap (λ b. p (f x) && b) (all_mapped p f xs)
 
--- papers that were seen to be a keying are it
+-- papers found to be a keying are that keying
 pub seen_keying : (s : OfficeState) → IsState s → (batch round clerk : ℕ) (b : BatchEntry) → batch_at s batch ≡ Some b → (ks : List KeyedPaper) → AllByRecursion (Has s.keyings) (map keyed_entry ks)
     → is_whole b.size (map keyed_entry ks) && list_all (λ k. is_paper_of batch round clerk (keyed_entry k)) ks ≡ true → map keyed_entry ks ≡ keying_of s batch round clerk
 seen_keying s is batch round clerk b found ks there seen =
     let both = and_parts _ _ seen in
     run_is_keying s is batch round clerk b found (map keyed_entry ks) there both.0 (sym (all_mapped (is_paper_of batch round clerk) keyed_entry ks) ∙ both.1)
 
--- papers whose rows are the table's are the state's
+-- papers whose rows are in the table are the state's
 there_each : (all : List KeyedEntry) (ks : List KeyedPaper) → AllByRecursion (Has (map row_of_keyed all)) (map (λ k. row_of_keyed (keyed_entry k)) ks) → AllByRecursion (Has all) (map keyed_entry ks)
 there_each all [] rows = tt
 there_each all (k ∷ ks) rows =
@@ -143,7 +143,7 @@ pub if_any : {W F : Type 0} (r : Result W F) → IfOk r (λ w. ⊤)
 if_any (Ok w) = tt
 if_any (Err f) = tt
 
--- a read of which the state says nothing
+-- a read whose result the state does not determine
 pub loads_any : {X : Type 0} {old new : State} {r : Result X Fault} → (HasCleanDisk new → (c : Contents) → RestsIfOpen c old → IfErr r (FailsBy old new))
     → (HasCleanDisk new → OnOk r (IsTrue new.is_open)) → OnlyReads old new
     → LoadsAt old new r (λ s x. ⊤)

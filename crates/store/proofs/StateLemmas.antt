@@ -1,4 +1,4 @@
--- Rows tell their entries, so equal tables are those of equal states.
+-- Rows determine their entries, so states with equal tables are equal.
 use Rattle.std.proofs.Common.{◌≡◌, ℕ, zero, suc, pos, List, [], Bool, true, false, refl, sym, ap, ◌∙◌, true≢false}
 use Rattle.std.specs.List.Sorted.{IsStrictlySortedBy}
 use Rattle.sqlite.specs.declared.types.Value.{Value}
@@ -9,8 +9,8 @@ use Rattle.register.specs.declared.phase.Phase.{Phase}
 use Rattle.register.specs.declared.phase.Phase.TheVariants.{Nominations, Keying as Keyed, Sealed, Declared}
 use Rattle.register.specs.Phases.{phase_number}
 use Rattle.register.specs.Offices.{WardEntry, CandidateEntry, BatchEntry, ThirdEntry, KeyedEntry, JudgedEntry, LotEntry, ReceiptEntry, OfficeState}
-use Rattle.register.specs.Offices.{MapsRise, ward_cmp, candidate_cmp, batch_cmp, third_cmp, keyed_cmp, judged_cmp, lot_cmp, receipt_cmp}
-use Rattle.register.specs.Items.{IsState}
+use Rattle.register.specs.Offices.{MapsAreSorted, ward_cmp, candidate_cmp, batch_cmp, third_cmp, keyed_cmp, judged_cmp, lot_cmp, receipt_cmp}
+use Rattle.register.specs.StateConditions.{IsState}
 use Rattle.register.specs.Tabulated.{PlacedEntry, FigureEntry, TabulationEntries, tabulation_of, placed_cmp, figure_cmp}
 use Rattle.register.proofs.TabulatedLemmas.{tabulation_rises}
 use Rattle.tables.specs.declared.table.Table.{Table}
@@ -18,13 +18,13 @@ use Rattle.tables.specs.declared.table.Table.TheVariants.{Office, Ward, Candidat
 use Rattle.tables.specs.Rows.{row_cmp}
 use Rattle.tables.specs.Contents.{SameContents, IsOffice}
 use Rattle.store.specs.EntryRows.{row_of_ward, row_of_candidate, row_of_batch, row_of_third, row_of_keyed, row_of_judged, row_of_lot, row_of_receipt, row_of_placed, row_of_figure}
-use Rattle.store.specs.Offices.{tables_of, tables_with, HoldsState}
+use Rattle.store.specs.StateTables.{tables_of, tables_with, HoldsState}
 use Rattle.store.specs.Openings.{has_entries}
 use Rattle.tables.proofs.OrderLemmas.{one_number, two_numbers, three_numbers, four_numbers, number_and_text, number_and_bytes, rows_rise}
 use Rattle.tables.proofs.SameLemmas.{one_contents}
 use Rattle.store.proofs.RowLemmas.{entries_rise, entries_same}
 
--- ---- a row tells its entry
+-- ---- a row determines its entry
 
 abbrev number_in : Value → ℕ
 number_in (Int (pos n)) = n
@@ -157,8 +157,8 @@ has_map Bundle = false
 has_map Vote = false
 has_map _ = true
 
--- the rows of maps that rise rise
-maps_up : (s : OfficeState) (t : TabulationEntries) → MapsRise s → (u : Table) → has_map u ≡ true → IsStrictlySortedBy (row_cmp u) (tables_with s t u)
+-- if maps are in ascending order, so are their rows
+maps_up : (s : OfficeState) (t : TabulationEntries) → MapsAreSorted s → (u : Table) → has_map u ≡ true → IsStrictlySortedBy (row_cmp u) (tables_with s t u)
 unfolding tables_with
 maps_up s t rise Ward has = rows_rise row_of_ward (row_cmp Ward) ward_cmp wards_alike s.wards rise.wards
 maps_up s t rise Candidate has = rows_rise row_of_candidate (row_cmp Candidate) candidate_cmp candidates_alike s.candidates rise.candidates
@@ -172,7 +172,7 @@ maps_up s t rise Office has = absurd (true≢false (sym has))
 maps_up s t rise Bundle has = absurd (true≢false (sym has))
 maps_up s t rise Vote has = absurd (true≢false (sym has))
 
--- the rows of a state rise, and those of what is tabulated of its counts
+-- the rows of a state are in ascending order, and so are those of the tabulation of its counts
 pub tables_rise : (s : OfficeState) → IsState s → (u : Table) → has_entries u ≡ true → IsStrictlySortedBy (row_cmp u) (tables_of s u)
 unfolding tables_of tables_with
 tables_rise s is Bundle has = rows_rise row_of_placed (row_cmp Bundle) placed_cmp bundles_alike (tabulation_of s).bundles (tabulation_rises s is).bundles
@@ -187,8 +187,8 @@ tables_rise s is Verdict has = maps_up s (tabulation_of s) is.rise Verdict refl
 tables_rise s is Lot has = maps_up s (tabulation_of s) is.rise Lot refl
 tables_rise s is Receipt has = maps_up s (tabulation_of s) is.rise Receipt refl
 
--- maps whose rows rise, rise
-pub maps_rise : (s : OfficeState) (t : TabulationEntries) → ((u : Table) → has_entries u ≡ true → IsStrictlySortedBy (row_cmp u) (tables_with s t u)) → MapsRise s
+-- maps whose rows are in ascending order are in ascending order
+pub maps_rise : (s : OfficeState) (t : TabulationEntries) → ((u : Table) → has_entries u ≡ true → IsStrictlySortedBy (row_cmp u) (tables_with s t u)) → MapsAreSorted s
 unfolding tables_with
 maps_rise s t each = record {
   wards = entries_rise row_of_ward (row_cmp Ward) ward_cmp wards_alike s.wards (each Ward refl);
@@ -203,8 +203,8 @@ maps_rise s t each = record {
 
 -- ---- states
 
--- maps that rise and have the same rows are equal, whatever is tabulated beside them
-pub equal_maps : (s x : OfficeState) (t u : TabulationEntries) → MapsRise s → MapsRise x → SameContents (tables_with s t) (tables_with x u) → s ≡ x
+-- maps in ascending order with the same rows are equal, whatever the tabulation
+pub equal_maps : (s x : OfficeState) (t u : TabulationEntries) → MapsAreSorted s → MapsAreSorted x → SameContents (tables_with s t) (tables_with x u) → s ≡ x
 unfolding tables_with
 equal_maps s x t u rise also same =
     let wards = entries_same Ward row_of_ward ward_in ward_back s.wards x.wards (maps_up s t rise Ward refl) (maps_up x u also Ward refl) (same Ward) in
@@ -230,12 +230,12 @@ pub equal_states : (s t : OfficeState) → IsState s → IsState t → SameConte
 unfolding tables_of
 equal_states s t is also same = equal_maps s t (tabulation_of s) (tabulation_of t) is.rise also.rise same
 
--- a database stands for one state
+-- a database represents one state
 pub one_state : (db : Database) (s t : OfficeState) → HoldsState db s → HoldsState db t → s ≡ t
 unfolding IsOffice
 one_state db s t first second = equal_states s t first.is second.is (one_contents (tables_of s) (tables_of t) db.trees first.office.holds second.office.holds)
 
--- what is tabulated beside a state is tabulated of its counts, where its rows rise and are those of the state
+-- a tabulation whose rows are in ascending order, and those of a state, is the tabulation of its counts
 pub tabulated_same : (s x : OfficeState) (t : TabulationEntries) → IsState x → ((u : Table) → has_entries u ≡ true → IsStrictlySortedBy (row_cmp u) (tables_with s t u))
     → SameContents (tables_of x) (tables_with s t) → t ≡ tabulation_of x
 unfolding tables_of tables_with

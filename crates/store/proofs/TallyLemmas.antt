@@ -1,4 +1,4 @@
--- Why the tallies of batches are those of the state.
+-- Proof that the tallies of batches are those of the state.
 use Rattle.std.proofs.Common.{◌≡◌, ℕ, ◌+◌, ◌-◌, ◌^◌, ◌<◌, ◌≤◌, ◌==◌, min, Bool, true, false, cond, List, [], ◌∷◌, ◌++◌, map, filter, length, refl, ap, ◌∙◌, arith}
 use Rattle.std.proofs.lemmas.Bool.{and_parts}
 use Rattle.std.proofs.lemmas.List.Elements.{filter-append}
@@ -6,14 +6,14 @@ use Rattle.std.proofs.lemmas.List.Kept.{IsStrictlySortedBy-filter}
 use Rattle.std.proofs.lemmas.List.{length-append}
 use Rattle.register.specs.declared.verdicts.JudgedPaper.{JudgedPaper}
 use Rattle.register.specs.Offices.{BatchEntry, KeyedEntry, OfficeState, judged_entry, verdicts_of, batch_cmp}
-use Rattle.register.specs.Papers.{is_keyed, agreed, are_taken, differ, keyings_now, taken_papers, is_taken, is_differing, is_open, open_in, open_among, batches_of, taken_of, differing_of}
-use Rattle.register.specs.Keyed.{are_rounds_to}
-use Rattle.register.specs.Items.{IsState, is_batch}
+use Rattle.register.specs.Agreement.{is_keyed, agreed, are_taken, differ, keyings_now, taken_papers, is_taken, is_differing, is_open, open_in, open_among, batches_of, taken_of, differing_of}
+use Rattle.register.specs.BatchConditions.{are_rounds_to}
+use Rattle.register.specs.StateConditions.{IsState, is_batch}
 use Rattle.register.specs.Polls.{pile_of, judgement_on, judgements}
-use Rattle.register.specs.Standings.{StatusEntry}
+use Rattle.register.specs.Status.{StatusEntry}
 use Rattle.register.proofs.MapLemmas.{kept_all}
 use Rattle.register.proofs.ContestLemmas.{length_map, few_among, few_batches}
-use Rattle.store.specs.declared.standings.Tally.{Tally}
+use Rattle.store.specs.declared.status.Tally.{Tally}
 use Rattle.store.specs.declared.views.papers.Keyings.{Keyings}
 use Rattle.store.specs.Keyings.{keyings_by}
 use Rattle.store.specs.Tallies.{tally_by, IsTally}
@@ -24,7 +24,7 @@ one_there : (b : BatchEntry) (q : Bool) → cond q 1 0 ≡ length (cond q (b ∷
 one_there b true = refl
 one_there b false = refl
 
--- of a batch that isn't taken no paper is open
+-- a batch that isn't taken has no open paper
 open_there : (s : OfficeState) (b : BatchEntry) → open_in s b ≡ open_among s (cond (is_taken s b) (b ∷ []) [])
 open_there s b = go (taken_papers s b) refl
   where
@@ -35,7 +35,7 @@ open_there s b = go (taken_papers s b) refl
     go [] none = ap (λ ks. length (filter (is_open (verdicts_of s b.number)) ks)) none
     go (k ∷ ks) some = plus (open_in s b)
 
--- what a batch comes to by its keyings and verdicts, it comes to in the state
+-- the tally of a batch by its keyings and verdicts is its tally in the state
 pub one_tally : (s : OfficeState) (b : BatchEntry) (keyings : Keyings) (verdicts : List JudgedPaper) → keyings_by keyings ≡ keyings_now s b
     → map judged_entry verdicts ≡ verdicts_of s b.number → IsTally s (b ∷ []) (tally_by keyings verdicts)
 one_tally s b keyings verdicts keyed judged =
@@ -46,7 +46,7 @@ one_tally s b keyings verdicts keyed judged =
           (λ ks. length (filter (is_open (verdicts_of s b.number)) (agreed ks))) keyed ∙ open_there s b;
     }
 
--- ---- some batches
+-- ---- several batches
 
 counted : (p : BatchEntry → Bool) (bs cs : List BatchEntry) → length (filter p (bs ++ cs)) ≡ length (filter p bs) + length (filter p cs)
 counted p bs cs = ap length (filter-append p bs cs) ∙ length-append (filter p bs) (filter p cs)
@@ -61,7 +61,7 @@ open_both s (b ∷ bs) cs = let later = open_both s bs cs in omega (arith, later
 pub no_tally : (s : OfficeState) (tally : Tally) → tally.taken ≡ 0 → tally.differing ≡ 0 → tally.doubtful_open ≡ 0 → IsTally s [] tally
 no_tally s tally taken differing doubtful_open = record { taken = λ few. taken; differing = λ few. differing; doubtful_open = λ few. doubtful_open }
 
--- what some batches come to, and then one more
+-- the tally of several batches, and then one more
 pub more_tally : (s : OfficeState) (bs : List BatchEntry) (b : BatchEntry) (some one sum : Tally) → IsTally s bs some → IsTally s (b ∷ []) one
     → (sum.taken ≡ min (some.taken + one.taken) (2 ^ 64 - 1)) × (sum.differing ≡ min (some.differing + one.differing) (2 ^ 64 - 1)) ×
     (sum.doubtful_open ≡ min (some.doubtful_open + one.doubtful_open) (2 ^ 64 - 1)) → IsTally s (bs ++ b ∷ []) sum
@@ -79,7 +79,7 @@ more_tally s bs b some one sum first last sums =
         let other = last (omega (arith, are, few)) in
         omega (arith, sums, one, other, are, few)
 
--- ---- a ward's can be counted
+-- ---- the papers of a ward can be counted
 
 fewer : {X : Type 0} (p : X → Bool) (xs : List X) → length (filter p xs) ≤ length xs
 fewer p [] = omega arith
@@ -121,7 +121,7 @@ countable s is ward tally as_far =
 
 -- ---- a ward
 
--- standings with the same numbers are the same
+-- statuses with the same numbers are equal
 pub same_status : (x y : StatusEntry) → x.ward ≡ y.ward → x.phase ≡ y.phase → x.candidates ≡ y.candidates → x.batches ≡ y.batches → x.taken ≡ y.taken
     → x.differing ≡ y.differing → x.doubtful_open ≡ y.doubtful_open → x.stages ≡ y.stages → x ≡ y
 same_status x y ward phase candidates batches taken differing doubtful_open stages =

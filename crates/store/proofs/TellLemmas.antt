@@ -1,4 +1,4 @@
--- Which fault the rows of a table give.
+-- The faults reported for the rows of a table.
 use Rattle.std.proofs.Common.{◌≡◌, ◌⊎◌, inl, inr, ℕ, ◌<◌, ◌≤◌, ℤ, pos, negsuc, ◌<ℤ◌, List, [], ◌∷◌, map, length, get_or, Bool, true, false, refl, sym, ap, subst, ◌∙◌, true≢false, arith}
 use Rattle.std.specs.List.{AllByRecursion}
 use Rattle.std.specs.List.Sorted.{IsPermutation}
@@ -12,8 +12,8 @@ use Rattle.sqlite.specs.Schema.{Schema}
 use Rattle.sqlite.specs.Effect.{Database, IsDatabase}
 use Rattle.sqlite.specs.State.{State, IsLive}
 use Rattle.sqlite.proofs.Callers.{one_permutation}
-use Rattle.register.specs.Offices.{OfficeState, MapsRise}
-use Rattle.register.specs.Items.{IsState}
+use Rattle.register.specs.Offices.{OfficeState, MapsAreSorted}
+use Rattle.register.specs.StateConditions.{IsState}
 use Rattle.register.specs.Tabulated.{TabulationEntries, tabulation_of}
 use Rattle.tables.specs.declared.fault.Fault.{Fault}
 use Rattle.tables.specs.declared.fault.Fault.TheVariants.{Memory, Store, Damaged, Closed, WrongDatabase, NewerSchema, OlderSchema}
@@ -25,7 +25,7 @@ use Rattle.tables.specs.Contents.{SameContents, HoldsTable, RestsAt, IsOffice}
 use Rattle.tables.specs.Presence.{has_table, has_every_table}
 use Rattle.tables.specs.Reading.{Lists, ListsKeyed, HoldsNone}
 use Rattle.store.specs.EntryRows.{this_version, office_row}
-use Rattle.store.specs.Offices.{HoldsState, tables_of, tables_with}
+use Rattle.store.specs.StateTables.{HoldsState, tables_of, tables_with}
 use Rattle.store.specs.Openings.{HasNoOffice, IsNewer, IsOlder, HoldsNoState, IsToldBy, TellsNoState, IsVersion, TellsRow}
 use Rattle.store.specs.Openings.{TellsRows, HasVersion, TellsOffice, has_entries, ListsMaps, IsTabulatedAs, HoldsEntries}
 use Rattle.store.specs.Listings.{TellsStrange}
@@ -34,7 +34,7 @@ use Rattle.tables.proofs.HoldLemmas.{lists_all, shown_rows, rows_held, held_list
 use Rattle.tables.proofs.ListingLemmas.{begins_to}
 use Rattle.store.proofs.StateLemmas.{tables_rise, maps_rise, equal_maps, tabulated_same}
 
--- ---- the tables, by what an opening makes of them
+-- ---- the tables, as an opening reads them
 
 -- a table is the office's, or one of entries
 pub which_kind : (t : Table) → (t ≡ Office) ⊎ (has_entries t ≡ true)
@@ -64,7 +64,7 @@ strange_store : (n : ℕ) (db : Database) (f : Fault) → (f ≡ Memory) ⊎ (f 
 strange_store n db f (inl same) = subst (TellsStrange n db) (sym same) tt
 strange_store n db f (inr same) = subst (TellsStrange n db) (sym same) tt
 
--- rows that are no list of entries are those of no state
+-- rows that are not a list of entries are those of no state
 pub told_strange : (n : ℕ) (t : Table) (IsRow : Row → Type 0) → has_entries t ≡ true → place_of t < n → ((s : OfficeState) → IsState s → AllByRecursion IsRow (tables_of s t))
     → (db : Database) (f : Fault)
     → (f ≡ Memory) ⊎ ((f ≡ Store) ⊎ ((f ≡ Damaged) × HoldsNone t IsRow db)) → TellsStrange n db f
@@ -72,7 +72,7 @@ told_strange n t IsRow has low fits db f (inl memory) = strange_store n db f (in
 told_strange n t IsRow has low fits db f (inr (inl store)) = strange_store n db f (inr store)
 told_strange n t IsRow has low fits db f (inr (inr none)) = subst (TellsStrange n db) (sym none.0) (t, has, low, λ s is. none.1 (tables_of s t) (fits s is) (tables_rise s is t has))
 
--- what is strange among fewer tables is so among more
+-- if one of the first `n` tables has rows that no state has, so does one of the first `m`
 pub strange_more : (n m : ℕ) → n ≤ m → (db : Database) (f : Fault) → TellsStrange n db f → TellsStrange m db f
 strange_more n m up db Memory told = tt
 strange_more n m up db Store told = tt
@@ -82,7 +82,7 @@ strange_more n m up db WrongDatabase told = told
 strange_more n m up db NewerSchema told = told
 strange_more n m up db OlderSchema told = told
 
--- and no state has its rows
+-- so the rows are not the tables of any state
 pub strange_told : (n : ℕ) (db : Database) (f : Fault) → TellsStrange n db f → TellsNoState db f
 unfolding IsOffice
 strange_told n db Memory told = tt
@@ -95,7 +95,7 @@ strange_told n db OlderSchema told = told
 
 -- ---- the entries of a state
 
--- maps and a tabulation whose rows the tables hold are those of each state that the database holds
+-- listed maps and a listed tabulation have the same rows as each state that the database contains
 maps_same : (db : Database) (s x : OfficeState) (t : TabulationEntries) → ListsMaps db s t → HoldsState db x → SameContents (tables_of x) (tables_with s t)
 unfolding IsOffice
 maps_same db s x t lists holds u = elim (which_kind u) [
@@ -104,10 +104,10 @@ maps_same db s x t lists holds u = elim (which_kind u) [
   | inr has ↦ held_listed u db (tables_with s t u) (lists u has).all.lists (tables_of x u) (holds.office.holds u)
 ]
 
-pub lists_rise : (db : Database) (s : OfficeState) (t : TabulationEntries) → ListsMaps db s t → MapsRise s
+pub lists_rise : (db : Database) (s : OfficeState) (t : TabulationEntries) → ListsMaps db s t → MapsAreSorted s
 lists_rise db s t lists = maps_rise s t (λ u has. (lists u has).rise)
 
--- such a state has just these maps, and that tabulation is the one of its counts
+-- such a state has exactly these maps, and this tabulation is that of its counts
 pub maps_are : (db : Database) (s x : OfficeState) (t : TabulationEntries) → ListsMaps db s t → HoldsState db x → IsTabulatedAs s t
 unfolding tables_of
 maps_are db s x t lists holds =
@@ -123,7 +123,7 @@ entries_held db begins sound s t is lists = record {
       (rows_held u db (begins_to u db.schema begins) sound (tables_with s t u) (lists u has).all (lists u has).typed);
 }
 
--- ---- tables with no row
+-- ---- empty tables
 
 none_long : {X : Type 0} (xs : List X) → length xs ≡ 0 → xs ≡ []
 none_long [] h = refl
@@ -159,7 +159,7 @@ head_same a b same = ap first same
     first [] = []
     first (x ∷ xs) = x
 
--- the places of a row that a query of the office table shows
+-- the columns of a row that a query of the office table returns
 pub version_shown : (row : Row) (one version : ℤ) (n : ℕ) → column row 0 ≡ Int one → column row 1 ≡ Int version → one ≡ pos 1 → version ≡ pos n → IsVersion n row
 version_shown row one version n first second is_one is_version = rw (first, second, is_one, is_version) refl
 
@@ -193,7 +193,7 @@ version_held n db begins sound rows keyed row is shown =
     let same : rows ≡ office_row n ∷ [] = sym (shown_rows Office (begins_with []) db rows keyed.lists) ∙ ap (map (at (column_places Office))) is ∙ ap (λ r. r ∷ []) shown in
     rows_held Office db begins sound (office_row n ∷ []) (subst (ListsKeyed Office db) same keyed) refl
 
--- the rows that are shown of one office row
+-- the rows returned for a single office row
 version_listed : (n : ℕ) (db : Database) (rows : List Row) → Lists Office (begins_with []) db rows
     → IsPermutation (office_row n ∷ []) (map (at (column_places Office)) (tuples Office db.trees)) → rows ≡ office_row n ∷ []
 version_listed n db rows lists same = one_permutation (office_row n) rows (IsPermutation-trans _ _ _ same (lists_all Office db rows lists))
@@ -227,9 +227,9 @@ office_told db begins sound rows keyed NewerSchema told =
     (pos n, omega (arith, ints, up), one_permutation (office_row n) (tuples Office db.trees) holds.same)
 office_told db begins sound rows keyed OlderSchema told = version_held 1 db begins sound rows keyed told.0 told.1 told.2
 
--- ---- the whole
+-- ---- the whole opening
 
--- an office of this version has an office, and is neither newer nor older
+-- an office of this version has an office row, and is neither newer nor older
 pub this_office : (db : Database) → has_table Office db.schema ≡ true → HasVersion this_version db → (¬ HasNoOffice db) × (¬ IsNewer db) × (¬ IsOlder db)
 this_office db there holds =
     let tuple : tuples Office db.trees ≡ office_row this_version ∷ [] = one_permutation (office_row this_version) (tuples Office db.trees) holds.same in (
@@ -263,7 +263,7 @@ state_held db begins sound office s entries = record { is = entries.is; office =
       | inr has ↦ entries.entries t has
     ]
 
--- a database that holds a state holds the office row of this version
+-- a database that contains a state has the office row of this version
 pub state_version : (db : Database) (s : OfficeState) → HoldsState db s → HasVersion this_version db
 unfolding IsOffice
 state_version db s holds = subst (λ rows. HoldsTable Office rows db.trees) (office_rows s) (holds.office.holds Office)
@@ -303,12 +303,12 @@ pub store_office : (db : Database) (f : Fault) → (f ≡ Memory) ⊎ (f ≡ Sto
 store_office db f (inl same) = subst (TellsOffice db) (sym same) tt
 store_office db f (inr same) = subst (TellsOffice db) (sym same) tt
 
--- want of memory and a failing store are no older office
+-- neither a failed allocation nor a failed store is an older office
 pub never_older : {X : Type 0} (f : Fault) → (f ≡ Memory) ⊎ (f ≡ Store) → f ≡ OlderSchema → X
 never_older f (inl memory) same = absurd cc
 never_older f (inr store) same = absurd cc
 
--- ---- what a connection answers of the database that it rests at
+-- ---- what a connection returns of the database at which it rests
 
 pub answered : (p : Schema → Bool) (db : Database) (s : State) → RestsAt db s → (b r : Bool) → b ≡ p s.now.schema → b ≡ r → p db.schema ≡ r
 answered p db s rests b r is same = subst (λ (d : Database). p d.schema ≡ b) rests.now (sym is) ∙ same

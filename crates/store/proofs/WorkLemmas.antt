@@ -1,15 +1,15 @@
--- Why the work that was read is the clerk's.
+-- Proof that the work that was read is the clerk's.
 use Rattle.std.proofs.Common.{◌≡◌, ℕ, Bool, true, false, cond, List, [], ◌∷◌, ◌++◌, map, filter, Option, Some, None, is_some, option_map, refl, sym, ap, ◌∙◌}
 use Rattle.std.proofs.lemmas.List.{map-append}
 use Rattle.std.proofs.lemmas.List.Elements.{filter-append}
 use Rattle.std.specs.Option.{option_to_list}
 use Rattle.register.specs.declared.status.Work.{Work}
 use Rattle.register.specs.Offices.{BatchEntry, OfficeState}
-use Rattle.register.specs.Standings.{WorkEntry, work_entry, is_work, work_on}
+use Rattle.register.specs.Status.{WorkEntry, work_entry, is_work, work_on}
 
 -- ---- one batch
 
--- pieces of work with the same fields are the same
+-- pieces of work with the same fields are equal
 pub same_work : (x y : WorkEntry) → x.batch ≡ y.batch → x.ward ≡ y.ward → x.columns ≡ y.columns → x.size ≡ y.size → x.round ≡ y.round → x.keyed ≡ y.keyed → x ≡ y
 same_work x y batch ward columns size round keyed =
     ap (λ v. record x { batch = v }) batch
@@ -19,18 +19,18 @@ same_work x y batch ward columns size round keyed =
     ∙ ap (λ v. record y { round = v; keyed = x.keyed }) round
     ∙ ap (λ v. record y { keyed = v }) keyed
 
--- an entry was found where one is
+-- a value is found if and only if its entry is
 pub found_alike : {V X : Type 0} (entry : V → X) (v : Option V) (x : Option X) → option_map entry v ≡ x → is_some v ≡ is_some x
 found_alike entry None x is = ap is_some is
 found_alike entry (Some v) x is = ap is_some is
 
--- ---- some batches
+-- ---- several batches
 
--- the work among some batches
+-- a clerk's work among several batches
 abbrev pub work_among : OfficeState → ℕ → List BatchEntry → List WorkEntry
 work_among s clerk bs = map (work_on s clerk) (filter (is_work s clerk) bs)
 
--- what was found of one more batch, behind the work among those before it
+-- the work found in one more batch, appended to that in the batches before it
 pub more_work : (s : OfficeState) (clerk : ℕ) (bs : List BatchEntry) (b : BatchEntry) (before : List Work) (found : Option Work) → map work_entry before ≡ work_among s clerk bs
     → option_map work_entry found ≡ cond (is_work s clerk b) (Some (work_on s clerk b)) None → map work_entry (before ++ option_to_list found) ≡ work_among s clerk (bs ++ b ∷ [])
 more_work s clerk bs b before found among one =

@@ -1,4 +1,4 @@
--- What each write makes of the tables of a state.
+-- The effect of each write on the tables of a state.
 use Rattle.std.proofs.Common.{◌≡◌, ℕ, pos, List, [], ◌∷◌, ◌++◌, map, fold, not, cond, refl, sym, ap, ◌∙◌, subst}
 use Rattle.std.specs.Ordering.{is_eq}
 use Rattle.std.specs.List.{filter}
@@ -14,19 +14,19 @@ use Rattle.register.specs.Offices.{WardEntry, CandidateEntry, BatchEntry, ThirdE
 use Rattle.register.specs.Offices.{changed, ward_cmp, candidate_cmp, batch_cmp, third_cmp, keyed_cmp, judged_cmp, lot_cmp, receipt_cmp, ward_compared, candidate_compared, batch_compared}
 use Rattle.register.specs.Effects.{ward_added, ward_moved, candidate_added, candidate_withdrawn, batch_added, batch_reopened, third_set, papers_keyed}
 use Rattle.register.specs.Effects.{paper_judged, stage_counted, lot_drawn, in_phase, at_stage, in_round, with_effect, with_receipt}
-use Rattle.register.specs.declared.tabulated.PlacedBundle.{PlacedBundle}
-use Rattle.register.specs.declared.tabulated.StageFigure.{StageFigure}
+use Rattle.register.specs.declared.tabulations.PlacedBundle.{PlacedBundle}
+use Rattle.register.specs.declared.tabulations.StageFigure.{StageFigure}
 use Rattle.register.specs.Tabulated.{PlacedEntry, TabulationEntries, tabulation_of, placed_cmp, moved_to, placed_entry, figure_entry}
 use Rattle.register.proofs.MapLemmas.{put_same}
 use Rattle.tables.specs.declared.table.Table.{Table}
 use Rattle.tables.specs.declared.table.Table.TheVariants.{Office, Ward, Candidate, Batch, Keying, Verdict, Lot, Receipt, Bundle, Vote, Third}
-use Rattle.tables.specs.declared.table.Setting.TheVariants.{PhaseOfWard, DoneOfWard, RoundOfBatch}
+use Rattle.tables.specs.declared.table.SettableColumn.TheVariants.{PhaseOfWard, DoneOfWard, RoundOfBatch}
 use Rattle.tables.specs.Rows.{has_key, value_set, with_value}
 use Rattle.tables.specs.Contents.{Contents, SameContents, added, added_all, replaced_all, value_put, removed}
 use Rattle.tables.specs.Making.{no_contents}
 use Rattle.store.specs.EntryRows.{this_version, office_row, row_of_ward, row_of_candidate, row_of_batch, row_of_third}
 use Rattle.store.specs.EntryRows.{row_of_keyed, row_of_judged, row_of_lot, row_of_receipt, row_of_placed, row_of_figure}
-use Rattle.store.specs.Offices.{tables_of, tables_with}
+use Rattle.store.specs.StateTables.{tables_of, tables_with}
 use Rattle.tables.proofs.ListLemmas.{mapped_twice}
 use Rattle.tables.proofs.OrderLemmas.{key_of_number, key_of_two_numbers, key_of_number_and_bytes}
 use Rattle.tables.proofs.ChangeLemmas.{rows_set, removed_rows, all_replaced, replaced_all_there, replaced_each}
@@ -72,7 +72,7 @@ equal_rows rows news same = subst (IsPermutation rows) same (IsPermutation-refl 
 
 -- ---- wards
 
--- a ward more
+-- one more ward
 pub ward_put : (s : OfficeState) (t : TabulationEntries) (w : WardEntry) → SameContents (added Ward (row_of_ward w) (tables_with s t)) (tables_with (with_effect (ward_added w) s) t)
 unfolding added tables_with
 ward_put s t w = filled_changed (office_rows ∷ []) Ward (map row_of_ward s.wards) (map row_of_ward (put ward_cmp w s.wards))
@@ -90,7 +90,7 @@ phase_put s t number phase =
     (map (λ r. cond (has_key Ward values r) (with_value PhaseOfWard (value_set PhaseOfWard values) r) r)) refl
     (equal_rows _ _ (rows_set PhaseOfWard values row_of_ward (λ w. is_eq (ward_compared number w)) (in_phase phase) (λ w. key_of_number number w.number) (λ w. refl) s.wards))
 
--- a ward with so many stages done
+-- a ward with this number of stages done
 pub done_put : (s : OfficeState) (t : TabulationEntries) (number done : ℕ) → SameContents (value_put DoneOfWard (Int (pos number) ∷ Int (pos done) ∷ []) (tables_with s t))
     (tables_with (with_effect (stage_counted number done) s) t)
 unfolding value_put tables_with
@@ -103,7 +103,7 @@ done_put s t number done =
 
 -- ---- candidates
 
--- a candidate more
+-- one more candidate
 pub candidate_put : (s : OfficeState) (t : TabulationEntries) (c : CandidateEntry) → SameContents (added Candidate (row_of_candidate c) (tables_with s t))
     (tables_with (with_effect (candidate_added c) s) t)
 unfolding added tables_with
@@ -111,7 +111,7 @@ candidate_put s t c = filled_changed (office_rows ∷ ward_rows s ∷ []) Candid
     (batch_rows s ∷ keying_rows s ∷ verdict_rows s ∷ lot_rows s ∷ receipt_rows s ∷ bundle_rows t ∷ vote_rows t ∷ third_rows s ∷ []) (λ rows. row_of_candidate c ∷ rows) refl
     (IsPermutation-map row_of_candidate (c ∷ s.candidates) (put candidate_cmp c s.candidates) (put_same candidate_cmp c s.candidates))
 
--- a candidate less
+-- one candidate fewer
 pub candidate_gone : (s : OfficeState) (t : TabulationEntries) (ward number : ℕ)
     → SameContents (removed Candidate (Int (pos ward) ∷ Int (pos number) ∷ []) (tables_with s t)) (tables_with (with_effect (candidate_withdrawn ward number) s) t)
 unfolding removed tables_with
@@ -124,7 +124,7 @@ candidate_gone s t ward number =
 
 -- ---- batches
 
--- a batch more
+-- one more batch
 pub batch_put : (s : OfficeState) (t : TabulationEntries) (b : BatchEntry) → SameContents (added Batch (row_of_batch b) (tables_with s t)) (tables_with (with_effect (batch_added b) s) t)
 unfolding added tables_with
 batch_put s t b =
@@ -143,7 +143,7 @@ round_put s t number round =
     (map (λ r. cond (has_key Batch values r) (with_value RoundOfBatch (value_set RoundOfBatch values) r) r)) refl
     (equal_rows _ _ (rows_set RoundOfBatch values row_of_batch (λ b. is_eq (batch_compared number b)) (in_round round) (λ b. key_of_number number b.number) (λ b. refl) s.batches))
 
--- a third clerk more
+-- one more third clerk
 pub third_put : (s : OfficeState) (t : TabulationEntries) (e : ThirdEntry) → SameContents (added Third (row_of_third e) (tables_with s t)) (tables_with (with_effect (third_set e) s) t)
 unfolding added tables_with
 third_put s t e =
@@ -153,14 +153,14 @@ third_put s t e =
 
 -- ---- papers
 
--- a map with some entries more has just these more
+-- the entries inserted are exactly those added
 put_each_same : {X : Type 0} (cmp : X → X → Ordering) (xs ys : List X) → IsPermutation (xs ++ ys) (put_each cmp xs ys)
 put_each_same cmp [] ys = IsPermutation-refl ys
 put_each_same cmp (x ∷ xs) ys =
     IsPermutation-trans _ _ _ (IsPermutation-sym _ _ (IsPermutation-middle xs x ys))
     (IsPermutation-trans _ _ _ (IsPermutation-append_right xs (x ∷ ys) (put cmp x ys) (put_same cmp x ys)) (put_each_same cmp xs (put cmp x ys)))
 
--- keyed papers more
+-- more keyed papers
 pub papers_put : (s : OfficeState) (t : TabulationEntries) (papers : List KeyedEntry)
     → SameContents (added_all Keying (map row_of_keyed papers) (tables_with s t)) (tables_with (with_effect (papers_keyed papers) s) t)
 unfolding added_all tables_with
@@ -171,7 +171,7 @@ papers_put s t papers =
     (subst (λ rows. IsPermutation rows (map row_of_keyed (put_each keyed_cmp papers s.keyings))) (map-append row_of_keyed papers s.keyings)
     (IsPermutation-map row_of_keyed (papers ++ s.keyings) (put_each keyed_cmp papers s.keyings) (put_each_same keyed_cmp papers s.keyings)))
 
--- a verdict more
+-- one more verdict
 pub verdict_put : (s : OfficeState) (t : TabulationEntries) (v : JudgedEntry) → SameContents (added Verdict (row_of_judged v) (tables_with s t)) (tables_with (with_effect (paper_judged v) s) t)
 unfolding added tables_with
 verdict_put s t v =
@@ -181,7 +181,7 @@ verdict_put s t v =
 
 -- ---- lots
 
--- a lot more
+-- one more lot
 pub lot_put : (s : OfficeState) (t : TabulationEntries) (l : LotEntry) → SameContents (added Lot (row_of_lot l) (tables_with s t)) (tables_with (with_effect (lot_drawn l) s) t)
 unfolding added tables_with
 lot_put s t l =
@@ -191,24 +191,24 @@ lot_put s t l =
 
 -- ---- receipts
 
--- a receipt more
+-- one more receipt
 pub receipt_put : (s : OfficeState) (t : TabulationEntries) (r : ReceiptEntry) → SameContents (added Receipt (row_of_receipt r) (tables_with s t)) (tables_with (with_receipt r s) t)
 unfolding added tables_with
 receipt_put s t r = filled_changed (office_rows ∷ ward_rows s ∷ candidate_rows s ∷ batch_rows s ∷ keying_rows s ∷ verdict_rows s ∷ lot_rows s ∷ []) Receipt
     (map row_of_receipt s.receipts) (map row_of_receipt (put receipt_cmp r s.receipts)) (bundle_rows t ∷ vote_rows t ∷ third_rows s ∷ []) (λ rows. row_of_receipt r ∷ rows) refl
     (IsPermutation-map row_of_receipt (r ∷ s.receipts) (put receipt_cmp r s.receipts) (put_same receipt_cmp r s.receipts))
 
--- ---- what is tabulated
+-- ---- the tabulation
 
--- the tables before those of what is tabulated
+-- the tables before those of the tabulation
 abbrev state_rows : OfficeState → List (Table × List Row)
 state_rows s = office_rows ∷ ward_rows s ∷ candidate_rows s ∷ batch_rows s ∷ keying_rows s ∷ verdict_rows s ∷ lot_rows s ∷ receipt_rows s ∷ []
 
--- a tabulation with some bundles where they lie now
+-- a tabulation with some bundles in their new places
 abbrev pub with_moved : List PlacedBundle → TabulationEntries → TabulationEntries
 with_moved moved t = record t { bundles = fold (λ bundles b. moved_to b bundles) t.bundles (map placed_entry moved) }
 
--- bundles that lie elsewhere
+-- bundles that have moved
 pub bundles_moved : (s : OfficeState) (t : TabulationEntries) (moved : List PlacedBundle)
     → SameContents (replaced_all Bundle (map (λ b. row_of_placed (placed_entry b)) moved) (tables_with s t)) (tables_with s (with_moved moved t))
 unfolding tables_with
@@ -226,7 +226,7 @@ bundles_moved s t moved u =
 rows_before : {V X : Type 0} (entry : V → X) (row : X → Row) (news : List V) (xs : List X) → map (λ v. row (entry v)) news ++ map row xs ≡ map row (map entry news ++ xs)
 rows_before entry row news xs = ap (λ l. l ++ map row xs) (sym (mapped_twice entry row news)) ∙ sym (map-append row (map entry news) xs)
 
--- bundles more
+-- more bundles
 pub bundles_put : (s : OfficeState) (t : TabulationEntries) (placed : List PlacedBundle)
     → SameContents (added_all Bundle (map (λ b. row_of_placed (placed_entry b)) placed) (tables_with s t)) (tables_with s (record t { bundles = map placed_entry placed ++ t.bundles }))
 unfolding added_all tables_with
@@ -235,7 +235,7 @@ bundles_put s t placed =
     filled_changed (state_rows s) Bundle (map row_of_placed t.bundles) (map row_of_placed (map placed_entry placed ++ t.bundles)) (vote_rows t ∷ third_rows s ∷ [])
     (λ l. rows ++ l) refl (equal_rows _ _ (rows_before placed_entry row_of_placed placed t.bundles))
 
--- figures more
+-- more figures
 pub figures_put : (s : OfficeState) (t : TabulationEntries) (figures : List StageFigure)
     → SameContents (added_all Vote (map (λ f. row_of_figure (figure_entry f)) figures) (tables_with s t)) (tables_with s (record t { figures = map figure_entry figures ++ t.figures }))
 unfolding added_all tables_with
@@ -244,7 +244,7 @@ figures_put s t figures =
     filled_changed (state_rows s ++ bundle_rows t ∷ []) Vote (map row_of_figure t.figures) (map row_of_figure (map figure_entry figures ++ t.figures))
     (third_rows s ∷ []) (λ l. rows ++ l) refl (equal_rows _ _ (rows_before figure_entry row_of_figure figures t.figures))
 
--- bundles and figures more
+-- more bundles and figures
 pub both_put : (s : OfficeState) (t : TabulationEntries) (placed : List PlacedBundle) (figures : List StageFigure)
     → SameContents (added_all Vote (map (λ f. row_of_figure (figure_entry f)) figures) (added_all Bundle (map (λ b. row_of_placed (placed_entry b)) placed) (tables_with s t)))
     (tables_with s (record { bundles = map placed_entry placed ++ t.bundles; figures = map figure_entry figures ++ t.figures }))

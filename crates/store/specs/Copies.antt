@@ -1,4 +1,4 @@
--- An office, copied into a database with nothing in it.
+-- An office, copied into an empty database.
 use Rattle.std.specs.Prelude.{◌≡◌, ◌⊎◌, ⊤, ◌==◌, Bool, true, false, filter, length, Result, Err, IfOk, IfErr}
 use Rattle.sqlite.specs.Tree.{Trees}
 use Rattle.sqlite_trees.specs.declared.store.Store.{Ghosts}
@@ -13,14 +13,14 @@ use Rattle.tables.specs.Reading.{OnlyReads, FailsBy, FailsToList}
 use Rattle.store.specs.declared.copying.Holdings.{Holdings}
 use Rattle.store.specs.declared.copying.CopyFault.{CopyFault}
 use Rattle.store.specs.declared.copying.CopyFault.TheVariants.{Office, Taken, Copy}
-use Rattle.store.specs.Offices.{tables_of, HoldsState, StoresState, IsAt, Wears}
+use Rattle.store.specs.StateTables.{tables_of, HoldsState, StoresState, IsAt, KeepsConnection}
 use Rattle.store.specs.Openings.{IsBlank, IsLeftAt, IsToldBy}
 
 -- the first paper of a keying: each keying of a batch in a round has one
 abbrev pub is_first_paper : KeyedEntry → Bool
 is_first_paper k = k.paper == 1
 
--- how many wards, batches, keyings and receipts an office has
+-- how many wards, batches, keyings and receipts an office contains
 abbrev pub holdings_of : OfficeState → Holdings
 holdings_of s = record {
   wards = length s.wards;
@@ -29,18 +29,18 @@ holdings_of s = record {
   receipts = length s.receipts;
 }
 
--- a stop leaves of the copy what it could leave before, or the tables of this state
+-- in the copy a stop leaves what it could leave before, or the tables of this state
 abbrev pub LeavesNoneOrAll : OfficeState → State → State → Type 0
 LeavesNoneOrAll s old new = (trees : Trees) → new.may_leave trees → old.may_leave trees ⊎ Stores (tables_of s) trees
 
--- why there is no copy: what an opening reports at this database, and why, where that is a fault of its store; or the database holds a state, and
--- memory was wanting for the copy, or its store failed
+-- Why there is no copy. Either opening an office reports this fault for this database, with its cause if it is a fault of the store. Or the database contains a
+-- state, and an allocation or the store of the copy failed.
 abbrev pub IsToldInCopying : Database → State → State → CopyFault → Type 0
 IsToldInCopying db old new (Office fault) = IsToldBy db fault × FailsToList db old new fault
 IsToldInCopying db old new Taken = ⊥
 IsToldInCopying db old new (Copy fault) = ((fault ≡ Memory) ⊎ (fault ≡ StoreFailed)) × ((s : OfficeState) × HoldsState db s)
 
--- the same at an office that a stop left: memory was wanting, or a store failed
+-- the same for an office that a stop left: an allocation or a store failed
 abbrev pub StopsInCopying : State → State → CopyFault → Type 0
 StopsInCopying old new (Office fault) = FailsBy old new fault
 StopsInCopying old new Taken = ⊥
@@ -52,8 +52,8 @@ IsUnbegun (Office fault) = ⊤
 IsUnbegun Taken = ⊤
 IsUnbegun (Copy fault) = ⊥
 
--- What comes of a copy of an office that keeps a state. The copy keeps that very state; or a fault
--- is reported, and a stop leaves of the copy what it could leave before, or the whole of it.
+-- The outcome of copying an office that keeps a state. Either the copy keeps that very state, or a fault is reported, and in the copy a stop leaves what it
+-- could leave before, or the whole copy.
 pub record CopiesAt (s : OfficeState) (blank full : State) (result : Result Holdings CopyFault) : Type 0 where
   pub same : IfOk result (λ h. (h ≡ holdings_of s) × (HasCleanDisk full → IsBlank blank → IsAt s full))
   pub stops : HasCleanDisk full → IsBlank blank → LeavesNoneOrAll s blank full
@@ -68,15 +68,15 @@ module _ {S T : Type 0} (store : Ghosts S) (other : Ghosts T) (conn conn_after :
   abbrev new : State
   new = state store conn_after
 
-  -- the database that the copy is made in, and the copy
+  -- the database in which the copy is made, and the copy
   abbrev blank : State
   blank = state other copy
 
   abbrev full : State
   full = state other copy_after
 
-  -- What comes of a copy of an office that is found by its rows alone (`copied`, `told`), at a state (`same`, `stops`, `cause`), or kept by an office that
-  -- was open (`kept`). It says too what the copy holds whatever it was made of (`made`, `whole`), and where nothing is written.
+  -- The outcome of copying an office of which only the rows are known (`copied`, `told`), or the state (`same`, `stops`, `cause`), or that is open (`kept`). In
+  -- each case also what the copy contains (`made`, `whole`), and when nothing is written.
   pub record CopiesTo : Type 0 where
     pub copied : HasCleanDisk new → (db : Database) → IsOurs db.schema → RestsAt db old
         → IfOk result (λ h. (s : OfficeState) × HoldsState db s × (h ≡ holdings_of s) × (HasCleanDisk full → IsBlank blank → IsAt s full))
@@ -92,7 +92,7 @@ module _ {S T : Type 0} (store : Ghosts S) (other : Ghosts T) (conn conn_after :
     pub taken : has_some_table blank.now.schema ≡ true → conn.in_transaction ≡ false → (result ≡ Err Taken) × (copy_after ≡ copy)
     pub inside : conn.in_transaction ≡ true → (result ≡ Err (Office StoreFailed)) × (conn_after ≡ conn) × (copy_after ≡ copy)
     pub inside_too : copy.in_transaction ≡ true → conn.in_transaction ≡ false → (result ≡ Err Taken) × (copy_after ≡ copy)
-    pub wears : Wears blank full
+    pub keeps_connection : KeepsConnection blank full
     pub clean : HasCleanDisk full → HasCleanDisk blank
     pub outside : conn.in_transaction ≡ false → conn_after.in_transaction ≡ false
     pub outside_too : copy.in_transaction ≡ false → copy_after.in_transaction ≡ false

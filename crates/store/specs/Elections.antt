@@ -1,7 +1,7 @@
 -- What is read for the count of a ward.
 use Rattle.std.specs.Prelude.{◌≡◌, ◌==◌, map, ℕ, true, false, List, Option, Some, None, ⊤, Bool, ◌&&◌}
 use Rattle.std.specs.List.{filter}
-use Rattle.count.specs.Kept.{CountKept, IsKeptOf}
+use Rattle.count.specs.StoredCounts.{StoredCountEntry, IsStoredCountOf}
 use Rattle.register.specs.Offices.{WardEntry, CandidateEntry, OfficeState, ward_at, candidates_of, ward_entry, candidate_entry, judged_entry}
 use Rattle.register.specs.Polls.{Pile, poll_of}
 use Rattle.register.specs.declared.elections.Count.{Count}
@@ -10,25 +10,25 @@ use Rattle.register.specs.declared.elections.WardSheet.{WardSheet}
 use Rattle.register.specs.declared.elections.Election.{Election}
 use Rattle.register.specs.Elections.{ElectionEntry, IsElection, has_count, contest_of, stages_of, due_of, elected_of, election_of, is_counted, is_in_count}
 use Rattle.register.specs.Nominations.{is_contested}
-use Rattle.register.specs.Parts.{PartEntries, empty_part}
+use Rattle.register.specs.CommandInputs.{CommandInputEntries, empty_input}
 use Rattle.register.specs.Tabulated.{PlacedEntry, FigureEntry, tabulation_of, has_stages, IsCount, IsCountOf, IsCountedWard, IsSheetOf}
 use Rattle.store.specs.declared.views.papers.BatchPapers.{BatchPapers}
 use Rattle.store.specs.Keyings.{keyings_by}
 
--- what the papers of a batch stand for
+-- the entry of the papers of a batch
 abbrev pub pile_by : BatchPapers → Pile
 pile_by papers = record { keyings = keyings_by papers.keyings; verdicts = map judged_entry papers.verdicts.items }
 
--- a ward that was found has been sealed, and its election is contested with these candidates
+-- the ward found has been sealed, and its election is contested with these candidates
 abbrev pub is_counted_with : Option WardEntry → List CandidateEntry → Bool
 is_counted_with None candidates = false
 is_counted_with (Some w) candidates = is_counted w.phase && is_contested w candidates
 
--- the ward of this number is there, and in count
+-- there is a ward with this number, and it is in count
 abbrev pub IsInCount : OfficeState → ℕ → Type 0
 IsInCount s ward = (w : WardEntry) × (ward_at s ward ≡ Some w) × (is_in_count (election_of s w) ≡ true)
 
--- an election that was found stands for this one, where there is one
+-- the election found represents this one, if there is one
 abbrev pub IsFoundFor : Option Election → Option ElectionEntry → Type 0
 IsFoundFor None None = ⊤
 IsFoundFor (Some e) (Some entry) = IsElection e entry
@@ -36,14 +36,14 @@ IsFoundFor None (Some entry) = ⊥
 IsFoundFor (Some e) None = ⊥
 
 -- the part of a command that needs the poll of an election
-abbrev pub polled_part : Option ElectionEntry → PartEntries
-polled_part None = empty_part
-polled_part (Some e) = record empty_part { ward = Some e.ward; poll = Some (poll_of e.ward.seats e.ballots) }
+abbrev pub polled_part : Option ElectionEntry → CommandInputEntries
+polled_part None = empty_input
+polled_part (Some e) = record empty_input { ward = Some e.ward; poll = Some (poll_of e.ward.seats e.ballots) }
 
--- the part of a command that needs what is due in the count of an election, and who is elected
-abbrev pub counted_part : Option ElectionEntry → PartEntries
-counted_part None = empty_part
-counted_part (Some e) = record empty_part { ward = Some e.ward; due = Some (due_of e); elected = elected_of e }
+-- the part of a command that needs what is due in the count of an election, and those elected
+abbrev pub counted_part : Option ElectionEntry → CommandInputEntries
+counted_part None = empty_input
+counted_part (Some e) = record empty_input { ward = Some e.ward; due = Some (due_of e); elected = elected_of e }
 
 -- ---- the count
 
@@ -54,34 +54,34 @@ bundles_at s ward = filter (λ (b : PlacedEntry). b.ward == ward) (tabulation_of
 abbrev pub figures_at : OfficeState → ℕ → List FigureEntry
 figures_at s ward = filter (λ (f : FigureEntry). f.ward == ward) (tabulation_of s).figures
 
--- the election of a ward that was found
+-- the election of the ward found
 abbrev pub election_in : OfficeState → CountedWard → ElectionEntry
 election_in s found = election_of s (ward_entry found.ward)
 
--- the ward that was found is there, and its candidates are those that were found with it
+-- the ward found exists, and its candidates are those found with it
 abbrev pub IsThere : OfficeState → CountedWard → Type 0
 IsThere s found = (ward_at s found.ward.number ≡ Some (ward_entry found.ward)) × (map candidate_entry found.candidates.items ≡ candidates_of s found.ward.number)
 
--- the ward of this number was found with its candidates, if it is there; and nothing of its count was found
+-- the ward with this number was found with its candidates, if it exists, and nothing of its count
 abbrev pub IsContestAt : OfficeState → ℕ → Option CountedWard → Type 0
 IsContestAt s ward None = ward_at s ward ≡ None
 IsContestAt s ward (Some found) = (ward_at s ward ≡ Some (ward_entry found.ward)) × IsThere s found × (found.count ≡ None)
 
--- this was found, and kept of the count of an election
-abbrev pub IsKept : ElectionEntry → Option CountKept → Type 0
-IsKept e found = (kept : CountKept) × (found ≡ Some kept) × IsKeptOf (contest_of e) (stages_of e) kept
+-- this was found, and it is what is stored of the count of an election
+abbrev pub IsKept : ElectionEntry → Option StoredCountEntry → Type 0
+IsKept e found = (kept : StoredCountEntry) × (found ≡ Some kept) × IsStoredCountOf (contest_of e) (stages_of e) kept
 
--- the count of an election that has a stage, and else none
+-- the count of an election if a stage is done, otherwise none
 abbrev pub IsBook : ElectionEntry → Option Count → Type 0
 IsBook e None = has_stages e ≡ false
 IsBook e (Some count) = (has_stages e ≡ true) × IsCountOf e count
 
--- the same of an election that may be there
+-- the same for an election that may not exist
 abbrev pub IsBookFor : Option ElectionEntry → Option Count → Type 0
 IsBookFor None found = found ≡ None
 IsBookFor (Some e) found = IsBook e found
 
--- the count of a contested election, and else none
+-- the count of a contested election, otherwise none
 abbrev pub IsHeld : ElectionEntry → Option Count → Type 0
 IsHeld e None = has_count e ≡ false
 IsHeld e (Some count) = (has_count e ≡ true) × IsCountOf e count
@@ -92,27 +92,27 @@ pub record IsWardCount (e : ElectionEntry) (found : CountedWard) : Type 0 where
   pub candidates_are : map candidate_entry found.candidates.items ≡ e.candidates
   pub count_is : IsHeld e found.count
 
--- they were found
+-- a ward was found, with the ward and candidates of an election, and its count
 abbrev pub IsCounted : ElectionEntry → Option CountedWard → Type 0
 IsCounted e found = (count : CountedWard) × (found ≡ Some count) × IsWardCount e count
 
--- they were found, and how many papers are rejected
+-- such a ward was found, and how many papers are rejected
 abbrev pub IsBegun : ElectionEntry → Option WardSheet → Type 0
 IsBegun e found = (sheet : WardSheet) × (found ≡ Some sheet) × IsWardCount e sheet.counted × (sheet.rejected ≡ e.ballots.rejected)
 
--- they were found where the election is there
+-- such a ward was found if the election exists
 abbrev pub IsCountedFor : Option ElectionEntry → Option CountedWard → Type 0
 IsCountedFor None found = found ≡ None
 IsCountedFor (Some e) found = IsCounted e found
 
--- the count of an election is shown, where it is there and contested
+-- the count of an election is shown if the election exists and is contested
 abbrev pub IsShown : Option ElectionEntry → Option Count → Type 0
 IsShown None shown = ⊤
 IsShown (Some e) shown = has_count e ≡ true → IsCount e shown
 
 -- ---- the texts
 
--- a ward was found with its count, where it is in count
+-- a ward was found, with its count if it is in count
 abbrev pub IsCountedIn : ElectionEntry → Option CountedWard → Type 0
 IsCountedIn e found = (counted : CountedWard) × (found ≡ Some counted) × IsCountedWard e counted
 

@@ -1,4 +1,4 @@
--- The rows that entries stand in.
+-- The rows that represent entries.
 use Rattle.std.specs.Prelude.{◌≡◌, pos, ℕ, [], ◌∷◌}
 use Rattle.sqlite.specs.declared.types.Value.{Value}
 use Rattle.sqlite.specs.declared.types.Value.TheVariants.{Int, Text, Blob}
@@ -7,7 +7,7 @@ use Rattle.register.specs.declared.phase.Phase.{Phase}
 use Rattle.register.specs.Phases.{phase_number}
 use Rattle.register.specs.Offices.{WardEntry, CandidateEntry, BatchEntry, ThirdEntry, KeyedEntry, JudgedEntry, LotEntry, ReceiptEntry}
 use Rattle.register.specs.Tabulated.{PlacedEntry, FigureEntry}
-use Rattle.tables.specs.Cells.{IsNumber, IsAmount, IsText, IsBytes}
+use Rattle.tables.specs.RowValues.{IsNumber, IsAmount, IsText, IsBytes}
 
 -- the number of a phase
 abbrev pub IsPhase : Value → Type 0
@@ -17,7 +17,7 @@ IsPhase v = (p : Phase) × (v ≡ Int (pos (phase_number p)))
 abbrev pub this_version : ℕ
 this_version = 2
 
--- the row of the office, of a schema version
+-- the row of the office, with a schema version
 abbrev pub office_row : ℕ → Row
 office_row version = Int (pos 1) ∷ Int (pos version) ∷ []
 
@@ -25,7 +25,7 @@ office_row version = Int (pos 1) ∷ Int (pos version) ∷ []
 abbrev pub row_of_ward : WardEntry → Row
 row_of_ward w = Int (pos w.number) ∷ Int (pos w.seats) ∷ Int (pos (phase_number w.phase)) ∷ Int (pos w.done) ∷ Text w.name ∷ []
 
--- a row that reads as a ward's
+-- a row that represents a ward
 abbrev pub IsWardRow : Row → Type 0
 IsWardRow r = IsNumber (column r 0) × IsNumber (column r 1) × IsPhase (column r 2) × IsNumber (column r 3) × IsText (column r 4)
 
@@ -33,7 +33,7 @@ IsWardRow r = IsNumber (column r 0) × IsNumber (column r 1) × IsPhase (column 
 abbrev pub row_of_candidate : CandidateEntry → Row
 row_of_candidate c = Int (pos c.ward) ∷ Int (pos c.number) ∷ Text c.name ∷ []
 
--- a row that reads as a candidate's
+-- a row that represents a candidate
 abbrev pub IsCandidateRow : Row → Type 0
 IsCandidateRow r = IsNumber (column r 0) × IsNumber (column r 1) × IsText (column r 2)
 
@@ -41,7 +41,7 @@ IsCandidateRow r = IsNumber (column r 0) × IsNumber (column r 1) × IsText (col
 abbrev pub row_of_batch : BatchEntry → Row
 row_of_batch b = Int (pos b.number) ∷ Int (pos b.ward) ∷ Int (pos b.size) ∷ Int (pos b.first_clerk) ∷ Int (pos b.second_clerk) ∷ Int (pos b.round) ∷ []
 
--- a row that reads as a batch's
+-- a row that represents a batch
 abbrev pub IsBatchRow : Row → Type 0
 IsBatchRow r = IsNumber (column r 0) × IsNumber (column r 1) × IsNumber (column r 2) × IsNumber (column r 3) × IsNumber (column r 4) × IsNumber (column r 5)
 
@@ -49,7 +49,7 @@ IsBatchRow r = IsNumber (column r 0) × IsNumber (column r 1) × IsNumber (colum
 abbrev pub row_of_third : ThirdEntry → Row
 row_of_third t = Int (pos t.batch) ∷ Int (pos t.clerk) ∷ []
 
--- a row that reads as a third clerk's
+-- a row that represents a third clerk
 abbrev pub IsThirdRow : Row → Type 0
 IsThirdRow r = IsNumber (column r 0) × IsNumber (column r 1)
 
@@ -57,7 +57,7 @@ IsThirdRow r = IsNumber (column r 0) × IsNumber (column r 1)
 abbrev pub row_of_keyed : KeyedEntry → Row
 row_of_keyed k = Int (pos k.batch) ∷ Int (pos k.round) ∷ Int (pos k.clerk) ∷ Int (pos k.paper) ∷ Text k.marks ∷ []
 
--- a row that reads as a keyed paper's
+-- a row that represents a keyed paper
 abbrev pub IsKeyedRow : Row → Type 0
 IsKeyedRow r = IsNumber (column r 0) × IsNumber (column r 1) × IsNumber (column r 2) × IsNumber (column r 3) × IsText (column r 4)
 
@@ -65,7 +65,7 @@ IsKeyedRow r = IsNumber (column r 0) × IsNumber (column r 1) × IsNumber (colum
 abbrev pub row_of_judged : JudgedEntry → Row
 row_of_judged j = Int (pos j.batch) ∷ Int (pos j.paper) ∷ Int (pos j.code) ∷ Text j.marks ∷ []
 
--- a row that reads as a judged paper's
+-- a row that represents a judged paper
 abbrev pub IsJudgedRow : Row → Type 0
 IsJudgedRow r = IsNumber (column r 0) × IsNumber (column r 1) × IsNumber (column r 2) × IsText (column r 3)
 
@@ -73,7 +73,7 @@ IsJudgedRow r = IsNumber (column r 0) × IsNumber (column r 1) × IsNumber (colu
 abbrev pub row_of_lot : LotEntry → Row
 row_of_lot l = Int (pos l.ward) ∷ Int (pos l.stage) ∷ Int (pos l.candidate) ∷ []
 
--- a row that reads as a lot's
+-- a row that represents a lot
 abbrev pub IsLotRow : Row → Type 0
 IsLotRow r = IsNumber (column r 0) × IsNumber (column r 1) × IsNumber (column r 2)
 
@@ -81,15 +81,15 @@ IsLotRow r = IsNumber (column r 0) × IsNumber (column r 1) × IsNumber (column 
 abbrev pub row_of_receipt : ReceiptEntry → Row
 row_of_receipt r = Int (pos r.actor) ∷ Text r.id ∷ Text r.subject ∷ Text r.reply ∷ []
 
--- a row that reads as a receipt's
+-- a row that represents a receipt
 abbrev pub IsReceiptRow : Row → Type 0
 IsReceiptRow r = IsNumber (column r 0) × IsText (column r 1) × IsText (column r 2) × IsText (column r 3)
 
--- the row of a bundle where it lies
+-- the row of a bundle and its place
 abbrev pub row_of_placed : PlacedEntry → Row
 row_of_placed b = Int (pos b.ward) ∷ Blob b.list ∷ Int (pos b.papers) ∷ Int (pos b.holder) ∷ Int (pos b.value) ∷ []
 
--- a row that reads as such a bundle's
+-- a row that represents such a bundle
 abbrev pub IsPlacedRow : Row → Type 0
 IsPlacedRow r = IsNumber (column r 0) × IsBytes (column r 1) × IsNumber (column r 2) × IsNumber (column r 3) × IsAmount (column r 4)
 
@@ -97,6 +97,6 @@ IsPlacedRow r = IsNumber (column r 0) × IsBytes (column r 1) × IsNumber (colum
 abbrev pub row_of_figure : FigureEntry → Row
 row_of_figure f = Int (pos f.ward) ∷ Int (pos f.stage) ∷ Int (pos f.candidate) ∷ Int (pos f.units) ∷ Int (pos f.mark) ∷ []
 
--- a row that reads as a figure's
+-- a row that represents a figure
 abbrev pub IsFigureRow : Row → Type 0
 IsFigureRow r = IsNumber (column r 0) × IsNumber (column r 1) × IsNumber (column r 2) × IsAmount (column r 3) × IsNumber (column r 4)

@@ -1,15 +1,15 @@
--- The keyings that are read of a batch.
+-- The keyings that are read for a batch.
 use Rattle.std.specs.Prelude.{ℕ, List, [], map, Option, Some, None, Bool, ◌&&◌, ◌==◌}
 use Rattle.register.specs.Offices.{KeyedEntry, OfficeState, keying_of, keyed_entry}
-use Rattle.register.specs.Papers.{of_three}
+use Rattle.register.specs.Agreement.{of_three}
 use Rattle.store.specs.declared.views.papers.Keyings.{Keyings}
 
--- the papers that a clerk keyed of a batch in a round, where there is such a clerk
+-- the papers that a clerk keyed of a batch in a round, if there is such a clerk
 abbrev pub keying_for : OfficeState → ℕ → ℕ → Option ℕ → List KeyedEntry
 keying_for s batch round None = []
 keying_for s batch round (Some clerk) = keying_of s batch round clerk
 
--- a paper is one of a clerk's keying of a batch in a round
+-- a paper belongs to a clerk's keying of a batch in a round
 abbrev pub is_paper_of : ℕ → ℕ → ℕ → KeyedEntry → Bool
 is_paper_of batch round clerk k = (k.batch == batch) && ((k.round == round) && (k.clerk == clerk))
 

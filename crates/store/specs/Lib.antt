@@ -1,5 +1,5 @@
 pub mod EntryRows
-pub mod Offices
+pub mod StateTables
 pub mod Openings
 pub mod Listings
 pub mod Keyings

@@ -1,4 +1,4 @@
--- The parts in which an opening lists the entries of a database.
+-- The parts in which the entries of a database are listed when an office is opened.
 use Rattle.std.specs.Prelude.{◌≡◌, ◌<◌, ℕ, true, false, map, ⊤, Result, IfOk, IfErr, OnOk, IsTrue}
 use Rattle.std.specs.List.Sorted.{IsStrictlySortedBy}
 use Rattle.sqlite_trees.specs.declared.store.Store.{Ghosts}
@@ -10,7 +10,7 @@ use Rattle.register.specs.declared.batches.Batch.{Batch as BatchValue}
 use Rattle.register.specs.declared.keyings.KeyedPaper.{KeyedPaper}
 use Rattle.register.specs.declared.verdicts.JudgedPaper.{JudgedPaper}
 use Rattle.register.specs.Offices.{OfficeState, batch_entry, keyed_entry, judged_entry}
-use Rattle.register.specs.Items.{IsState}
+use Rattle.register.specs.StateConditions.{IsState}
 use Rattle.register.specs.Tabulated.{TabulationEntries}
 use Rattle.tables.specs.declared.fault.Fault.{Fault}
 use Rattle.tables.specs.declared.fault.Fault.TheVariants.{Memory, Store, Damaged, Closed, WrongDatabase, NewerSchema, OlderSchema}
@@ -22,11 +22,11 @@ use Rattle.tables.specs.Contents.{HoldsTable, RestsAt}
 use Rattle.tables.specs.Reading.{OnlyReads, FailsToList, ListsEntries}
 use Rattle.store.specs.declared.listing.Papers.{Papers}
 use Rattle.store.specs.EntryRows.{row_of_batch, row_of_keyed, row_of_judged}
-use Rattle.store.specs.Offices.{tables_of, tables_with}
+use Rattle.store.specs.StateTables.{tables_of, tables_with}
 use Rattle.store.specs.Openings.{has_entries}
 
--- A listing of rows, at whatever database of this kind the connection rests: what it finds there, which fault the rows give, and why it fails. It
--- changes nothing, and the connection is open where it finds something.
+-- A listing of rows, for any database of this kind at which the connection rests: what it finds there, which fault is reported for the rows, and why it fails.
+-- It changes nothing, and the connection is open if it succeeds.
 pub record ListsAt {X : Type 0} (old new : State) (result : Result X Fault) (IsKind : Database → Type 0) (IsTold : Database → X → Type 0) (Gives : Database → Fault → Type 0) : Type 0 where
   pub lists : HasCleanDisk new → (db : Database) → IsKind db → RestsAt db old → IfOk result (IsTold db)
   pub told : HasCleanDisk new → (db : Database) → IsKind db → RestsAt db old → IfErr result (Gives db)
@@ -40,15 +40,15 @@ Lists store old new result IsKind IsTold Gives = ListsAt (state store old) (stat
 
 -- ---- the tables
 
--- the schema begins with so many of the tables
+-- the schema begins with the first `n` tables
 abbrev pub BeginsFirst : ℕ → Schema → Type 0
 BeginsFirst n s = (t : Table) → place_of t < n → BeginsTo t s
 
--- one of the first tables, so many, holds rows that no state has
+-- one of the first `n` tables contains rows that no state has
 abbrev pub HoldsStrange : ℕ → Database → Type 0
 HoldsStrange n db = (t : Table) × (has_entries t ≡ true) × (place_of t < n) × ((s : OfficeState) → IsState s → ¬ HoldsTable t (tables_of s t) db.trees)
 
--- the fault that the rows of the first tables give
+-- the fault reported for the rows of the first `n` tables
 abbrev pub TellsStrange : ℕ → Database → Fault → Type 0
 TellsStrange n db Memory = ⊤
 TellsStrange n db Store = ⊤
@@ -58,7 +58,7 @@ TellsStrange n db WrongDatabase = ⊥
 TellsStrange n db NewerSchema = ⊥
 TellsStrange n db OlderSchema = ⊥
 
--- all rows of each of the first tables of entries, so many
+-- all rows of each table of entries among the first `n` tables
 abbrev pub ListsFirst : ℕ → Database → OfficeState → TabulationEntries → Type 0
 ListsFirst n db s t = (u : Table) → has_entries u ≡ true → place_of u < n → ListsEntries u db (tables_with s t u)
 
@@ -68,7 +68,7 @@ pub record ListsPapers (db : Database) (papers : Papers) : Type 0 where
   pub keyings : ListsEntries Keying db (map (λ (k : KeyedPaper). row_of_keyed (keyed_entry k)) papers.keyings.items)
   pub verdicts : ListsEntries Verdict db (map (λ (v : JudgedPaper). row_of_judged (judged_entry v)) papers.verdicts.items)
 
--- each row's key is above that of the one before
+-- each row's key is above that of the row before
 pub record PapersRise (papers : Papers) : Type 0 where
   pub batches : IsStrictlySortedBy (row_cmp Batch) (map (λ (b : BatchValue). row_of_batch (batch_entry b)) papers.batches.items)
   pub keyings : IsStrictlySortedBy (row_cmp Keying) (map (λ (k : KeyedPaper). row_of_keyed (keyed_entry k)) papers.keyings.items)

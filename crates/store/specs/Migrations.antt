@@ -1,4 +1,4 @@
--- An office that a program before this one made, and what it becomes.
+-- An office that an earlier program made, and what it becomes.
 use Rattle.std.specs.Prelude.{◌≡◌, ◌⊎◌, ◌==◌, ℕ, Bool, true, false, List, [], ◌∷◌, codes, ⊤, Result, Err, IfOk, IfErr}
 use Rattle.std.specs.List.{list_any, starts_with}
 use Rattle.sqlite.specs.Tree.{Trees}
@@ -7,15 +7,15 @@ use Rattle.sqlite.specs.Effect.{Database, IsDatabase}
 use Rattle.sqlite.specs.Held.{Held, state}
 use Rattle.sqlite.specs.State.{State, HasCleanDisk}
 use Rattle.register.specs.Offices.{OfficeState}
-use Rattle.register.specs.Items.{IsState}
+use Rattle.register.specs.StateConditions.{IsState}
 use Rattle.register.specs.Tabulated.{TabulationEntries, tabulation_of, AdditionEntries, with_addition}
 use Rattle.tables.specs.declared.fault.Fault.{Fault}
 use Rattle.tables.specs.declared.fault.Fault.TheVariants.{Memory, Store, Damaged, Closed, WrongDatabase, NewerSchema, OlderSchema}
 use Rattle.tables.specs.declared.table.Table.TheVariants.{Office}
-use Rattle.tables.specs.declared.presence.Form.{Form}
-use Rattle.tables.specs.declared.presence.Form.TheVariants.{WithoutThird, WithoutCounts as WithoutCountTables}
+use Rattle.tables.specs.declared.presence.TablesPresent.{TablesPresent}
+use Rattle.tables.specs.declared.presence.TablesPresent.TheVariants.{WithoutThird, WithoutCounts as WithoutCountTables}
 use Rattle.tables.specs.Contents.{Contents, SameContents, RestsAt, changed, Stores}
-use Rattle.tables.specs.Making.{HasFirst, RestsFirst, SeesMade, StoresFirst}
+use Rattle.tables.specs.Making.{HasFirstTables, RestsFirst, SeesMade, StoresFirst}
 use Rattle.tables.specs.Presence.{IsOurs, IsOlderSchema}
 use Rattle.tables.specs.Reading.{OnlyReads, FailsToList}
 use Rattle.store.specs.declared.older.OlderForm.{OlderForm}
@@ -23,27 +23,27 @@ use Rattle.store.specs.declared.older.OlderForm.TheVariants.{WithCounts, Without
 use Rattle.store.specs.declared.migration.Migrated.{Migrated}
 use Rattle.store.specs.declared.migration.Migrated.TheVariants.{Done, Already}
 use Rattle.store.specs.EntryRows.{office_row}
-use Rattle.store.specs.Offices.{no_tabulation, tables_of, tables_with, HoldsState, IsAt, Wears}
+use Rattle.store.specs.StateTables.{no_tabulation, tables_of, tables_with, HoldsState, IsAt, KeepsConnection}
 use Rattle.store.specs.Openings.{HasNoOffice, IsNewer, HoldsNoState}
 
 -- ---- an older office
 
--- so many of the tables it has, the first ones
+-- how many of the tables it has, counted from the first
 abbrev pub tables_in : OlderForm → ℕ
 tables_in WithCounts = 10
 tables_in WithoutCounts = 8
 
--- what its tables are called together
-abbrev pub name_of : OlderForm → Form
+-- which tables of an office it has
+abbrev pub name_of : OlderForm → TablesPresent
 name_of WithCounts = WithoutThird
 name_of WithoutCounts = WithoutCountTables
 
--- what it has tabulated of the counts
+-- the tabulation that it has
 abbrev pub tabulation_in : OlderForm → OfficeState → TabulationEntries
 tabulation_in WithCounts s = tabulation_of s
 tabulation_in WithoutCounts s = no_tabulation
 
--- the rows that stood for a state then, of the first version; opaque, so that a search does not compute it
+-- the rows that represented a state in the first version; opaque, so that a search does not compute it
 unfoldable pub older_tables : OlderForm → OfficeState → Contents
 older_tables form s = changed Office (λ _. office_row 1 ∷ []) (tables_with s (tabulation_in form s))
 
@@ -51,54 +51,54 @@ older_tables form s = changed Office (λ _. office_row 1 ∷ []) (tables_with s 
 abbrev pub is_about_third : List ℕ → Bool
 is_about_third subject = starts_with ◌==◌ subject (codes "third ")
 
--- a state as it was then: there is no third clerk, and none was asked for
+-- a state of that version: there is no third clerk, and no receipt is about one
 pub record IsOlderState (s : OfficeState) : Type 0 where
   pub is : IsState s
   pub no_thirds : s.thirds ≡ []
   pub unasked : list_any (λ r. is_about_third r.subject) s.receipts ≡ false
 
--- the database holds exactly the older tables of this state
+-- the database contains exactly the older tables of this state
 pub record HoldsOlder (form : OlderForm) (db : Database) (s : OfficeState) : Type 0 where
   pub is : IsOlderState s
-  pub first : HasFirst (tables_in form) (older_tables form s) db
+  pub first : HasFirstTables (tables_in form) (older_tables form s) db
 
 -- a connection between two transactions, at the older tables of this state
 pub record RestsOlder (form : OlderForm) (s : OfficeState) (st : State) : Type 0 where
   pub is : IsOlderState s
   pub rests : RestsFirst (tables_in form) (older_tables form s) st
 
--- a connection inside a transaction, which sees the older tables of this state
+-- a connection inside a transaction that sees the older tables of this state
 abbrev pub SeesOlder : OlderForm → OfficeState → State → Type 0
 SeesOlder form s st = IsOlderState s × SeesMade (tables_in form) (older_tables form s) st
 
--- these are the older tables of this, which is an older state
+-- these trees are the older tables of `s`, which is an older state
 pub record StoresOlder (form : OlderForm) (s : OfficeState) (trees : Trees) : Type 0 where
   pub is : IsOlderState s
   pub stores : StoresFirst (tables_in form) (older_tables form s) trees
 
--- a stop leaves what it could leave before, the older tables of this state, or the tables of this state in this version
+-- a stop leaves either what it could leave before, namely the older tables of this state, or the tables of this state in this version
 abbrev pub LeavesOldOrNew : OlderForm → OfficeState → State → State → Type 0
 LeavesOldOrNew form s old new = (trees : Trees) → new.may_leave trees → (old.may_leave trees × StoresOlder form s trees) ⊎ Stores (tables_of s) trees
 
--- the rows are the older tables of no state
+-- the rows are not the older tables of any state
 abbrev pub HoldsNoOlder : Database → Type 0
 HoldsNoOlder db = (form : OlderForm) (s : OfficeState) → ¬ HoldsOlder form db s
 
 -- ---- what a migration reports
 
--- the database held this state: at this version, where nothing was to be done, or as an older office
+-- the database contained this state: at this version, so that nothing had to be done, or as an older office
 abbrev pub WasAt : Database → Migrated → OfficeState → Type 0
 WasAt db Already s = HoldsState db s
 WasAt db Done s = (form : OlderForm) × HoldsOlder form db s
 
--- an office, of no later version, whose rows are the tables of no state, nor the older tables of one
+-- an office, of no later version, whose rows are neither the tables nor the older tables of any state
 pub record IsBeyondMigration (db : Database) : Type 0 where
   pub some_office : ¬ HasNoOffice db
   pub not_newer : ¬ IsNewer db
   pub no_state : HoldsNoState db
   pub no_older : HoldsNoOlder db
 
--- the database is one at which a migration reports this fault; want of memory and a failing store come at any
+-- the database is one for which a migration reports this fault; a failed allocation or a failed store may be reported for any
 abbrev pub IsToldInMigration : Database → Fault → Type 0
 IsToldInMigration db Memory = ⊤
 IsToldInMigration db Store = ⊤
@@ -108,32 +108,32 @@ IsToldInMigration db WrongDatabase = HasNoOffice db
 IsToldInMigration db NewerSchema = IsNewer db
 IsToldInMigration db OlderSchema = ⊥
 
--- why a migration came to nothing, where that is reported as a fault of the store: all rows couldn't be listed; or they are the older tables of a
--- state, and of a write that fails no cause is stated
+-- why a migration failed, if that is reported as a fault of the store: either not all rows could be listed; or they are the older tables of a state, and
+-- nothing states why a write fails
 abbrev pub FailsToMigrate : Database → State → State → Fault → Type 0
 FailsToMigrate db old new f = FailsToList db old new f ⊎ ((form : OlderForm) × (s : OfficeState) × HoldsOlder form db s)
 
 -- ---- the parts of a migration
 
--- the maps that were read have no third clerk; and in a form without counts nothing was tabulated
+-- the maps that were read have no third clerk; and in a form without counts there was no tabulation
 pub record IsBare (form : OlderForm) (s : OfficeState) (t : TabulationEntries) : Type 0 where
   pub no_thirds : s.thirds ≡ []
   pub no_counts : form ≡ WithoutCounts → t ≡ no_tabulation
 
--- maps are an older state, and this is what such an office has tabulated of its counts
+-- maps are an older state, and this is the tabulation that such an office has
 pub record IsOlderOf (form : OlderForm) (s : OfficeState) (t : TabulationEntries) : Type 0 where
   pub is : IsOlderState s
   pub tabulated : t ≡ tabulation_in form s
 
--- this is what an older office lacks of what is tabulated of the counts
+-- this is what an older office lacks of the tabulation of its counts
 abbrev pub Lacks : OlderForm → OfficeState → AdditionEntries → Type 0
 Lacks form s a = with_addition a (tabulation_in form s) ≡ tabulation_of s
 
--- an older office was read, and what it lacks
+-- an older office was read, and this is what it lacks
 abbrev pub FoundOlder : Database → OlderForm → AdditionEntries → Type 0
 FoundOlder db form a = (s : OfficeState) × HoldsOlder form db s × Lacks form s a
 
--- the fault that the rows of an older office give
+-- the fault reported for the rows of an older office
 abbrev pub TellsOlder : Database → Fault → Type 0
 TellsOlder db Memory = ⊤
 TellsOlder db Store = ⊤
@@ -143,7 +143,7 @@ TellsOlder db WrongDatabase = ⊥
 TellsOlder db NewerSchema = ⊥
 TellsOlder db OlderSchema = ⊥
 
--- a stop leaves what it could leave before, or the tables, in this version, of a state whose older tables the database held
+-- a stop leaves what it could leave before, or the tables, in this version, of a state whose older tables the database contained
 abbrev pub LeavesOlderOr : Database → State → State → Type 0
 LeavesOlderOr db old new = (trees : Trees) → new.may_leave trees → old.may_leave trees ⊎ ((s : OfficeState) × (form : OlderForm) × HoldsOlder form db s × Stores (tables_of s) trees)
 
@@ -156,8 +156,8 @@ module _ {S : Type 0} (store : Ghosts S) (before after : Held S) (result : Resul
   abbrev new : State
   new = state store after
 
-  -- What a migration comes to over an older office, over one of this version, and over any database that may hold either; and what the rows of older
-  -- offices determine. For what each office holds it says whether the office is found at a state (`moved`, `stops`, `already`) or by its rows alone.
+  -- The outcome of a migration of an older office, of one of this version, and of any database that may contain either; and what the rows of older offices
+  -- determine. For each it states what results if the office is found at a state (`moved`, `stops`, `already`) or by its rows alone.
   pub record Migrates : Type 0 where
     pub moved : HasCleanDisk new → (form : OlderForm) (s : OfficeState) → RestsOlder form s old → IfOk result (λ m. (m ≡ Done) × IsAt s new)
     pub stops : HasCleanDisk new → (form : OlderForm) (s : OfficeState) → RestsOlder form s old → LeavesOldOrNew form s old new
@@ -169,7 +169,7 @@ module _ {S : Type 0} (store : Ghosts S) (before after : Held S) (result : Resul
     pub told : HasCleanDisk new → (db : Database) → IsOurs db.schema → IsOlderSchema db.schema → RestsAt db old → IfErr result (IsToldInMigration db)
     pub fails : HasCleanDisk new → (db : Database) → IsOurs db.schema → IsOlderSchema db.schema → RestsAt db old → IfErr result (FailsToMigrate db old new)
     pub unchanged : IfErr result (λ f. (f ≡ Memory) ⊎ ((f ≡ Store) ⊎ OnlyReads old new))
-    pub wears : Wears old new
+    pub keeps_connection : KeepsConnection old new
     pub clean : HasCleanDisk new → HasCleanDisk old
     pub inside : before.in_transaction ≡ true → (result ≡ Err Store) × (after ≡ before)
     pub outside : before.in_transaction ≡ false → after.in_transaction ≡ false

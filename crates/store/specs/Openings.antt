@@ -1,11 +1,11 @@
--- What an opening finds.
+-- What is found when an office is opened.
 use Rattle.std.specs.Prelude.{◌≡◌, ◌≢◌, ◌⊎◌, ◌<◌, ℕ, ℤ, pos, ◌<ℤ◌, Bool, true, false, List, [], ◌∷◌, ⊤, IsTrue}
 use Rattle.sqlite.specs.declared.types.Value.TheVariants.{Int}
 use Rattle.sqlite.specs.Order.{Row}
 use Rattle.sqlite.specs.Effect.{Database, IsDatabase}
 use Rattle.sqlite.specs.State.{State}
 use Rattle.register.specs.Offices.{OfficeState}
-use Rattle.register.specs.Items.{IsState}
+use Rattle.register.specs.StateConditions.{IsState}
 use Rattle.register.specs.Tabulated.{TabulationEntries, IsTabulationOf}
 use Rattle.tables.specs.declared.fault.Fault.{Fault}
 use Rattle.tables.specs.declared.fault.Fault.TheVariants.{Memory, Store, Damaged, Closed, WrongDatabase, NewerSchema, OlderSchema}
@@ -17,36 +17,36 @@ use Rattle.tables.specs.Contents.{HoldsTable, Stores}
 use Rattle.tables.specs.Presence.{has_table}
 use Rattle.tables.specs.Reading.{ListsEntries}
 use Rattle.store.specs.EntryRows.{this_version, office_row}
-use Rattle.store.specs.Offices.{tables_of, tables_with, HoldsState}
+use Rattle.store.specs.StateTables.{tables_of, tables_with, HoldsState}
 
 -- there is no office table, or no row in it
 abbrev pub HasNoOffice : Database → Type 0
 HasNoOffice db = (has_table Office db.schema ≡ false) ⊎ (tuples Office db.trees ≡ [])
 
--- the one office row is of a version above this program's
+-- the one office row has a version above this program's
 abbrev pub IsNewer : Database → Type 0
 IsNewer db = (version : ℤ) × (pos this_version <ℤ version) × (tuples Office db.trees ≡ (Int (pos 1) ∷ Int version ∷ []) ∷ [])
 
--- the one office row is of the first version, before this program's
+-- the one office row has the first version, which precedes this program's
 abbrev pub IsOlder : Database → Type 0
 IsOlder db = tuples Office db.trees ≡ office_row 1 ∷ []
 
--- the office table has the one row of an office of a version, and no other
+-- the office table has exactly one row, that of an office of this version
 abbrev pub HasVersion : ℕ → Database → Type 0
 HasVersion version db = HoldsTable Office (office_row version ∷ []) db.trees
 
--- the rows are the tables of no state
+-- the rows are not the tables of any state
 abbrev pub HoldsNoState : Database → Type 0
 HoldsNoState db = (s : OfficeState) → ¬ HoldsState db s
 
--- an office, of this version, whose rows are the tables of no state
+-- an office, of this version, whose rows are not the tables of any state
 pub record IsDamaged (db : Database) : Type 0 where
   pub some_office : ¬ HasNoOffice db
   pub not_newer : ¬ IsNewer db
   pub not_older : ¬ IsOlder db
   pub no_state : HoldsNoState db
 
--- the database is one at which an opening reports this fault; want of memory and a failing store come at any
+-- the database is one for which opening an office reports this fault; a failed allocation or a failed store may be reported for any
 abbrev pub IsToldBy : Database → Fault → Type 0
 IsToldBy db Memory = ⊤
 IsToldBy db Store = ⊤
@@ -56,13 +56,13 @@ IsToldBy db WrongDatabase = HasNoOffice db
 IsToldBy db NewerSchema = IsNewer db
 IsToldBy db OlderSchema = (¬ HasNoOffice db) × HasVersion 1 db
 
--- a sound database that holds exactly the tables of this state, as a stop leaves it
+-- a sound database that contains exactly the tables of this state, as a stop leaves it
 pub record IsLeftAt (s : OfficeState) (db : Database) : Type 0 where
   pub is : IsState s
   pub sound : IsDatabase db
   pub stores : Stores (tables_of s) db.trees
 
--- an open connection, outside a transaction, to a database with nothing in it
+-- an open connection, outside a transaction, to an empty database
 pub record IsBlank (st : State) : Type 0 where
   pub is_open : IsTrue st.is_open
   pub outside : st.in_transaction ≡ false
@@ -72,7 +72,7 @@ pub record IsBlank (st : State) : Type 0 where
 
 -- ---- the parts of an opening
 
--- the fault that a table's rows give: `Damaged` comes only of rows of no state
+-- the fault reported for the rows of a table: `Damaged` only if they are not those of any state
 abbrev pub TellsNoState : Database → Fault → Type 0
 TellsNoState db Memory = ⊤
 TellsNoState db Store = ⊤
@@ -82,11 +82,11 @@ TellsNoState db WrongDatabase = ⊥
 TellsNoState db NewerSchema = ⊥
 TellsNoState db OlderSchema = ⊥
 
--- the row is that of an office, of a version
+-- the row is that of an office of this version
 abbrev pub IsVersion : ℕ → Row → Type 0
 IsVersion version row = at (column_places Office) row ≡ office_row version
 
--- the fault that a row of the office table gives
+-- the fault reported for a row of the office table
 abbrev pub TellsRow : Row → Fault → Type 0
 TellsRow row Memory = ⊤
 TellsRow row Store = ⊥
@@ -96,7 +96,7 @@ TellsRow row WrongDatabase = ⊥
 TellsRow row NewerSchema = (version : ℕ) × (this_version < version) × IsVersion version row
 TellsRow row OlderSchema = IsVersion 1 row
 
--- the fault that the rows of the office table give
+-- the fault reported for the rows of the office table
 abbrev pub TellsRows : List Row → Fault → Type 0
 TellsRows rows Memory = ⊤
 TellsRows rows Store = ⊥
@@ -106,7 +106,7 @@ TellsRows rows WrongDatabase = rows ≡ []
 TellsRows rows NewerSchema = (row : Row) × (rows ≡ row ∷ []) × ((version : ℕ) × (this_version < version) × IsVersion version row)
 TellsRows rows OlderSchema = (row : Row) × (rows ≡ row ∷ []) × IsVersion 1 row
 
--- the fault that the office table gives
+-- the fault reported for the office table
 abbrev pub TellsOffice : Database → Fault → Type 0
 TellsOffice db Memory = ⊤
 TellsOffice db Store = ⊤
@@ -116,7 +116,7 @@ TellsOffice db WrongDatabase = tuples Office db.trees ≡ []
 TellsOffice db NewerSchema = IsNewer db
 TellsOffice db OlderSchema = HasVersion 1 db
 
--- the tables whose rows are the entries of a state, and what is tabulated of its counts
+-- the tables whose rows are the entries of a state and of the tabulation of its counts
 abbrev pub has_entries : Table → Bool
 has_entries Ward = true
 has_entries Candidate = true
@@ -130,15 +130,15 @@ has_entries Vote = true
 has_entries Third = true
 has_entries Office = false
 
--- all rows of each table of entries, those of these maps and of this tabulation
+-- all rows of each table of entries are those of these maps and of this tabulation
 abbrev pub ListsMaps : Database → OfficeState → TabulationEntries → Type 0
 ListsMaps db s t = (u : Table) → has_entries u ≡ true → ListsEntries u db (tables_with s t u)
 
--- maps are a state, and this is what is tabulated of its counts
+-- maps are a state, and this is the tabulation of its counts
 abbrev pub IsTabulatedAs : OfficeState → TabulationEntries → Type 0
 IsTabulatedAs s t = IsState s × IsTabulationOf t s
 
--- each table of entries holds those of the state
+-- each table of entries contains those of the state
 pub record HoldsEntries (db : Database) (s : OfficeState) : Type 0 where
   pub is : IsState s
   pub entries : (t : Table) → has_entries t ≡ true → HoldsTable t (tables_of s t) db.trees

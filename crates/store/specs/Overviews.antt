@@ -1,4 +1,4 @@
--- What the office alone reads of how all stands: its wards, the batches of a ward, their papers as they count, the doubtful ones, where a batch differs, and what was kept.
+-- Overviews for the office alone: its wards, the batches of a ward, their papers as they count, the doubtful ones, differences between keyings, and receipts.
 use Rattle.std.specs.Prelude.{ℕ, Bool, not, ◌==◌, ◌&&◌, ◌++◌, if◌then◌else◌, List, [], ◌∷◌, map, find, codes, Option, Some, None, option_map}
 use Rattle.std.specs.List.{filter, flat_map, list_any}
 use Rattle.std.specs.Fmt.{decimal}
@@ -6,11 +6,11 @@ use Rattle.std.specs.Str.{bytes_eq}
 use Rattle.register.specs.Offices.{WardEntry, CandidateEntry, BatchEntry, KeyedEntry, JudgedEntry, ReceiptEntry, OfficeState, ward_entry, candidate_entry, batch_entry, judged_entry}
 use Rattle.register.specs.Offices.{ward_at, batch_at, candidates_of, keying_of, verdicts_of}
 use Rattle.register.specs.Marks.{columns_of}
-use Rattle.register.specs.Papers.{is_keyed, is_doubtful, clerks_of, keyings_now, taken_papers, agreed, are_taken, differ, is_taken, batches_of, open_in}
+use Rattle.register.specs.Agreement.{is_keyed, is_doubtful, clerks_of, keyings_now, taken_papers, agreed, are_taken, differ, is_taken, batches_of, open_in}
 use Rattle.register.specs.Polls.{Pile, pile_of, judgement_on}
 use Rattle.register.specs.declared.polls.Judgement.{Judgement}
 use Rattle.register.specs.Elections.{election_of, elected_of, is_declared}
-use Rattle.register.specs.Standings.{StatusEntry, status_of, status_entry}
+use Rattle.register.specs.Status.{StatusEntry, status_of, status_entry}
 use Rattle.store.specs.declared.overviews.batches.BatchStanding.{BatchStanding}
 use Rattle.store.specs.declared.overviews.batches.BatchStanding.TheVariants.{Taken, Differing, Waiting}
 use Rattle.store.specs.declared.overviews.wards.WardOverview.{WardOverview}
@@ -24,14 +24,14 @@ use Rattle.store.specs.declared.overviews.differences.Differences.{Differences}
 
 -- ---- the wards
 
--- a ward, how it stands, and, where it is declared, who is elected, and all its candidates
+-- a ward, its status, and, once it is declared, those elected and all its candidates
 pub record WardView : Type 0 where
   pub ward : WardEntry
   pub status : StatusEntry
   pub elected : Option (List ℕ)
   pub candidates : List CandidateEntry
 
--- who is elected in a ward, once it is declared
+-- those elected in a ward, once it is declared
 abbrev pub declared_in : OfficeState → WardEntry → Option (List ℕ)
 declared_in s w = if is_declared w.phase then Some (elected_of (election_of s w)) else None
 
@@ -48,30 +48,30 @@ ward_views s = map (ward_view_of s) s.wards
 
 -- ---- the batches of a ward
 
--- a batch is taken, or it differs; else it waits for keyings
+-- a batch is taken, or it differs; otherwise it waits for keyings
 abbrev pub standing_by : List (List KeyedEntry) → BatchStanding
 standing_by keyings = if are_taken keyings then Taken else if differ keyings then Differing else Waiting
 
 abbrev pub standing_of : OfficeState → BatchEntry → BatchStanding
 standing_of s b = standing_by (keyings_now s b)
 
--- a clerk of a batch, and whether he has keyed its current round
+-- a clerk of a batch, and whether the clerk has keyed its current round
 abbrev pub clerk_view_of : OfficeState → BatchEntry → ℕ → ℕ × Bool
 clerk_view_of s b clerk = (clerk, is_keyed (keying_of s b.number b.round clerk))
 
--- a text, and the end of its line
+-- a text, followed by a line end
 abbrev pub in_a_line : List ℕ → List ℕ
 in_a_line text = text ++ codes "\n"
 
--- candidates' numbers, and the marks of papers, a line each
+-- candidates' numbers, and the marks of papers, one per line
 abbrev pub candidate_lines : List ℕ → List ℕ
 candidate_lines columns = flat_map (λ c. in_a_line (decimal c)) columns
 
 abbrev pub paper_lines : List KeyedEntry → List ℕ
 paper_lines papers = flat_map (λ (k : KeyedEntry). in_a_line k.marks) papers
 
--- The papers of a batch that is taken, as one text: the numbers of the ward's candidates, a line each; an empty line; and the marks of each paper in
--- a line of its own. Neither a number nor marks hold a line end. So texts are alike where the candidates are and each paper is.
+-- The papers of a batch that is taken, as one text: the numbers of the ward's candidates, one per line; an empty line; and the marks of the papers, one paper
+-- per line. Neither numbers nor marks contain a line end. So two such texts are equal if and only if the candidates' numbers and all papers are.
 unfoldable pub pile_text : List ℕ → List KeyedEntry → List ℕ
 pile_text columns papers = candidate_lines columns ++ (codes "\n" ++ paper_lines papers)
 
@@ -82,7 +82,7 @@ pile_text_of s b = pile_text (columns_of (candidates_of s b.ward)) (taken_papers
 abbrev pub pile_in : OfficeState → BatchEntry → Option (List ℕ)
 pile_in s b = if is_taken s b then Some (pile_text_of s b) else None
 
--- another batch is taken with the very same papers, of a ward with the same candidates' numbers
+-- another batch is taken with exactly the same papers, in a ward with the same candidates' numbers
 abbrev pub is_twin : OfficeState → BatchEntry → BatchEntry → Bool
 is_twin s b c = not (c.number == b.number) && (is_taken s c && bytes_eq (pile_text_of s b) (pile_text_of s c))
 
@@ -90,7 +90,7 @@ is_twin s b c = not (c.number == b.number) && (is_taken s c && bytes_eq (pile_te
 abbrev pub twin_of : OfficeState → BatchEntry → Option ℕ
 twin_of s b = if is_taken s b then option_map (λ (c : BatchEntry). c.number) (find (is_twin s b) s.batches) else None
 
--- a batch, its clerks in the order of their numbers, how it stands, how many of its doubtful papers have no verdict, and its twin
+-- a batch, its clerks in the order of their numbers, its standing, how many of its doubtful papers have no verdict, and its twin
 pub record BatchView : Type 0 where
   pub batch : BatchEntry
   pub clerks : List (ℕ × Bool)
@@ -108,7 +108,7 @@ batch_view_of s b = batch_view_with s b (twin_of s b)
 abbrev pub batch_views : OfficeState → ℕ → List BatchView
 batch_views s ward = map (batch_view_of s) (batches_of s ward)
 
--- the same of the ward of a number, if there is one
+-- the same for the ward with this number, if there is one
 abbrev pub batch_views_at : OfficeState → ℕ → Option (List BatchView)
 batch_views_at s ward = option_map (λ (w : WardEntry). batch_views s w.number) (ward_at s ward)
 
@@ -123,7 +123,7 @@ pub record PaperView : Type 0 where
 abbrev pub paper_view_of : List ℕ → List JudgedEntry → KeyedEntry → PaperView
 paper_view_of columns verdicts k = record { batch = k.batch; paper = k.paper; judgement = judgement_on columns verdicts k }
 
--- the papers that a batch is taken with, each as it counts; none where it isn't taken
+-- the papers that a batch is taken with, each as it counts; none if it isn't taken
 abbrev pub papers_in : List ℕ → Pile → List PaperView
 papers_in columns pile = map (paper_view_of columns pile.verdicts) (agreed pile.keyings)
 
@@ -143,7 +143,7 @@ papers_of s b = papers_by (candidates_of s b.ward) (pile_of s b)
 abbrev pub judgements_told : OfficeState → BatchEntry → List Judgement
 judgements_told s b = map (λ (p : PaperView). p.judgement) (papers_of s b).papers
 
--- the same of the batch with a number, if there is one
+-- the same for the batch with this number, if there is one
 abbrev pub papers_at : OfficeState → ℕ → Option PapersView
 papers_at s batch = option_map (papers_of s) (batch_at s batch)
 
@@ -154,7 +154,7 @@ pub record DoubtfulView : Type 0 where
   pub counted : PaperView
   pub verdict : Option JudgedEntry
 
--- among the verdicts of a batch that on the paper of a number
+-- the verdict on the paper with this number, among the verdicts of a batch
 abbrev pub verdict_on : List JudgedEntry → ℕ → Option JudgedEntry
 verdict_on verdicts paper = find (λ (v : JudgedEntry). v.paper == paper) verdicts
 
@@ -169,7 +169,7 @@ doubtful_among columns verdicts papers = map (doubtful_view_of columns verdicts)
 abbrev pub doubtful_in : OfficeState → List ℕ → BatchEntry → List DoubtfulView
 doubtful_in s columns b = doubtful_among columns (verdicts_of s b.number) (taken_papers s b)
 
--- those of the batches of a ward
+-- the doubtful papers of the batches of a ward
 abbrev pub doubtful_views : OfficeState → ℕ → List DoubtfulView
 doubtful_views s ward = flat_map (doubtful_in s (columns_of (candidates_of s ward))) (batches_of s ward)
 
@@ -181,7 +181,7 @@ pub record DoubtfulPapersView : Type 0 where
 abbrev pub doubtful_papers : OfficeState → ℕ → DoubtfulPapersView
 doubtful_papers s ward = record { candidates = candidates_of s ward; papers = doubtful_views s ward }
 
--- the same of the ward of a number, if there is one
+-- the same for the ward with this number, if there is one
 abbrev pub doubtful_at : OfficeState → ℕ → Option DoubtfulPapersView
 doubtful_at s ward = option_map (λ (w : WardEntry). doubtful_papers s w.number) (ward_at s ward)
 
@@ -191,7 +191,7 @@ doubtful_at s ward = option_map (λ (w : WardEntry). doubtful_papers s w.number)
 abbrev pub has_alike : KeyedEntry → List KeyedEntry → Bool
 has_alike k keying = list_any (λ (j : KeyedEntry). (j.paper == k.paper) && bytes_eq j.marks k.marks) keying
 
--- some of the others have it with other marks
+-- some of the other keyings have it with other marks
 abbrev pub is_apart : List (List KeyedEntry) → KeyedEntry → Bool
 is_apart others k = list_any (λ keying. not (has_alike k keying)) others
 
@@ -204,7 +204,7 @@ abbrev pub papers_apart : List (List KeyedEntry) → List ℕ
 papers_apart [] = []
 papers_apart (keying ∷ others) = apart_among others keying
 
--- a batch, whether it differs, and on which papers the keyings of its round do
+-- a batch, whether its keyings differ, and on which papers those of its current round do
 pub record DifferencesView : Type 0 where
   pub batch : BatchEntry
   pub differs : Bool
@@ -216,7 +216,7 @@ differences_by b keyings = record { batch = b; differs = differ keyings; papers 
 abbrev pub differences_of : OfficeState → BatchEntry → DifferencesView
 differences_of s b = differences_by b (keyings_now s b)
 
--- the same of the batch with a number, if there is one
+-- the same for the batch with this number, if there is one
 abbrev pub differences_at : OfficeState → ℕ → Option DifferencesView
 differences_at s batch = option_map (differences_of s) (batch_at s batch)
 
@@ -227,7 +227,7 @@ abbrev pub receipts_of : OfficeState → Option ℕ → List ReceiptEntry
 receipts_of s None = s.receipts
 receipts_of s (Some actor) = filter (λ (r : ReceiptEntry). r.actor == actor) s.receipts
 
--- ---- what values stand for
+-- ---- the entries of values
 
 abbrev pub ward_view : WardOverview → WardView
 ward_view o = record { ward = ward_entry o.ward; status = status_entry o.status; elected = o.elected; candidates = map candidate_entry o.candidates.items }

@@ -1,11 +1,11 @@
--- How twins are found: by the numbers of batches, which stand under the text of their papers.
+-- How twins are found: from the numbers of batches, grouped by the text of their papers.
 use Rattle.std.specs.Prelude.{◌≡◌, ◌==◌, ℕ, Bool, false, not, if◌then◌else◌, List, [], length, map, find, Option, Some, None, option_map, String, Vec, string_bytes}
 use Rattle.std.specs.List.{filter, filter_map}
 use Rattle.std.specs.Option.{option_map_or}
 use Rattle.std.specs.Str.{bytes_eq}
 use Rattle.std.specs.HashMap.{HashMap, get_by_text}
 use Rattle.register.specs.Offices.{BatchEntry, KeyedEntry, JudgedEntry, OfficeState, third_entry, third_at}
-use Rattle.register.specs.Papers.{agreed, is_open, keyings_now}
+use Rattle.register.specs.Agreement.{agreed, is_open, keyings_now}
 use Rattle.store.specs.declared.views.papers.Keyings.{Keyings}
 use Rattle.store.specs.declared.overviews.piles.ReadBatch.{ReadBatch}
 use Rattle.store.specs.Keyings.{keyings_by}
@@ -16,11 +16,11 @@ pub record KeyingsAre (s : OfficeState) (b : BatchEntry) (keyings : Keyings) : T
   pub third_is : option_map third_entry keyings.third_clerk ≡ third_at s b.number
   pub they_are : keyings_by keyings ≡ keyings_now s b
 
--- how a batch stands by its clerks, its keyings and the verdicts on its papers: all but its twin
+-- the overview of a batch by its clerks, its keyings and the verdicts on its papers, without its twin
 abbrev pub view_by : BatchEntry → List (ℕ × Bool) → List (List KeyedEntry) → List JudgedEntry → BatchView
 view_by b clerks keyings verdicts = record { batch = b; clerks = clerks; standing = standing_by keyings; doubtful_open = length (filter (is_open verdicts) (agreed keyings)); twin = None }
 
--- a batch's number; its papers as one text, if it is taken; and how it stands but for its twin, if it is of the ward that is asked for
+-- a batch's number; its papers as one text, if it is taken; and its overview without its twin, if it is of the ward asked for
 pub record ReadView : Type 0 where
   pub number : ℕ
   pub pile : Option (List ℕ)
@@ -44,16 +44,16 @@ is_pile text (Some pile) = bytes_eq text pile
 abbrev pub numbers_with : List ReadView → List ℕ → List ℕ
 numbers_with batches text = map (λ (r : ReadView). r.number) (filter (λ (r : ReadView). is_pile text r.pile) batches)
 
--- what a map has under a text
+-- the numbers that a map has for a text
 abbrev pub numbers_under : {Y A S : Type 0} → HashMap (String Y) (Vec ℕ A) S → List ℕ → List ℕ
 numbers_under numbers text = option_map_or (λ group. group.items) (get_by_text numbers text) []
 
--- the first other number under a batch's pile
+-- the first other number with a batch's pile
 abbrev pub twin_under : (List ℕ → List ℕ) → ℕ → Option (List ℕ) → Option ℕ
 twin_under numbers number None = None
 twin_under numbers number (Some pile) = find (λ n. not (n == number)) (numbers pile)
 
--- how a batch stands, with its twin
+-- the overview of a batch, with its twin
 abbrev pub paired : (List ℕ → List ℕ) → ReadView → Option BatchView
 paired numbers r = option_map (λ (v : BatchView). record v { twin = twin_under numbers r.number r.pile }) r.overview
 

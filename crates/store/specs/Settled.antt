@@ -1,4 +1,4 @@
--- What some papers of a batch come to, added to what was counted before.
+-- The ballots of papers of a batch, added to what was counted before.
 use Rattle.std.specs.Prelude.{ℕ, List, ◌++◌}
 use Rattle.register.specs.declared.polls.Judgement.{Judgement}
 use Rattle.register.specs.declared.polls.Ballots.{Ballots}

@@ -1,14 +1,14 @@
--- What the batches of a ward come to.
+-- The tallies of the batches of a ward.
 use Rattle.std.specs.Prelude.{◌≡◌, ◌<◌, ◌^◌, if◌then◌else◌, List, map, length}
 use Rattle.std.specs.List.{filter}
 use Rattle.register.specs.declared.verdicts.JudgedPaper.{JudgedPaper}
 use Rattle.register.specs.Offices.{BatchEntry, OfficeState, judged_entry}
-use Rattle.register.specs.Papers.{agreed, are_taken, differ, is_open, is_taken, is_differing, open_among}
-use Rattle.store.specs.declared.standings.Tally.{Tally}
+use Rattle.register.specs.Agreement.{agreed, are_taken, differ, is_open, is_taken, is_differing, open_among}
+use Rattle.store.specs.declared.status.Tally.{Tally}
 use Rattle.store.specs.declared.views.papers.Keyings.{Keyings}
 use Rattle.store.specs.Keyings.{keyings_by}
 
--- what a batch comes to by its keyings and the verdicts on its papers
+-- the tally of a batch, by its keyings and the verdicts on its papers
 abbrev pub tally_by : Keyings → List JudgedPaper → Tally
 tally_by keyings verdicts =
     record {
@@ -17,7 +17,7 @@ tally_by keyings verdicts =
       doubtful_open = length (filter (is_open (map judged_entry verdicts)) (agreed (keyings_by keyings)));
     }
 
--- how many of some batches are taken, how many differ, and how many doubtful papers of the taken ones have no verdict, each as far as can be counted
+-- how many of these batches are taken, how many differ, and how many doubtful papers of the taken ones have no verdict, each exact if it is below 2^64
 pub record IsTally (s : OfficeState) (batches : List BatchEntry) (tally : Tally) : Type 0 where
   pub taken : length (filter (is_taken s) batches) < 2 ^ 64 → tally.taken ≡ length (filter (is_taken s) batches)
   pub differing : length (filter (is_differing s) batches) < 2 ^ 64 → tally.differing ≡ length (filter (is_differing s) batches)

@@ -3,7 +3,7 @@ use Rattle.std.specs.Prelude.{◌≡◌, true, false, Result, Err, IfOk, IfErr}
 use Rattle.sqlite.specs.Effect.{Database}
 use Rattle.sqlite.specs.State.{State, HasCleanDisk}
 use Rattle.register.specs.Offices.{OfficeState}
-use Rattle.register.specs.Items.{IsState}
+use Rattle.register.specs.StateConditions.{IsState}
 use Rattle.register.specs.Tabulated.{IsTabulationOf}
 use Rattle.rowcheck.specs.declared.rows.Rows.{Rows}
 use Rattle.rowcheck.specs.States.{state_of, tabulated}
@@ -12,12 +12,12 @@ use Rattle.tables.specs.declared.fault.Fault.TheVariants.{Store as StoreFailed}
 use Rattle.tables.specs.Contents.{RestsAt}
 use Rattle.tables.specs.Presence.{IsOurs}
 use Rattle.tables.specs.Reading.{OnlyReads, FailsBy, FailsToList}
-use Rattle.store.specs.Offices.{HoldsState, IsAt}
+use Rattle.store.specs.StateTables.{HoldsState, IsAt}
 use Rattle.store.specs.Openings.{IsLeftAt, IsToldBy}
 
--- The rows that are read are those of a state (`is`), with what its counts tabulate (`tabulates`), whatever made them. They are those of the state
--- that the database holds: found by its rows alone (`found`), left there by a stop (`left`), or kept by an office that was open (`kept`). Else an
--- opening's fault is reported, with its cause. No transaction is begun.
+-- The rows that are read are those of a state (`is`), with the tabulation of its counts (`tabulates`), whatever made them. They are those of the state in the
+-- database: found by its rows alone (`found`), left there by a stop (`left`), or kept by an open office (`kept`). Otherwise a fault is reported as when an
+-- office is opened, with its cause. No transaction is begun.
 pub record ReadsOffice (old new : State) (result : Result Rows Fault) : Type 0 where
   pub is : IfOk result (λ rows. IsState (state_of rows))
   pub tabulates : IfOk result (λ rows. IsTabulationOf (tabulated rows) (state_of rows))

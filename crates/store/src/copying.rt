@@ -6,7 +6,7 @@ ghost use Rattle.register.specs.Offices.{keyed_entry};
 ghost use Rattle.rowcheck.specs.States.{state_of, tabulated};
 ghost use Rattle.tables.specs.Presence.{has_some_table};
 ghost use Rattle.store.specs.Copies.{is_first_paper, holdings_of, CopiesTo};
-ghost use Rattle.store.specs.Offices.{tables_with, Commits};
+ghost use Rattle.store.specs.StateTables.{tables_with, Commits};
 ghost use Rattle.store.specs.Openings.{IsBlank};
 
 use crate::opening::checked_rows;
@@ -18,12 +18,12 @@ use std::alloc::Global;
 use tables::Fault;
 use tables::presence::has_some_table;
 
-/// How much an office has, so that it is seen what a copy has.
+/// How much an office contains, so that a copy can be compared with it.
 #[derive(Clone, Copy)]
 pub struct Holdings {
     pub wards: usize,
     pub batches: usize,
-    /// Keyings of a batch by a clerk in a round, those of earlier rounds too.
+    /// Keyings of a batch by a clerk in a round, including earlier rounds.
     pub keyings: usize,
     pub receipts: usize,
 }
@@ -31,17 +31,16 @@ pub struct Holdings {
 /// Why no copy is reported.
 #[derive(Clone, Copy)]
 pub enum CopyFault {
-    /// An opening of the office reports this, or the office's store is inside a transaction.
+    /// Opening the office reports this fault, or the office's store is inside a transaction.
     Office(Fault),
-    /// Where the copy was to be made there is a table with the name of one of ours, or a transaction is under way;
-    /// nothing was written.
+    /// The database for the copy has a table with the name of one of ours, or is inside a transaction; nothing was written.
     Taken,
-    /// The copy couldn't be written to its end, for want of memory, or since its store failed: none was made, or
-    /// the whole of it.
+    /// The copy couldn't be completed, because an allocation or its store failed: the database contains either nothing
+    /// or the whole copy.
     Copy(Fault),
 }
 
-/// How many keyings papers are of: each keying has one first paper.
+/// Returns the number of keyings that these papers belong to: each keying has one first paper.
 fn keyings_among(papers: &[KeyedPaper]) -> usize
     ensures { result ≡ length (filter is_first_paper (map keyed_entry papers.now)) }
 {
@@ -54,7 +53,7 @@ fn keyings_among(papers: &[KeyedPaper]) -> usize
     keyings
 }
 
-/// How much the office of these rows has.
+/// Returns how much the office of these rows contains.
 fn holdings_of(rows: &Rows) -> Holdings
     ensures { result ≡ holdings_of (state_of rows.now) }
 {
@@ -66,7 +65,7 @@ fn holdings_of(rows: &Rows) -> Holdings
     }
 }
 
-/// Makes an office of these rows in one transaction.
+/// Creates an office with these rows in one transaction.
 fn commit_copy<T: Alter>(alloc: Global, copy: &mut Connection<T>, rows: &Rows) -> Result<(), Fault>
     requires { copy.old.in_transaction ≡ false }
     ensures { Commits (state T.Store copy.old) (state T.Store copy.new) result (λ (x : ⊤). IsBlank) (λ x. tables_with (state_of rows.now) (tabulated rows.now)) }
@@ -77,12 +76,13 @@ fn commit_copy<T: Alter>(alloc: Global, copy: &mut Connection<T>, rows: &Rows) -
     Ok(())
 }
 
-/// Makes a copy of the office that a connection's database holds in that of another, with nothing in it, in one transaction, and
-/// gives how much it has. No office is open afterwards.
+/// Copies the office in one connection's database into that of another, which must be empty, in one transaction, and
+/// returns how much the copy contains. No office is open afterwards.
 ///
-/// The rows are judged first, as `Store::open_from` does. What that would report comes as `Office`; the office is only read,
-/// whatever comes of it. `Taken` where there is a table with the name of one of ours already, or where the other connection is
-/// inside a transaction. The other database is not changed then. After `Copy` it is found as it was, or the whole copy.
+/// The rows are checked first, as by `Store::open_from`, whose fault is returned as `Office`; the office is only read,
+/// whatever the outcome. `Taken` if there is already a table with the name of one of ours, or if the other connection
+/// is inside a transaction. In these cases the other database is unchanged. After `Copy` it is either unchanged or
+/// contains the whole copy.
 pub fn copy<S: Alter, T: Alter>(
     alloc: Global,
     conn: &mut Connection<S>,

@@ -1,4 +1,4 @@
-//! What the rows of each table stand for.
+//! The entries that the rows of each table represent.
 
 ghost use Rattle.std.specs.Prelude.{◌≡◌, pos, IfOk, IfErr};
 ghost use Rattle.sqlite.specs.Value.{owned};
@@ -17,10 +17,9 @@ pub(crate) mod wards;
 
 use sqlite_value::value::ValueRef;
 use tables::Fault;
-use tables::cells::amount;
+use tables::value_conversion::amount;
 
-/// Units of a count as a parameter. `Memory` where a column can't hold them: no machine has the memory for
-/// so many papers.
+/// Returns units of a count as a parameter. `Memory` if a column can't hold them: no machine has the memory for so many papers.
 fn units<'a>(n: u64) -> Result<ValueRef<'a>, Fault>
     ensures value { IfOk result (λ value. owned value ≡ Int (pos n)) }
     ensures cause { IfErr result (λ f. f ≡ Fault.Memory) }

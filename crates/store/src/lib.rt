@@ -1,14 +1,15 @@
-//! The state of an office, kept in the tables of a store of `sqlite`.
+//! The state of an office, stored in the tables of an `sqlite` database.
 //!
-//! `Store` holds a connection between two transactions. `create` makes the tables of an empty office, and `open_from` finds the state
-//! that the rows of a database stand for. `commit` keeps a change in one transaction, whole or not at all. `load_view` reads the part
-//! of the state that one request needs. `load_status`, `load_next` and `load_columns` read how a ward stands, what comes next in it,
-//! and what a batch's papers have as columns; `load_work` reads what a clerk has to key. `load_sheet` and `load_counted` read what the
-//! texts of a ward are written from, and `load_book` its count as it was kept. `load_wards`, `load_batches`, `load_doubtful`,
-//! `load_batch_papers`, `load_differences` and `load_receipts` read how all stands. `load_keeps_other` compares a request that is sent
-//! again with what is kept of it. `migrate` makes of an office that an earlier
-//! program made one that opens, and `copy` makes the same office in another database. `read_office` reads all of one. `Store::copy_to`
-//! and `Store::rows` do so of an office that is open. `Fault` says why a call gave up.
+//! `Store` holds a connection between two transactions. `create` makes the tables of an empty office, and `open_from`
+//! finds the state that the rows of a database represent. `commit` stores a change in one transaction, entirely or not
+//! at all. `load_view` reads the part of the state that one request needs. `load_status`, `load_next` and
+//! `load_columns` read the status of a ward, its next step, and the columns of a batch's papers; `load_work` reads the
+//! batches that a clerk keys. `load_sheet` and `load_counted` read what the texts of a ward are written from, and
+//! `load_book` reads its stored count. `load_wards`, `load_batches`, `load_doubtful`, `load_batch_papers`,
+//! `load_differences` and `load_receipts` read the overviews. `load_differs_from_stored` compares a repeated request
+//! with what is stored of it. `migrate` brings an office that an earlier program made up to this version, and `copy`
+//! copies an office into another database. `read_office` reads a whole office. `Store::copy_to` and `Store::rows` do
+//! the same for an open office. `Fault` is the reason why a call failed.
 //!
 //! ```text
 //! let mut store = Store::open_from(alloc, conn)?;
@@ -16,22 +17,22 @@
 //! store.commit(&change)?;
 //! ```
 //!
-//! The statements over any table stand in the crate `tables`; here stand the rows of a state.
+//! The crate `tables` has the statements on any table; this one defines the rows of a state.
 #![tactic(auto)]
 
+mod clerk_work;
 pub mod copying;
 mod entries;
-mod keepings;
 mod listing;
 pub mod migration;
 pub mod older;
 mod opening;
 pub mod overviews;
-mod standings;
+mod repeats;
+mod status;
 pub mod storage;
 mod views;
 pub mod whole;
-mod working;
 mod writing;
 
 pub use copying::{CopyFault, Holdings, copy};

@@ -1,10 +1,10 @@
-//! All entries of the tables, as an opening reads them.
+//! All entries of the tables, as read when an office is opened.
 
 ghost use Rattle.std.specs.Prelude.{◌≡◌, false, [], IfOk};
-ghost use Rattle.register.specs.Offices.{MapsRise};
+ghost use Rattle.register.specs.Offices.{MapsAreSorted};
 ghost use Rattle.rowcheck.specs.States.{state_of, tabulated};
 ghost use Rattle.tables.specs.Schema.{IsOfficeSchema};
-ghost use Rattle.store.specs.Offices.{no_tabulation};
+ghost use Rattle.store.specs.StateTables.{no_tabulation};
 ghost use Rattle.store.specs.Openings.{TellsNoState, ListsMaps};
 ghost use Rattle.store.specs.Listings.{Lists, BeginsFirst, TellsStrange, ListsFirst, ListsPapers, PapersRise};
 
@@ -33,7 +33,7 @@ struct Papers {
     verdicts: Vec<JudgedPaper>,
 }
 
-/// The batches of a database, and their papers. `Damaged` where the rows are those of no state.
+/// Returns the batches of a database, and their papers. `Damaged` if the rows are not those of any state.
 fn all_papers<S: Alter>(alloc: Global, conn: &mut Connection<S>) -> Result<Papers, Fault>
     requires { conn.old.in_transaction ≡ false }
     ensures lists { Lists S.Store conn.old conn.new result (λ db. BeginsFirst 8 db.schema) ListsPapers (TellsStrange 8) }
@@ -49,12 +49,12 @@ fn all_papers<S: Alter>(alloc: Global, conn: &mut Connection<S>) -> Result<Paper
     })
 }
 
-/// The entries of the first eight tables of a database, each table's in the order of its key. `Damaged` where
-/// the rows are those of no state.
+/// Returns the entries of the first eight tables of a database, those of each table in key order. `Damaged` if the rows
+/// are not those of any state.
 pub(crate) fn first_rows<S: Alter>(alloc: Global, conn: &mut Connection<S>) -> Result<Rows, Fault>
     requires { conn.old.in_transaction ≡ false }
     ensures lists { Lists S.Store conn.old conn.new result (λ db. BeginsFirst 8 db.schema) (λ db rows. ListsFirst 8 db (state_of rows) (tabulated rows)) (TellsStrange 8) }
-    ensures rise { IfOk result (λ rows. MapsRise (state_of rows)) }
+    ensures rise { IfOk result (λ rows. MapsAreSorted (state_of rows)) }
     ensures no_thirds { IfOk result (λ rows. (state_of rows).thirds ≡ []) }
     ensures no_counts { IfOk result (λ rows. tabulated rows ≡ no_tabulation) }
 {
@@ -81,11 +81,11 @@ pub(crate) fn first_rows<S: Alter>(alloc: Global, conn: &mut Connection<S>) -> R
     })
 }
 
-/// The same of the first ten tables, with what is tabulated of the counts.
+/// Returns the entries of the first ten tables in the same way, including the tabulation of the counts.
 pub(crate) fn counted_rows<S: Alter>(alloc: Global, conn: &mut Connection<S>) -> Result<Rows, Fault>
     requires { conn.old.in_transaction ≡ false }
     ensures lists { Lists S.Store conn.old conn.new result (λ db. BeginsFirst 10 db.schema) (λ db rows. ListsFirst 10 db (state_of rows) (tabulated rows)) (TellsStrange 10) }
-    ensures rise { IfOk result (λ rows. MapsRise (state_of rows)) }
+    ensures rise { IfOk result (λ rows. MapsAreSorted (state_of rows)) }
     ensures no_thirds { IfOk result (λ rows. (state_of rows).thirds ≡ []) }
 {
     let mut rows = first_rows(alloc, conn)?;
@@ -96,12 +96,12 @@ pub(crate) fn counted_rows<S: Alter>(alloc: Global, conn: &mut Connection<S>) ->
     Ok(rows)
 }
 
-/// The entries of all tables of a database, each table's in the order of its key. `Damaged` where the rows
-/// are those of no state.
+/// Returns the entries of all tables of a database, those of each table in key order. `Damaged` if the rows are not
+/// those of any state.
 pub(crate) fn all_rows<S: Alter>(alloc: Global, conn: &mut Connection<S>) -> Result<Rows, Fault>
     requires { conn.old.in_transaction ≡ false }
     ensures lists { Lists S.Store conn.old conn.new result (λ db. IsOfficeSchema db.schema) (λ db rows. ListsMaps db (state_of rows) (tabulated rows)) TellsNoState }
-    ensures rise { IfOk result (λ rows. MapsRise (state_of rows)) }
+    ensures rise { IfOk result (λ rows. MapsAreSorted (state_of rows)) }
 {
     let mut rows = counted_rows(alloc, conn)?;
     let thirds = all_entries::<ThirdClerks, S>(alloc, conn)?;

@@ -1,4 +1,4 @@
-//! The migration of an office that a program before this one made.
+//! The migration of an office that an earlier program made.
 
 ghost use Rattle.std.specs.Prelude.{◌≡◌, ◌⊎◌, false, Err, IfOk, IfErr};
 ghost use Rattle.sqlite.specs.Effect.{Database, IsDatabase};
@@ -10,7 +10,7 @@ ghost use Rattle.tables.specs.Contents.{RestsAt, SameContents};
 ghost use Rattle.tables.specs.Presence.{IsOurs, IsOlderSchema};
 ghost use Rattle.tables.specs.Reading.{OnlyReads};
 ghost use Rattle.store.specs.declared.older.OlderForm.{OlderForm};
-ghost use Rattle.store.specs.Offices.{tables_of, HoldsState, IsAt, Commits, Wears};
+ghost use Rattle.store.specs.StateTables.{tables_of, HoldsState, IsAt, Commits, KeepsConnection};
 ghost use Rattle.store.specs.Openings.{HasVersion};
 ghost use Rattle.store.specs.Migrations.{older_tables, IsOlderState, HoldsOlder, RestsOlder, StoresOlder, WasAt, IsToldInMigration, FailsToMigrate, Lacks, TellsOlder, LeavesOlderOr, Migrates};
 
@@ -21,12 +21,12 @@ use sqlite::{Alter, Connection};
 use std::alloc::Global;
 use tables::Fault;
 
-/// What a migration came to.
+/// The outcome of a migration.
 #[derive(Clone, Copy, PartialEq, Eq)]
 pub enum Migrated {
-    /// The office is at this program's version now.
+    /// The office now has this program's version.
     Done,
-    /// It was already.
+    /// It already had this program's version.
     Already,
 }
 
@@ -46,7 +46,7 @@ fn commit_migration<S: Alter>(
     Ok(())
 }
 
-/// Makes of an office of the first version one of this program's.
+/// Migrates an office of the first version to this program's.
 fn migrate_older<S: Alter>(alloc: Global, conn: &mut Connection<S>) -> Result<Migrated, Fault>
     requires { conn.old.in_transaction ≡ false }
     ensures opened { HasCleanDisk (state S.Store conn.new) → (db : Database) → IsOlderSchema db.schema → HasVersion 1 db → RestsAt db (state S.Store conn.old)
@@ -58,7 +58,7 @@ fn migrate_older<S: Alter>(alloc: Global, conn: &mut Connection<S>) -> Result<Mi
     ensures fails { HasCleanDisk (state S.Store conn.new) → (db : Database) → IsOlderSchema db.schema → HasVersion 1 db → RestsAt db (state S.Store conn.old)
         → IfErr result (FailsToMigrate db (state S.Store conn.old) (state S.Store conn.new)) }
     ensures unchanged { IfErr result (λ f. (f ≡ Fault.Memory) ⊎ ((f ≡ Fault.Store) ⊎ OnlyReads (state S.Store conn.old) (state S.Store conn.new))) }
-    ensures wears { Wears (state S.Store conn.old) (state S.Store conn.new) }
+    ensures keeps_connection { KeepsConnection (state S.Store conn.old) (state S.Store conn.new) }
     ensures clean { HasCleanDisk (state S.Store conn.new) → HasCleanDisk (state S.Store conn.old) }
     ensures outside { conn.new.in_transaction ≡ false }
 {
@@ -67,7 +67,7 @@ fn migrate_older<S: Alter>(alloc: Global, conn: &mut Connection<S>) -> Result<Mi
     Ok(Migrated::Done)
 }
 
-/// Opens an office as `open_from` does, and migrates it where `open_from` finds that an earlier program made it.
+/// Opens an office as `open_from` does, and migrates it if `open_from` finds that an earlier program made it.
 fn open_or_migrate<S: Alter>(alloc: Global, conn: &mut Connection<S>) -> Result<Migrated, Fault>
     requires { conn.old.in_transaction ≡ false }
     ensures opened { HasCleanDisk (state S.Store conn.new) → (db : Database) → IsOurs db.schema → IsOlderSchema db.schema → RestsAt db (state S.Store conn.old)
@@ -81,7 +81,7 @@ fn open_or_migrate<S: Alter>(alloc: Global, conn: &mut Connection<S>) -> Result<
     ensures reads { HasCleanDisk (state S.Store conn.new) → (db : Database) → RestsAt db (state S.Store conn.old) → (s : OfficeState) → HoldsState db s
         → OnlyReads (state S.Store conn.old) (state S.Store conn.new) }
     ensures unchanged { IfErr result (λ f. (f ≡ Fault.Memory) ⊎ ((f ≡ Fault.Store) ⊎ OnlyReads (state S.Store conn.old) (state S.Store conn.new))) }
-    ensures wears { Wears (state S.Store conn.old) (state S.Store conn.new) }
+    ensures keeps_connection { KeepsConnection (state S.Store conn.old) (state S.Store conn.new) }
     ensures clean { HasCleanDisk (state S.Store conn.new) → HasCleanDisk (state S.Store conn.old) }
     ensures outside { conn.new.in_transaction ≡ false }
 {
@@ -94,22 +94,24 @@ fn open_or_migrate<S: Alter>(alloc: Global, conn: &mut Connection<S>) -> Result<
     }
 }
 
-/// Older rows determine their state: equal older tables of one form are those of equal states, so a database stands for one of
-/// them. What a stop left of an older office is found again.
+/// Older rows determine their state: states with equal older tables of the same form are equal, so a database
+/// represents one of them. What a stop left of an older office is found again.
 fn older_tables_tell_states()
     ensures equal { (form : OlderForm) (s t : OfficeState) → IsOlderState s → IsOlderState t → SameContents (older_tables form s) (older_tables form t) → s ≡ t }
     ensures alone { (db : Database) (form other : OlderForm) (s t : OfficeState) → HoldsOlder form db s → HoldsOlder other db t → (form ≡ other) × (s ≡ t) }
     ensures again { (form : OlderForm) (s : OfficeState) (db : Database) → IsDatabase db → StoresOlder form s db.trees → HoldsOlder form db s }
 {}
 
-/// Makes of an office that a program before this one made one of this program's. In one transaction it makes the tables that the office lacks, the
-/// rows of what is tabulated of its counts, and the version. What was accepted stays, under the receipts that it has. No office is open afterwards.
+/// Migrates an office that an earlier program made to this program's version. One transaction creates the tables that
+/// the office lacks, inserts the rows of the tabulation of its counts, and sets the version. Whatever was accepted
+/// stays, with its receipts. No office is open afterwards.
 ///
-/// The rows are judged first, as `Store::open_from` does, those of an older office by what held of it. At this program's version
-/// that is all, and nothing is changed. `WrongDatabase` and `NewerSchema` are those of `open_from`. `Damaged` where the rows are
-/// the tables of no state, where a table is missing that should be there, or where one is there that should not. Nothing is changed
-/// then. After `Memory` and `Store` the older office is found as it was, or the whole of the new one; where none was there nothing
-/// is changed. `Store` where the store failed, where rowids aren't the rows' own, or where the connection is inside a transaction.
+/// The rows are checked first, as by `Store::open_from`; those of an older office by the conditions that held for it.
+/// If the office already has this program's version, nothing else is done and nothing is changed. `WrongDatabase` and
+/// `NewerSchema` are those of `open_from`. `Damaged` if the rows are not the tables of any state, or if a table is
+/// missing or there is one too many; then nothing is changed. After `Memory` and `Store` either the older office is
+/// unchanged, or it is the whole new one; if there was no older office, nothing is changed. `Store` if the store
+/// failed, if rowids aren't distinct integers, or if the connection is inside a transaction.
 pub fn migrate<S: Alter>(alloc: Global, conn: &mut Connection<S>) -> Result<Migrated, Fault>
     ensures { Migrates S.Store conn.old conn.new result }
 {

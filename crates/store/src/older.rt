@@ -1,16 +1,16 @@
-//! An office that a program before this one made: which tables it has, and the state that they stand for.
+//! An office that an earlier program made: which tables it has, and the state that they represent.
 
 ghost use Rattle.std.specs.Prelude.{◌≡◌, ◌≢◌, false, [], IfOk, IfErr, IfSome, IfNone, OnOk, IsTrue};
 ghost use Rattle.std.specs.List.{list_any};
 ghost use Rattle.sqlite.specs.Effect.{Database, IsDatabase};
 ghost use Rattle.sqlite.specs.State.{HasCleanDisk, IsLive};
 ghost use Rattle.sqlite.specs.Held.{state};
-ghost use Rattle.register.specs.Offices.{MapsRise, receipt_entry};
+ghost use Rattle.register.specs.Offices.{MapsAreSorted, receipt_entry};
 ghost use Rattle.register.specs.Tabulated.{addition_entries, tabulation_entries};
 ghost use Rattle.rowcheck.specs.States.{state_of, tabulated};
 ghost use Rattle.tables.specs.Schema.{schema_from};
 ghost use Rattle.tables.specs.Contents.{RestsAt};
-ghost use Rattle.tables.specs.Presence.{form_of, IsOlderSchema};
+ghost use Rattle.tables.specs.Presence.{tables_present, IsOlderSchema};
 ghost use Rattle.tables.specs.Reading.{OnlyReads, FailsToList};
 ghost use Rattle.register.specs.declared.receipt.Receipt.{Receipt as ReceiptValue};
 ghost use Rattle.store.specs.declared.older.OlderForm.{OlderForm};
@@ -19,46 +19,46 @@ ghost use Rattle.store.specs.Listings.{Lists, BeginsFirst, TellsStrange, ListsFi
 ghost use Rattle.store.specs.Migrations.{tables_in, name_of, tabulation_in, is_about_third, IsBare, IsOlderOf, Lacks, FoundOlder, TellsOlder};
 
 use crate::listing::{counted_rows, first_rows};
-use crate::opening::counted_state;
+use crate::opening::tabulation_of_state;
 use register::{Addition, Receipt, Tabulation};
 use rowcheck::{Rows, is_tabulated};
 use sqlite::{Alter, Connection};
 use std::alloc::Global;
 use tables::Fault;
-use tables::presence::{Form, form_of};
+use tables::presence::{TablesPresent, tables_present};
 
 /// Which tables an older office has.
 #[derive(Clone, Copy, PartialEq, Eq)]
 pub enum OlderForm {
-    /// All but that of the third clerks.
+    /// All but the table of third clerks.
     WithCounts,
-    /// As `WithCounts`, and neither of those of what is tabulated of the counts.
+    /// As in `WithCounts`, but also without the two tables of the tabulation of the counts.
     WithoutCounts,
 }
 
-/// An older office, and what it lacks of what is tabulated of the counts.
+/// An older office, and the part of the tabulation of its counts that it lacks.
 #[derive(Drop)]
 pub(crate) struct Older {
     pub(crate) form: OlderForm,
     pub(crate) missing: Addition,
 }
 
-/// Which tables the database of an older office has, if it has those of one.
+/// Returns which tables the database of an older office has, if it has those of one.
 fn older_form<S: Alter>(conn: &Connection<S>) -> Option<OlderForm>
-    ensures some { IfSome result (λ form. form_of (state S.Store conn.now).now.schema ≡ name_of form) }
-    ensures none { IfNone result ((form : OlderForm) → form_of (state S.Store conn.now).now.schema ≢ name_of form) }
+    ensures some { IfSome result (λ form. tables_present (state S.Store conn.now).now.schema ≡ name_of form) }
+    ensures none { IfNone result ((form : OlderForm) → tables_present (state S.Store conn.now).now.schema ≢ name_of form) }
     ensures live { IsLive (state S.Store conn.now) }
 {
-    match form_of(conn) {
-        Form::WithoutThird => Some(OlderForm::WithCounts),
-        Form::WithoutCounts => Some(OlderForm::WithoutCounts),
-        Form::Whole => None,
-        Form::Other => None,
+    match tables_present(conn) {
+        TablesPresent::WithoutThird => Some(OlderForm::WithCounts),
+        TablesPresent::WithoutCounts => Some(OlderForm::WithoutCounts),
+        TablesPresent::Whole => None,
+        TablesPresent::Other => None,
     }
 }
 
-/// The entries of the tables of an older office, each table's in the order of its key. `Damaged` where the
-/// rows are those of no state.
+/// Returns the entries of the tables of an older office, those of each table in key order. `Damaged` if the rows are
+/// not those of any state.
 fn older_rows<S: Alter>(
     alloc: Global,
     conn: &mut Connection<S>,
@@ -67,7 +67,7 @@ fn older_rows<S: Alter>(
     requires { conn.old.in_transaction ≡ false }
     ensures lists { Lists S.Store conn.old conn.new result (λ db. BeginsFirst (tables_in form) db.schema)
         (λ db rows. ListsFirst (tables_in form) db (state_of rows) (tabulated rows)) (TellsStrange (tables_in form)) }
-    ensures rise { IfOk result (λ rows. MapsRise (state_of rows)) }
+    ensures rise { IfOk result (λ rows. MapsAreSorted (state_of rows)) }
     ensures bare { IfOk result (λ rows. IsBare form (state_of rows) (tabulated rows)) }
 {
     match form {
@@ -76,14 +76,14 @@ fn older_rows<S: Alter>(
     }
 }
 
-/// Whether a receipt is about a third clerk, whom no program had before this one.
+/// Returns whether a receipt is about a third clerk, a subject that no program before this one had.
 fn is_about_third(subject: &str) -> bool
     ensures { result ≡ is_about_third subject.now }
 {
     subject.as_bytes().starts_with(b"third ")
 }
 
-/// Whether some receipt is about a third clerk.
+/// Returns whether some receipt is about a third clerk.
 fn are_about_thirds(receipts: &[Receipt]) -> bool
     ensures { result ≡ list_any (λ (r : ReceiptValue). is_about_third (receipt_entry r).subject) receipts.now }
 {
@@ -92,7 +92,7 @@ fn are_about_thirds(receipts: &[Receipt]) -> bool
         .any(|receipt| is_about_third(&receipt.subject))
 }
 
-/// What an office of this form lacks of what was counted, if what it has is right.
+/// Returns the part of the tabulation that an office of this form lacks, if the part that it has is right.
 fn lacking(alloc: Global, form: OlderForm, rows: &Rows, counted: Tabulation) -> Option<Addition>
     requires { IsBare form (state_of rows.now) (tabulated rows.now) }
     ensures some { IfSome result (λ a. IsTabulatedAs (state_of rows.now) (tabulation_entries counted)
@@ -115,10 +115,10 @@ fn lacking(alloc: Global, form: OlderForm, rows: &Rows, counted: Tabulation) -> 
     }
 }
 
-/// What an older office lacks, if its rows, in the order of their keys, are those of a state: they meet each
-/// condition, and no receipt is about a third clerk. An error is `Memory`.
+/// Returns what an older office lacks, if its rows, in key order, are those of a state: they meet every condition, and
+/// no receipt is about a third clerk. An error is `Memory`.
 fn missing_of(alloc: Global, form: OlderForm, rows: &Rows) -> Result<Option<Addition>, Fault>
-    requires rise { MapsRise (state_of rows.now) }
+    requires rise { MapsAreSorted (state_of rows.now) }
     requires bare { IsBare form (state_of rows.now) (tabulated rows.now) }
     ensures some { IfOk result (λ found. IfSome found (λ a. IsOlderOf form (state_of rows.now) (tabulated rows.now) × Lacks form (state_of rows.now) (addition_entries a))) }
     ensures none { IfOk result (λ found. IfNone found (¬ IsOlderOf form (state_of rows.now) (tabulated rows.now))) }
@@ -127,14 +127,14 @@ fn missing_of(alloc: Global, form: OlderForm, rows: &Rows) -> Result<Option<Addi
     if are_about_thirds(&rows.receipts) {
         return Ok(None);
     }
-    match counted_state(alloc, rows) {
+    match tabulation_of_state(alloc, rows) {
         Ok(Some(counted)) => Ok(lacking(alloc, form, rows, counted)),
         Ok(None) => Ok(None),
         Err(fault) => Err(fault),
     }
 }
 
-/// Reads an older office of this form, and judges its rows.
+/// Reads an older office of this form, and checks its rows.
 fn read_form<S: Alter>(
     alloc: Global,
     conn: &mut Connection<S>,
@@ -159,8 +159,8 @@ fn read_form<S: Alter>(
     }
 }
 
-/// Reads an older office, and changes nothing. `Damaged` where the database lacks other tables than one
-/// does, or where the rows are those of no state.
+/// Reads an older office, and changes nothing. `Damaged` if the tables that the database has are not those of an older
+/// office, or if the rows are not those of any state.
 pub(crate) fn read_older<S: Alter>(alloc: Global, conn: &mut Connection<S>) -> Result<Older, Fault>
     requires { conn.old.in_transaction ≡ false }
     ensures found { HasCleanDisk (state S.Store conn.new) → (db : Database) → IsOlderSchema db.schema → HasVersion 1 db → RestsAt db (state S.Store conn.old)

@@ -1,11 +1,11 @@
-//! Whether a database is the office of a state.
+//! Checks whether a database is the office of a state.
 
 ghost use Rattle.std.specs.Prelude.{◌≡◌, [], ◌∷◌, true, false, IfOk, IfErr, IfSome, IfNone, OnOk, IsTrue};
 ghost use Rattle.sqlite.specs.Effect.{Database, IsDatabase};
 ghost use Rattle.sqlite.specs.State.{HasCleanDisk};
 ghost use Rattle.sqlite.specs.Held.{state};
-ghost use Rattle.register.specs.Offices.{OfficeState, MapsRise};
-ghost use Rattle.register.specs.Items.{IsState};
+ghost use Rattle.register.specs.Offices.{OfficeState, MapsAreSorted};
+ghost use Rattle.register.specs.StateConditions.{IsState};
 ghost use Rattle.register.specs.Tabulated.{tabulation_entries, IsTabulationOf};
 ghost use Rattle.rowcheck.specs.States.{state_of, tabulated};
 ghost use Rattle.tables.specs.Schema.{BeginsTo, IsOfficeSchema};
@@ -13,7 +13,7 @@ ghost use Rattle.tables.specs.Contents.{RestsAt};
 ghost use Rattle.tables.specs.Presence.{IsOurs};
 ghost use Rattle.tables.specs.Reading.{OnlyReads, FailsToList};
 ghost use Rattle.store.specs.EntryRows.{this_version};
-ghost use Rattle.store.specs.Offices.{HoldsState};
+ghost use Rattle.store.specs.StateTables.{HoldsState};
 ghost use Rattle.store.specs.Openings.{IsToldBy, TellsNoState, IsVersion, TellsRow, TellsRows, HasVersion, TellsOffice, IsTabulatedAs, HoldsEntries};
 
 use crate::listing::all_rows;
@@ -25,12 +25,12 @@ use rowcheck::{
 };
 use sqlite::{Alter, Connection, Row};
 use std::alloc::Global;
-use tables::cells::integer_at;
 use tables::listing::keyed_rows;
 use tables::presence::{has_every_table, has_table};
+use tables::value_conversion::integer_at;
 use tables::{Fault, Table};
 
-/// Sees that the row is that of an office of this program's version.
+/// Checks that the row is that of an office of this program's version.
 fn check_row(row: &Row) -> Result<(), Fault>
     ensures version { OnOk result (IsVersion this_version row.now) }
     ensures told { IfErr result (TellsRow row.now) }
@@ -52,7 +52,7 @@ fn check_row(row: &Row) -> Result<(), Fault>
     Ok(())
 }
 
-/// Sees that the rows are the one of an office of this program's version.
+/// Checks that there is one row, that of an office of this program's version.
 fn check_rows(rows: &[Row]) -> Result<(), Fault>
     ensures version { OnOk result ((row : _) × (rows.now ≡ row ∷ []) × IsVersion this_version row) }
     ensures told { IfErr result (TellsRows rows.now) }
@@ -67,7 +67,8 @@ fn check_rows(rows: &[Row]) -> Result<(), Fault>
     Ok(())
 }
 
-/// Sees that the office table has the row of this version; its faults come in the order in which an opening reports them.
+/// Checks that the office table has the row of this version; faults are returned in the order in which opening an
+/// office reports them.
 fn check_office<S: Alter>(conn: &mut Connection<S>) -> Result<(), Fault>
     requires { conn.old.in_transaction ≡ false }
     ensures holds { HasCleanDisk (state S.Store conn.new) → (db : Database) → BeginsTo Table.Office db.schema → IsDatabase db → RestsAt db (state S.Store conn.old)
@@ -87,10 +88,9 @@ fn check_office<S: Alter>(conn: &mut Connection<S>) -> Result<(), Fault>
     Ok(())
 }
 
-/// What is tabulated of the counts of maps in the order of their keys, if they are a state. An error is
-/// `Memory`.
-pub(crate) fn counted_state(alloc: Global, rows: &Rows) -> Result<Option<Tabulation>, Fault>
-    requires { MapsRise (state_of rows.now) }
+/// Returns the tabulation of the counts of maps in key order, if they are a state. An error is `Memory`.
+pub(crate) fn tabulation_of_state(alloc: Global, rows: &Rows) -> Result<Option<Tabulation>, Fault>
+    requires { MapsAreSorted (state_of rows.now) }
     ensures some { IfOk result (λ found. IfSome found (λ t. IsTabulatedAs (state_of rows.now) (tabulation_entries t))) }
     ensures none { IfOk result (λ found. IfNone found (¬ IsState (state_of rows.now))) }
     ensures cause { IfErr result (λ f. f ≡ Fault.Memory) }
@@ -120,22 +120,21 @@ pub(crate) fn counted_state(alloc: Global, rows: &Rows) -> Result<Option<Tabulat
     }
 }
 
-/// Whether maps in the order of their keys are a state, beside what is tabulated of its counts. An error is
-/// `Memory`.
+/// Returns whether maps in key order are a state with this tabulation of its counts. An error is `Memory`.
 fn are_of_state(alloc: Global, rows: &Rows) -> Result<bool, Fault>
-    requires { MapsRise (state_of rows.now) }
+    requires { MapsAreSorted (state_of rows.now) }
     ensures some { IfOk result (λ yes. yes ≡ true → IsTabulatedAs (state_of rows.now) (tabulated rows.now)) }
     ensures none { IfOk result (λ yes. yes ≡ false → ¬ IsTabulatedAs (state_of rows.now) (tabulated rows.now)) }
     ensures cause { IfErr result (λ f. f ≡ Fault.Memory) }
 {
-    match counted_state(alloc, rows) {
+    match tabulation_of_state(alloc, rows) {
         Ok(Some(counted)) => Ok(is_tabulated(rows, &counted)),
         Ok(None) => Ok(false),
         Err(fault) => Err(fault),
     }
 }
 
-/// The rows of the tables beside that of the office, which are those of a state.
+/// Returns the rows of all tables but the office table, once they are checked to be those of a state.
 fn checked_tables<S: Alter>(alloc: Global, conn: &mut Connection<S>) -> Result<Rows, Fault>
     requires { conn.old.in_transaction ≡ false }
     ensures holds { HasCleanDisk (state S.Store conn.new) → (db : Database) → IsOfficeSchema db.schema → IsDatabase db → RestsAt db (state S.Store conn.old)
@@ -158,7 +157,7 @@ fn checked_tables<S: Alter>(alloc: Global, conn: &mut Connection<S>) -> Result<R
     }
 }
 
-/// The rows of the office that the database is, as `check` judges it.
+/// Returns the rows of the office in the database, checked as by `check`.
 pub(crate) fn checked_rows<S: Alter>(alloc: Global, conn: &mut Connection<S>) -> Result<Rows, Fault>
     requires { conn.old.in_transaction ≡ false }
     ensures holds { HasCleanDisk (state S.Store conn.new) → (db : Database) → IsOurs db.schema → RestsAt db (state S.Store conn.old)
@@ -185,10 +184,11 @@ pub(crate) fn checked_rows<S: Alter>(alloc: Global, conn: &mut Connection<S>) ->
     Ok(rows)
 }
 
-/// Sees that the database is the office of a state, by its rows alone, and changes nothing. Its faults come in this order.
-/// `WrongDatabase` where there is no office table or no row in it. `Damaged` where that table is no office's. `OlderSchema` where its
-/// version is 1, and `NewerSchema` where it is above 2, before another table is looked at. Then `Damaged` where a table is missing or
-/// the rows are those of no state. `Memory` may come at any point, and `Store` where the store failed or rowids aren't the rows' own.
+/// Checks that the database is the office of a state, by its rows alone, and changes nothing. Faults are returned in
+/// this order. `WrongDatabase` if there is no office table or no row in it. `Damaged` if that table is not an office's.
+/// `OlderSchema` if its version is 1, and `NewerSchema` if it is above 2, before any other table is read. Then
+/// `Damaged` if a table is missing or the rows are not those of any state. `Memory` may be returned at any point, and
+/// so may `Store`, if the store failed or rowids aren't distinct integers.
 pub fn check<S: Alter>(alloc: Global, conn: &mut Connection<S>) -> Result<(), Fault>
     requires { conn.old.in_transaction ≡ false }
     ensures holds { HasCleanDisk (state S.Store conn.new) → (db : Database) → IsOurs db.schema → RestsAt db (state S.Store conn.old)

@@ -1,5 +1,5 @@
-//! How all stands, for the office alone, read from the tables: its wards, the batches of a ward, their papers as they count, the
-//! doubtful ones, where a batch differs, and what was kept.
+//! Overviews for the office alone, read from the tables: its wards, the batches of a ward, their papers as they count,
+//! the doubtful ones, where the keyings of a batch differ, and the receipts.
 
 pub mod batches;
 pub mod clerks;

@@ -5,7 +5,7 @@ ghost use Rattle.sqlite.specs.Tree.{Trees};
 ghost use Rattle.sqlite.specs.State.{HasCleanDisk, Survives};
 ghost use Rattle.sqlite.specs.Held.{state};
 ghost use Rattle.register.specs.Offices.{OfficeState, empty_office};
-ghost use Rattle.register.specs.Items.{IsState};
+ghost use Rattle.register.specs.StateConditions.{IsState};
 ghost use Rattle.register.specs.Effects.{change_entry, with_change};
 ghost use Rattle.register.specs.Tabulated.{addition_entries, IsTabulated};
 ghost use Rattle.sqlite.specs.Effect.{Database};
@@ -13,7 +13,7 @@ ghost use Rattle.tables.specs.Contents.{Contents, SameContents, Rests, RestsAt, 
 ghost use Rattle.tables.specs.Presence.{has_some_table, has_every_table, IsOurs};
 ghost use Rattle.tables.specs.Reading.{OnlyReads, FailsToList, FailsBy};
 ghost use Rattle.store.specs.Copies.{CopiesTo};
-ghost use Rattle.store.specs.Offices.{tables_of, ChangesTo, HoldsState, IsAt, LeavesState, Wears};
+ghost use Rattle.store.specs.StateTables.{tables_of, ChangesTo, HoldsState, IsAt, LeavesState, KeepsConnection};
 ghost use Rattle.store.specs.Openings.{IsBlank, IsToldBy, IsLeftAt};
 ghost use Rattle.store.specs.Whole.{ReadsOffice};
 
@@ -29,8 +29,7 @@ use std::marker::Model;
 use tables::Fault;
 use tables::presence::{has_every_table, has_some_table};
 
-/// A connection between two transactions, at the tables of an office. Contracts see it as the
-/// connection that it holds.
+/// A connection between two transactions, to the tables of an office. Contracts see it as that connection.
 pub struct Store<S: Alter> {
     pub(crate) conn: Connection<S>,
     pub(crate) alloc: Global,
@@ -60,7 +59,7 @@ fn commit_change<S: Alter>(
         → OnOk result (Rests d (state S.Store conn.new)) }
     ensures survives { (c d : Contents) → ChangesTo (change_entry change.now) (addition_entries change.now.addition) c d → Rests c (state S.Store conn.old)
         → Survives (state S.Store conn.old) (state S.Store conn.new) (Stores d) }
-    ensures wears { Wears (state S.Store conn.old) (state S.Store conn.new) }
+    ensures keeps_connection { KeepsConnection (state S.Store conn.old) (state S.Store conn.new) }
     ensures clean { HasCleanDisk (state S.Store conn.new) → HasCleanDisk (state S.Store conn.old) }
     ensures outside { conn.new.in_transaction ≡ false }
     ensures cause { IfErr result (λ f. (f ≡ Fault.Memory) ⊎ (f ≡ Fault.Store)) }
@@ -71,13 +70,13 @@ fn commit_change<S: Alter>(
     Ok(())
 }
 
-/// Makes the tables of an empty office in one transaction. Beside other tables no clause of `sqlite` says
-/// which tables the statements made, so it is seen here that each is there.
+/// Creates the tables of an empty office in one transaction. If there are other tables, nothing in `sqlite`'s clauses
+/// guarantees which tables the statements made, so this checks that each exists.
 fn commit_new_office<S: Alter>(conn: &mut Connection<S>) -> Result<(), Fault>
     requires { conn.old.in_transaction ≡ false }
     ensures done { HasCleanDisk (state S.Store conn.new) → IsBlank (state S.Store conn.old) → OnOk result (Rests (tables_of empty_office) (state S.Store conn.new)) }
     ensures survives { IsBlank (state S.Store conn.old) → Survives (state S.Store conn.old) (state S.Store conn.new) (Stores (tables_of empty_office)) }
-    ensures wears { Wears (state S.Store conn.old) (state S.Store conn.new) }
+    ensures keeps_connection { KeepsConnection (state S.Store conn.old) (state S.Store conn.new) }
     ensures clean { HasCleanDisk (state S.Store conn.new) → HasCleanDisk (state S.Store conn.old) }
     ensures every { OnOk result (has_every_table (state S.Store conn.new).now.schema ≡ true) }
     ensures outside { conn.new.in_transaction ≡ false }
@@ -92,24 +91,23 @@ fn commit_new_office<S: Alter>(conn: &mut Connection<S>) -> Result<(), Fault>
     Ok(())
 }
 
-/// Rows determine their state: equal tables are those of equal states, so a database stands for one state.
+/// Rows determine their state: states with equal tables are equal, so a database represents one state.
 fn tables_tell_states()
     ensures equal { (s t : OfficeState) → IsState s → IsState t → SameContents (tables_of s) (tables_of t) → s ≡ t }
     ensures alone { (db : Database) → (s t : OfficeState) → HoldsState db s → HoldsState db t → s ≡ t }
 {}
 
 impl<S: Alter> Store<S> {
-    /// Makes the tables of an empty office in the connection's database.
+    /// Creates the tables of an empty office in the connection's database.
     ///
-    /// `WrongDatabase` where a table with the name of one of ours is there already; nothing is changed
-    /// then. `Store` too where the connection is inside a transaction. After another fault there are
-    /// all tables or none.
+    /// `WrongDatabase` if a table with the name of one of ours already exists; then nothing is changed. `Store` also if
+    /// the connection is inside a transaction. After any other fault there are either all tables or none.
     pub fn create(alloc: Global, mut conn: Connection<S>) -> Result<Self, (Fault, Connection<S>)>
         ensures made { IfOk result (λ store. HasCleanDisk (state S.Store store) → IsBlank (state S.Store conn) → IsAt empty_office (state S.Store store)) }
         ensures stops { IfErr result (λ e. HasCleanDisk (state S.Store e.1) → IsBlank (state S.Store conn)
             → (trees : Trees) → (state S.Store e.1).may_leave trees → (state S.Store conn).may_leave trees ⊎ Stores (tables_of empty_office) trees) }
-        ensures wears { IfOk result (λ store. Wears (state S.Store conn) (state S.Store store)) }
-        ensures wears_too { IfErr result (λ e. Wears (state S.Store conn) (state S.Store e.1)) }
+        ensures keeps_connection { IfOk result (λ store. KeepsConnection (state S.Store conn) (state S.Store store)) }
+        ensures connection_too { IfErr result (λ e. KeepsConnection (state S.Store conn) (state S.Store e.1)) }
         ensures whole { IfOk result (λ store. has_every_table (state S.Store store).now.schema ≡ true) }
         ensures taken { has_some_table (state S.Store conn).now.schema ≡ true → OnOk result ⊥ }
         ensures wrong { has_some_table (state S.Store conn).now.schema ≡ true → conn.in_transaction ≡ false → IfErr result (λ e. e.0 ≡ Fault.WrongDatabase) }
@@ -128,12 +126,12 @@ impl<S: Alter> Store<S> {
         }
     }
 
-    /// Opens the office that the connection's database holds, and changes nothing.
+    /// Opens the office in the connection's database, and changes nothing.
     ///
-    /// `WrongDatabase` where there is no office table or no row in it. `OlderSchema` where a program before this one made the
-    /// office, and `NewerSchema` where a later one did. `Damaged` where the rows are the tables of no state. `Store` where the
-    /// store failed, where rowids aren't the rows' own, or where the connection is inside a transaction. The connection is handed
-    /// back with a fault, its database as it was.
+    /// `WrongDatabase` if there is no office table or no row in it. `OlderSchema` if an earlier program made the
+    /// office, and `NewerSchema` if a later one did. `Damaged` if the rows are not the tables of any state. `Store` if
+    /// the store failed, if rowids aren't distinct integers, or if the connection is inside a transaction. With a fault
+    /// the connection is returned, its database unchanged.
     pub fn open_from(alloc: Global, mut conn: Connection<S>) -> Result<Self, (Fault, Connection<S>)>
         ensures opened { IfOk result (λ store. HasCleanDisk (state S.Store store) → (db : Database) → IsOurs db.schema → RestsAt db (state S.Store conn)
             → (s : OfficeState) × HoldsState db s × IsAt s (state S.Store store)) }
@@ -162,9 +160,8 @@ impl<S: Alter> Store<S> {
         }
     }
 
-    /// Writes a change in one transaction, whole or not at all. After a fault the old tables or the new
-    /// ones may be found. Each fault comes inside the transaction: what begins it is the first call, which
-    /// takes no memory and can't fail.
+    /// Writes a change in one transaction, entirely or not at all. After a fault either the old tables or the new ones
+    /// may be found. Every fault occurs inside the transaction: the first call begins it, allocates nothing and can't fail.
     pub fn commit(&mut self, change: &Change) -> Result<(), Fault>
         ensures done { HasCleanDisk (state S.Store self.new) → IsTrue (state S.Store self.old).is_open → (s : OfficeState) → IsAt s (state S.Store self.old)
             → IsTabulated s change.now → IsState (with_change (change_entry change.now) s) → OnOk result (IsAt (with_change (change_entry change.now) s) (state S.Store self.new)) }
@@ -172,34 +169,34 @@ impl<S: Alter> Store<S> {
             → IsTabulated s change.now → (trees : Trees) → (state S.Store self.new).may_leave trees → Stores (tables_of s) trees ⊎ Stores (tables_of (with_change (change_entry change.now) s)) trees }
         ensures leaves { HasCleanDisk (state S.Store self.new) → IsTrue (state S.Store self.old).is_open → (s : OfficeState) → IsAt s (state S.Store self.old)
             → IsTabulated s change.now → IsState (with_change (change_entry change.now) s) → LeavesState (state S.Store self.new) (λ x. (x ≡ s) ⊎ (x ≡ with_change (change_entry change.now) s)) }
-        ensures wears { Wears (state S.Store self.old) (state S.Store self.new) }
+        ensures keeps_connection { KeepsConnection (state S.Store self.old) (state S.Store self.new) }
         ensures clean { HasCleanDisk (state S.Store self.new) → HasCleanDisk (state S.Store self.old) }
         ensures cause { IfErr result (λ f. (f ≡ Fault.Memory) ⊎ (f ≡ Fault.Store)) }
     {
         commit_change(self.alloc, &mut self.conn, change)
     }
 
-    /// Copies the office into another database, which has nothing in it, in one
-    /// transaction, and gives how much the copy has. The office itself is only read.
+    /// Copies the office into another database, which must be empty, in one transaction, and returns how much the copy
+    /// contains. The office itself is only read.
     pub fn copy_to<T: Alter>(&mut self, copy: &mut Connection<T>) -> Result<Holdings, CopyFault>
         ensures { CopiesTo S.Store T.Store self.old self.new copy.old copy.new result }
     {
         copy_between(self.alloc, &mut self.conn, copy)
     }
 
-    /// All entries of the office, each table's in the order of its keys. It is only read.
+    /// Returns all entries of the office, those of each table in key order. The office is only read.
     pub fn rows(&mut self) -> Result<Rows, Fault>
         ensures { ReadsOffice (state S.Store self.old) (state S.Store self.new) result }
     {
         read_office(self.alloc, &mut self.conn)
     }
 
-    /// What allocates what is read.
+    /// Returns the allocator for what is read.
     pub(crate) fn allocator(&self) -> Global {
         self.alloc
     }
 
-    /// Gives the connection back as it is.
+    /// Returns the connection, unchanged.
     pub fn into_connection(self) -> Connection<S>
         ensures { result ≡ self }
     {

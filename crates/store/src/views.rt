@@ -4,16 +4,15 @@ ghost use Rattle.std.specs.Prelude.{◌≡◌, IfOk, IfErr, OnOk, IsTrue};
 ghost use Rattle.sqlite.specs.State.{HasCleanDisk};
 ghost use Rattle.sqlite.specs.Held.{state};
 ghost use Rattle.register.specs.Offices.{OfficeState};
-ghost use Rattle.register.specs.Parts.{part_entries};
+ghost use Rattle.register.specs.CommandInputs.{input_entries};
 ghost use Rattle.register.specs.Machine.{part_of};
 ghost use Rattle.register.specs.Tabulated.{IsCountFor};
 ghost use Rattle.register.specs.Views.{IsViewOf};
 ghost use Rattle.tables.specs.Reading.{OnlyReads, FailsBy};
-ghost use Rattle.store.specs.Offices.{IsAt};
+ghost use Rattle.store.specs.StateTables.{IsAt};
 ghost use Rattle.store.specs.Loads.{Loads};
 
 mod batches;
-mod books;
 mod candidates;
 mod counts;
 mod elections;
@@ -22,17 +21,20 @@ pub(crate) mod papers;
 mod receipts;
 mod settled;
 mod sheets;
+mod stored_counts;
 mod wards;
 
 use crate::storage::Store;
-use register::{BatchCommand, CandidateCommand, Command, CountCommand, Part, View, WardCommand};
+use register::{
+    BatchCommand, CandidateCommand, Command, CommandInput, CountCommand, View, WardCommand,
+};
 use sqlite::Alter;
 use tables::Fault;
 
 impl<S: Alter> Store<S> {
-    /// The part of the state that an actor's command needs, and the count that a stage is to be added to.
-    fn find_part(&mut self, actor: u32, command: &Command) -> Result<Part, Fault>
-        ensures { Loads S.Store self.old self.new result (λ s part. (part_entries part ≡ part_of s actor command.now) × IsCountFor s command.now part.count) }
+    /// Returns the part of the state that an actor's command needs, and the count that a stage is to be added to.
+    fn find_part(&mut self, actor: u32, command: &Command) -> Result<CommandInput, Fault>
+        ensures { Loads S.Store self.old self.new result (λ s part. (input_entries part ≡ part_of s actor command.now) × IsCountFor s command.now part.count) }
     {
         match command {
             Command::Ward(WardCommand::Add { ward, .. }) => self.ward_part(*ward),
@@ -67,7 +69,7 @@ impl<S: Alter> Store<S> {
         }
     }
 
-    /// What the machine sees of the tables for one request. Where it has a receipt, that is read and nothing else.
+    /// Returns what the machine sees of the tables for one request. If the request has a receipt, only that is read.
     fn view_of<'a>(&mut self, actor: u32, id: &'a str, command: &Command) -> Result<View<'a>, Fault>
         ensures told { Loads S.Store self.old self.new result (λ s. IsViewOf s command.now) }
         ensures asked { IfOk result (λ view. (view.actor ≡ actor) × (view.id.now ≡ id.now)) }
@@ -78,7 +80,7 @@ impl<S: Alter> Store<S> {
                 actor,
                 id,
                 receipt,
-                part: Part::empty(self.allocator()),
+                part: CommandInput::empty(self.allocator()),
             });
         }
         let part = self.find_part(actor, command)?;
@@ -90,8 +92,8 @@ impl<S: Alter> Store<S> {
         })
     }
 
-    /// What the machine sees of the state for one request. It changes nothing, and adds nothing to what
-    /// a stop may leave. `Memory` or `Store` where a row can't be read.
+    /// Returns what the machine sees of the state for one request. Changes nothing, and adds nothing to what a stop may
+    /// leave. `Memory` or `Store` if a row can't be read.
     pub fn load_view<'a>(
         &mut self,
         actor: u32,

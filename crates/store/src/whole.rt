@@ -1,4 +1,4 @@
-//! An office, read whole.
+//! Reads a whole office.
 
 ghost use Rattle.sqlite.specs.Held.{state};
 ghost use Rattle.store.specs.Whole.{ReadsOffice};
@@ -9,12 +9,13 @@ use sqlite::{Alter, Connection};
 use std::alloc::Global;
 use tables::Fault;
 
-/// All entries of the office that a connection's database holds, each table's in the order of its keys. No office is open
-/// afterwards, and nothing is changed, whatever comes of it.
+/// Returns all entries of the office in a connection's database, those of each table in key order. No office is open
+/// afterwards, and nothing is changed, whatever the outcome.
 ///
-/// The rows are judged first, as `Store::open_from` does, and its fault is reported. `WrongDatabase`, `Damaged`, `OlderSchema` or
-/// `NewerSchema` come by what is in the database, `Memory` at any point, and `Store` where the store failed or rowids aren't the
-/// rows' own. Within a transaction the fault is `Store`, and nothing is read.
+/// The rows are checked first, as by `Store::open_from`, whose fault is returned. `WrongDatabase`, `Damaged`,
+/// `OlderSchema` or `NewerSchema` depend on what is in the database. `Memory` may be returned at any point, and so may
+/// `Store`, if the store failed or rowids aren't distinct integers. Within a transaction the fault is `Store`, and
+/// nothing is read.
 pub fn read_office<S: Alter>(alloc: Global, conn: &mut Connection<S>) -> Result<Rows, Fault>
     ensures { ReadsOffice (state S.Store conn.old) (state S.Store conn.new) result }
 {

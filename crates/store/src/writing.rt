@@ -7,7 +7,7 @@ ghost use Rattle.register.specs.Tabulated.{addition_entries};
 ghost use Rattle.tables.specs.Contents.{Contents, Sees};
 ghost use Rattle.tables.specs.Making.{SeesNothing};
 ghost use Rattle.tables.specs.Writing.{Alters};
-ghost use Rattle.store.specs.Offices.{tables_of, SeesState, ChangesTo};
+ghost use Rattle.store.specs.StateTables.{tables_of, SeesState, ChangesTo};
 
 pub(crate) mod copies;
 mod counts;
@@ -25,19 +25,19 @@ use crate::writing::counts::write_addition;
 use register::{Change, Effect};
 use sqlite::{Alter, Transaction};
 use std::alloc::Global;
-use tables::cells::number;
 use tables::insertion::insert;
 use tables::making::create_tables;
 use tables::removal::remove;
 use tables::replacement::set_value;
+use tables::value_conversion::number;
 use tables::writing::{add_entries, add_entry};
-use tables::{Fault, Setting, Table};
+use tables::{Fault, SettableColumn, Table};
 
 /// The schema version of this program's offices.
 pub(crate) const VERSION: u32 = 2;
 
-/// Writes what a command does to the state: adds the row of what is new, sets what is otherwise in a row that is
-/// there, or removes the row of a candidate.
+/// Writes the effect of a command on the state: inserts the row of a new entry, sets the columns that change in an
+/// existing row, or deletes the row of a candidate.
 fn write_effect<S: Alter>(
     alloc: Global,
     tx: &mut Transaction<'_, S>,
@@ -49,7 +49,7 @@ fn write_effect<S: Alter>(
         Effect::WardAdded(ward) => add_entry::<Wards, S>(alloc, tx, ward),
         Effect::WardMoved { ward, phase } => {
             let values = [number(*ward), number(phase.number())];
-            set_value(tx, Setting::PhaseOfWard, &values)
+            set_value(tx, SettableColumn::PhaseOfWard, &values)
         }
         Effect::CandidateAdded(candidate) => add_entry::<Candidates, S>(alloc, tx, candidate),
         Effect::CandidateWithdrawn { ward, candidate } => {
@@ -57,19 +57,27 @@ fn write_effect<S: Alter>(
         }
         Effect::BatchAdded(batch) => add_entry::<Batches, S>(alloc, tx, batch),
         Effect::BatchReopened { batch, round } => {
-            set_value(tx, Setting::RoundOfBatch, &[number(*batch), number(*round)])
+            set_value(
+                tx,
+                SettableColumn::RoundOfBatch,
+                &[number(*batch), number(*round)],
+            )
         }
         Effect::ThirdSet(third) => add_entry::<ThirdClerks, S>(alloc, tx, third),
         Effect::PapersKeyed(papers) => add_entries::<KeyedPapers, S>(alloc, tx, papers),
         Effect::PaperJudged(judged) => add_entry::<JudgedPapers, S>(alloc, tx, judged),
         Effect::StageCounted { ward, done } => {
-            set_value(tx, Setting::DoneOfWard, &[number(*ward), number(*done)])
+            set_value(
+                tx,
+                SettableColumn::DoneOfWard,
+                &[number(*ward), number(*done)],
+            )
         }
         Effect::LotDrawn(lot) => add_entry::<Lots, S>(alloc, tx, lot),
     }
 }
 
-/// Writes a change: its effect, what it adds to the tabulation, and the receipt beside them.
+/// Writes a change: its effect, what it adds to the tabulation, and the receipt.
 pub(crate) fn write_change<S: Alter>(
     alloc: Global,
     tx: &mut Transaction<'_, S>,
@@ -83,7 +91,7 @@ pub(crate) fn write_change<S: Alter>(
     add_entry::<Receipts, S>(alloc, tx, &change.receipt)
 }
 
-/// Makes all tables of an empty office, and adds the office row, of this program's version.
+/// Creates all tables of an empty office, and inserts the office row with this program's version.
 pub(crate) fn write_new_office<S: Alter>(tx: &mut Transaction<'_, S>) -> Result<(), Fault>
     ensures { Alters S.Store tx.old.conn tx.new.conn result (λ (x : ⊤). SeesNothing) (λ x. Sees (tables_of empty_office)) }
 {

@@ -1,6 +1,6 @@
-//! How far offices have come that tests go on with, and what clients send to them.
+//! The states of an office from which tests start, and requests of clients to it.
 
-use super::machine::Act;
+use super::test_host::Act;
 
 /// Ward 7 with three candidates and two seats.
 pub const NOMINATED: &str = "$ init
@@ -17,14 +17,14 @@ candidate 2 of ward 7 added
 candidate 3 of ward 7 added
 ";
 
-/// Its poll, and batch 12 of two papers for the clerks 4 and 9.
+/// Its nominations are closed, and batch 12 of two papers is assigned to clerks 4 and 9.
 pub const GIVEN_OUT: &str = "$ close 7 --id n1
 ward 7 polled
 $ batch 12 7 2 4 9 --id b1
 batch 12 added
 ";
 
-/// Batch 12 as its clerks 4 and 9 key it unlike.
+/// Clerks 4 and 9 key batch 12 differently.
 pub const DIFFERING: &str = "$ import-keying 4 12 1 FILE --id k1
 < paper,1,2,3
 < 1,1,2,
@@ -37,7 +37,7 @@ $ import-keying 9 12 1 FILE --id k1
 batch 12 round 1 keyed
 ";
 
-/// Where both have keyed unlike: clerk 5 is none of the batch's yet, and is set.
+/// After two different keyings: clerk 5 can't key the batch yet, and becomes its third clerk.
 pub const SET: &str = "$ import-keying 5 12 1 FILE --id k1
 < paper,1,2,3
 < 1,1,2,
@@ -49,7 +49,7 @@ $ third 12 5 --id t1
 batch 12 third clerk 5
 ";
 
-/// Each of his papers is that of one of the others, and yet the batch differs: keyings are compared whole.
+/// Each paper of the third clerk equals one of the others', and yet the batch differs: keyings are compared as a whole.
 pub const PAPER_BY_PAPER: &str = "$ import-keying 5 12 1 FILE --id k1
 < paper,1,2,3
 < 1,1,2,
@@ -65,7 +65,7 @@ $ again 12 --id a1
 batch 12 round 2 open
 ";
 
-/// Clerks 5 and 9 agree in the next round. What clerk 4 keys then is kept, and the batch stays taken with their papers.
+/// Clerks 5 and 9 agree in the next round. A later keying of clerk 4 is stored, and the batch stays taken with their papers.
 pub const FOUR_COMES_LATE: &str = "$ import-keying 5 12 2 FILE --id k2
 < paper,1,2,3
 < 1,1,2,
@@ -146,7 +146,7 @@ pub const PAPERS: Act = Act::Keyed(
 ",
 );
 
-/// They are sealed.
+/// The ward is sealed.
 pub const SEAL: Act = Act::Typed(
     "$ seal 7 --id s1
 ward 7 sealed: 9 valid, 0 rejected, quota 4.00000
@@ -214,7 +214,7 @@ pub const EQUAL_SURPLUSES: Act = Act::Keyed(
 ",
 );
 
-/// They are sealed, and counted to their first stage.
+/// The ward is sealed, and counted to its first stage.
 pub const FIRST_OF_FOURTEEN: Act = Act::Typed(
     "$ seal 7 --id s1
 ward 7 sealed: 14 valid, 0 rejected, quota 4.00000
@@ -231,7 +231,7 @@ pub const WAITING_FOR_A_LOT: &[Act] = &[
     FIRST_OF_FOURTEEN,
 ];
 
-/// Papers of which some go on from the first surplus to the second: the count after the first.
+/// Papers of which some are transferred with the first surplus and then with the second: the count after the first.
 pub const AFTER_A_SURPLUS: &[Act] = &[
     OPENED_FOR_FIVE,
     Act::Typed(
@@ -276,7 +276,7 @@ pub const BEGUN: &[Act] = &[Act::Typed(NOMINATED), Act::Typed(GIVEN_OUT)];
 pub const KEYING: &str =
     "POST /clerks/4/batches/12/keying HTTP/1.1\r\nContent-Length: 43\r\n\r\n{\"id\":\"h1\",\"round\":1,\"papers\":[\"1,2,\",\"D\"]}";
 
-/// What he gets as his answer.
+/// The response to it.
 pub const KEYED: &str =
     "HTTP/1.1 200 OK\r\nContent-Type: application/json\r\nContent-Length: 34\r\nConnection: close\r\n\r\n{\"reply\":\"batch 12 round 1 keyed\"}";
 

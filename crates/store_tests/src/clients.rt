@@ -1,5 +1,5 @@
-//! Clients over HTTP, and orders that are handed over, on a network of the tests; and what their streams give and accept. The bytes
-//! that they send are known, also to clauses.
+//! Clients over HTTP, and orders over the order protocol, on a network of the tests, with their streams. Contracts know the bytes
+//! that they send.
 
 ghost use Rattle.std.specs.Prelude.{◌≡◌, None, Some, length, nat_lt};
 ghost use Rattle.connections.specs.Tables.{with_removed};
@@ -15,16 +15,16 @@ use std::time::{Clock, Duration};
 use std::{fmt, io};
 use streams::Broken;
 
-/// A client, or an order: what it sends, and whether it ends its side afterwards. Then how many bytes arrive at once before no more
-/// has arrived, and how many of its response it accepts before it accepts no more now. Last the number of bytes after which reading
-/// fails, and the number after which writing fails.
+/// A client, or an order: what it sends, and whether it closes its side afterwards. Then the most bytes that are available at a
+/// time, and the most that it accepts at a time. Last the number of bytes after which reading fails, and the number after which
+/// writing fails.
 #[derive(Clone, Copy, Debug)]
 pub struct TestClient<'a> {
     pub is_order: bool,
     pub sends: &'a [u8],
-    pub ends: bool,
-    pub at_once: usize,
-    pub sips: usize,
+    pub closes_after_sending: bool,
+    pub bytes_per_read: usize,
+    pub bytes_per_write: usize,
     pub heard: usize,
     pub takes: usize,
 }
@@ -35,36 +35,36 @@ impl<'a> TestClient<'a> {
         TestClient {
             is_order: false,
             sends,
-            ends: true,
-            at_once: usize::MAX,
-            sips: usize::MAX,
+            closes_after_sending: true,
+            bytes_per_read: usize::MAX,
+            bytes_per_write: usize::MAX,
             heard: usize::MAX,
             takes: usize::MAX,
         }
     }
 
-    /// An order with this message, which doesn't end its side.
+    /// An order with this message, which doesn't close its side.
     pub fn order(message: &'a [u8]) -> TestClient<'a> {
         TestClient {
             is_order: true,
-            ends: false,
+            closes_after_sending: false,
             ..TestClient::whole(message)
         }
     }
 
     /// A client that sends so many bytes at once, and accepts as many.
-    pub fn slow(sends: &'a [u8], at_once: usize) -> TestClient<'a> {
+    pub fn slow(sends: &'a [u8], bytes_per_read: usize) -> TestClient<'a> {
         TestClient {
-            at_once,
-            sips: at_once,
+            bytes_per_read,
+            bytes_per_write: bytes_per_read,
             ..TestClient::whole(sends)
         }
     }
 
-    /// A client that sends nothing, and doesn't end its side.
+    /// A client that sends nothing, and doesn't close its side.
     pub fn silent() -> TestClient<'a> {
         TestClient {
-            ends: false,
+            closes_after_sending: false,
             ..TestClient::whole(&[])
         }
     }
@@ -108,7 +108,7 @@ pub struct TestStream<'s, 'p> {
     client: TestClient<'s>,
     page: &'p RefCell<Vec<u8>>,
     now: usize,
-    sip: usize,
+    writable_now: usize,
 }
 
 impl<'s, 'p> TestStream<'s, 'p> {
@@ -117,8 +117,8 @@ impl<'s, 'p> TestStream<'s, 'p> {
             left: client.sends,
             client,
             page,
-            now: client.at_once,
-            sip: client.sips,
+            now: client.bytes_per_read,
+            writable_now: client.bytes_per_write,
         }
     }
 }
@@ -137,7 +137,7 @@ impl Stream for TestStream<'_, '_> {
             return Err(Broken);
         }
         if self.left.is_empty() {
-            return Ok(if self.client.ends {
+            return Ok(if self.client.closes_after_sending {
                 Received::End
             } else {
                 Received::Nothing
@@ -146,7 +146,7 @@ impl Stream for TestStream<'_, '_> {
         let most = self.now.min(self.client.heard);
         let count = room.len().min(self.left.len()).min(most);
         if count == 0 {
-            self.now = self.client.at_once;
+            self.now = self.client.bytes_per_read;
             return Ok(Received::Nothing);
         }
         let (now, later) = self.left.split_at(count);
@@ -161,9 +161,9 @@ impl Stream for TestStream<'_, '_> {
         if self.client.takes == 0 {
             return Err(Broken);
         }
-        let count = bytes.len().min(self.sip).min(self.client.takes);
+        let count = bytes.len().min(self.writable_now).min(self.client.takes);
         if count == 0 {
-            self.sip = self.client.sips;
+            self.writable_now = self.client.bytes_per_write;
             return Ok(0);
         }
         let Ok(mut page) = self.page.try_borrow_mut() else {
@@ -171,7 +171,7 @@ impl Stream for TestStream<'_, '_> {
         };
         match page.extend_from_slice(&bytes[..count]) {
             Ok(()) => {
-                self.sip -= count;
+                self.writable_now -= count;
                 self.client.takes -= count;
                 Ok(count)
             }
@@ -302,7 +302,7 @@ pub fn joined(alloc: Global, pages: Vec<RefCell<Vec<u8>>>) -> Result<String, Fai
     Ok(String::from_utf8(all)?)
 }
 
-/// The network on a port of this machine, and the number of clients after which serving ends.
+/// The network on a port of this host, and the number of clients after which serving ends.
 #[derive(Drop)]
 pub struct Port {
     pub network: RefCell<SocketNetwork<Jumping>>,

@@ -2,8 +2,8 @@
 
 use super::begun::{DIFFERING, GIVEN_OUT, NOMINATED};
 use super::disks::Disks;
-use super::machine::{Act, File, Machine, are_same, hear_unchanged, lasting, play_acts, rows};
 use super::steps::{Case, Step};
+use super::test_host::{Act, File, TestHost, are_same, hear_unchanged, lasting, play_acts, rows};
 use std::process::Abort;
 use std::test::Fail;
 
@@ -17,18 +17,18 @@ const OFFICE: [Act; 3] = [
 /// More calls than a copy makes of either file.
 const CALLS: u64 = 2000;
 
-/// What is printed of a copy whose files stop.
+/// The output of a copy whose files stop.
 const NOT_WRITTEN: (u8, &str, &str) = (3, "", "fault 110: copy not written\n");
 
-/// What is printed of files in which there is nothing.
+/// The output for empty files.
 const NOTHING: Case<'static> = (
     Step::Order(&["DB", "wards"]),
     (3, "", "fault 105: wrong database\n"),
 );
 
-/// Copies an office onto files that may stop, and judges what is found of the copy: the whole, or nothing where it wasn't
-/// answered. Answers whether it was.
-fn copy_once<M: Machine + Drop>(
+/// Copies an office to files that may stop, and checks what is found of the copy: all of it, or nothing unless the copy was
+/// acknowledged. Returns whether it was.
+fn copy_once<M: TestHost + Drop>(
     rt: &(impl Abort + AllocGlobal),
     office: M,
     onto: M,
@@ -55,8 +55,8 @@ fn copy_once<M: Machine + Drop>(
     Ok((is_told, office))
 }
 
-/// Stops a copy at each call of one of its files, until a run meets no stop. The office stays as it is.
-fn copy_each<M: Machine + Drop>(rt: &(impl Abort + AllocGlobal), file: File) -> Result<(), Fail> {
+/// Stops a copy at each call of one of its files in turn, until a run has no stop. The office is unchanged.
+fn copy_each<M: TestHost + Drop>(rt: &(impl Abort + AllocGlobal), file: File) -> Result<(), Fail> {
     let (whole, mut office): (String, M) = rows(rt.alloc(), play_acts(rt, &OFFICE)?)?;
     let blank: M = lasting(rt.alloc());
     for calls in 0..CALLS {

@@ -3,8 +3,8 @@
 
 ghost use Rattle.std.specs.Prelude.{⊤};
 
-use super::machine::{File, Machine};
 use super::steps::{Step, StepPrinted, copied, play};
+use super::test_host::{File, TestHost};
 use sqlite::{Alter, Connection, Error, ErrorCode, FileStore, Files, Options};
 use sqlite_disk::{Crash, Disk, Fuse, Memory};
 use std::alloc::Global;
@@ -23,7 +23,7 @@ impl Model for Disks {
     ghost view = { λ _. tt };
 }
 
-/// Opens the files, or gives them back with what `sqlite` said, if it was asked.
+/// Opens the files, or returns them, with the error of `sqlite` if it was called.
 fn opened(
     alloc: Global,
     files: Files<Fuse<Memory>>,
@@ -65,7 +65,7 @@ fn copy_of(alloc: Global, disk: &Fuse<Memory>, calls: u64) -> Result<Fuse<Memory
     Ok(Fuse::new(copy, calls))
 }
 
-impl Machine for Disks {
+impl TestHost for Disks {
     fn stopping(alloc: Global, log: u64, db: u64) -> Disks {
         Disks {
             files: Files {

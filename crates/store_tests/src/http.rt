@@ -1,31 +1,31 @@
-//! Clients who come at once: their requests come in parts, their lines break, they say nothing, or they are too many; and the
-//! work of clerks for whom no client can ask.
+//! Clients that connect at the same time: their requests arrive in parts, their connections break, they are silent, or they are too
+//! many; and the work of clerks whose numbers no client can send.
 
 use super::begun::{BAD_REQUEST, BEGUN, KEYED, KEYING};
 use super::clients::{Evening, TestClient, TestClients};
 use super::disks::Disks;
-use super::machine::{Machine, hear, hear_unchanged, play_acts};
 use super::steps::Step;
+use super::test_host::{TestHost, hear, hear_unchanged, play_acts};
 use office::texts_are_there;
 use register::elections::elections_are_fair;
 use std::alloc::{AllocError, Global};
 use std::process::Abort;
 use std::test::Fail;
 
-/// The work of clerk 4 once he has keyed.
+/// The work of clerk 4 after keying.
 const FOUR_KEYED: &str = "batch 12 ward 7 [1, 2, 3] size 2 round 1: keyed\n";
 
-/// What is printed of clerks whose number is none.
+/// The output for a number that isn't a clerk's.
 const NO_CLERK: &str = "refused 3: number out of range\n";
 
-/// The work of clerk 4 and of clerk 9 is asked for, and a sheet that isn't there yet.
+/// Requests for the work of clerk 4 and of clerk 9, and for a sheet that doesn't exist yet.
 const FOUR: &[u8] = b"GET /clerks/4/work HTTP/1.1\r\n\r\n";
 
 const NINE: &[u8] = b"GET /clerks/9/work HTTP/1.1\r\n\r\n";
 
 const SHEET: &[u8] = b"GET /wards/7/sheet HTTP/1.1\r\n\r\n";
 
-/// What they get as their work.
+/// The responses with their work.
 const FOUR_TO_KEY: &str =
     "HTTP/1.1 200 OK\r\nContent-Type: application/json\r\nContent-Length: 93\r\nConnection: close\r\n\r\n{\"clerk\":4,\"work\":[{\"batch\":12,\"columns\":[1,2,3],\"keyed\":false,\"round\":1,\"size\":2,\"ward\":7}]}";
 
@@ -38,7 +38,7 @@ const NINE_TO_KEY: &str =
 const WRONG_PHASE: &str =
     "HTTP/1.1 409 Conflict\r\nContent-Type: application/json\r\nContent-Length: 34\r\nConnection: close\r\n\r\n{\"refusal\":9,\"text\":\"wrong phase\"}";
 
-/// Who comes, what each of them must take, and how serving must end.
+/// The clients, the response that each must get, and how serving must end.
 #[derive(Clone, Copy)]
 struct Case<'a> {
     evening: Evening<'a>,
@@ -46,7 +46,7 @@ struct Case<'a> {
     end: &'a str,
 }
 
-/// What clients take, a line feed between each two.
+/// The responses that clients get, with a line feed between each two.
 fn taken(alloc: Global, texts: &[&str]) -> Result<String, Fail> {
     let mut all = String::new(alloc);
     for (place, text) in texts.iter().enumerate() {
@@ -58,28 +58,28 @@ fn taken(alloc: Global, texts: &[&str]) -> Result<String, Fail> {
     Ok(all)
 }
 
-/// Serves clients, and hears what they take.
-fn serve<M: Machine + Drop>(
+/// Serves clients, and compares the responses that they get.
+fn serve<M: TestHost + Drop>(
     rt: &(impl Abort + AllocGlobal),
-    machine: M,
+    host: M,
     case: Case<'_>,
 ) -> Result<M, Fail> {
     let out = taken(rt.alloc(), case.texts)?;
     let told = (0, out.as_str(), case.end);
-    hear(rt, machine, &[(Step::Serve(case.evening), told)])
+    hear(rt, host, &[(Step::Serve(case.evening), told)])
 }
 
-/// All clients of an evening come in, and leave.
-fn serve_all<M: Machine + Drop>(
+/// All clients of an evening connect and are closed.
+fn serve_all<M: TestHost + Drop>(
     rt: &(impl Abort + AllocGlobal),
-    machine: M,
+    host: M,
     evening: Evening<'_>,
     texts: &[&str],
 ) -> Result<M, Fail> {
     let end = "Ok(())";
     serve(
         rt,
-        machine,
+        host,
         Case {
             evening,
             texts,
@@ -88,11 +88,11 @@ fn serve_all<M: Machine + Drop>(
     )
 }
 
-/// Clients who come at once send their requests in parts of their own. Each has his turn once his request is whole, and takes the
-/// answer to it: one asks for a clerk's work before his keying is whole, and one behind it.
-fn have_their_turns<M: Machine + Drop>(
+/// Clients that connect at the same time send their requests in parts. Each request is processed once it is complete: one for a
+/// clerk's work before the clerk's keying is complete, and one after it.
+fn have_their_turns<M: TestHost + Drop>(
     rt: &(impl Abort + AllocGlobal),
-    machine: M,
+    host: M,
 ) -> Result<M, Fail> {
     let clients = [
         Some(TestClient::slow(FOUR, 7)),
@@ -102,8 +102,8 @@ fn have_their_turns<M: Machine + Drop>(
         Some(TestClient::slow(NINE, 1)),
         Some(TestClient::slow(SHEET, 5)),
         Some(TestClient {
-            sips: 3,
-            ends: false,
+            bytes_per_write: 3,
+            closes_after_sending: false,
             ..TestClient::whole(NINE)
         }),
     ];
@@ -116,14 +116,14 @@ fn have_their_turns<M: Machine + Drop>(
         WRONG_PHASE,
         NINE_TO_KEY,
     ];
-    serve_all(rt, machine, Evening::of(&clients), &texts)
+    serve_all(rt, host, Evening::of(&clients), &texts)
 }
 
-/// Lines break at each byte of the request, of which nothing is kept. They break at each byte of the answer, which the first of
-/// those clients gets to his keying, and the others again.
-fn break_at_each_byte<M: Machine + Drop>(
+/// Connections break at each byte of the request, of which nothing is stored. They break at each byte of the response: to the
+/// keying of the first of those clients, and to its repetition by the others.
+fn break_at_each_byte<M: TestHost + Drop>(
     rt: &(impl Abort + AllocGlobal),
-    machine: M,
+    host: M,
 ) -> Result<M, Fail> {
     let keying = TestClient::whole(KEYING.as_bytes());
     let mut unheard = Vec::new(rt.alloc());
@@ -141,18 +141,18 @@ fn break_at_each_byte<M: Machine + Drop>(
         fronts.push(KEYED.get(..takes).unwrap_or(""))?;
     }
     let unheard = Step::Serve(Evening::of(&unheard));
-    let machine = hear_unchanged(rt, machine, &[(unheard, (0, nothing.as_str(), "Ok(())"))])?;
-    serve_all(rt, machine, Evening::of(&untold), &fronts)
+    let host = hear_unchanged(rt, host, &[(unheard, (0, nothing.as_str(), "Ok(())"))])?;
+    serve_all(rt, host, Evening::of(&untold), &fronts)
 }
 
-/// One who says nothing, one who sends a byte now and then, and one who takes nothing of his answer are let go by a clock
-/// that jumps by ten seconds. The others are answered all the while.
-fn are_let_go<M: Machine + Drop>(rt: &(impl Abort + AllocGlobal), machine: M) -> Result<M, Fail> {
+/// A client that is silent, one that sends a byte now and then, and one that accepts nothing of its response are closed by a clock
+/// that jumps by ten seconds. The others get their responses meanwhile.
+fn are_let_go<M: TestHost + Drop>(rt: &(impl Abort + AllocGlobal), host: M) -> Result<M, Fail> {
     let clients = [
         Some(TestClient::silent()),
         Some(TestClient::slow(FOUR, 1)),
         Some(TestClient {
-            sips: 0,
+            bytes_per_write: 0,
             ..TestClient::whole(FOUR)
         }),
         Some(TestClient::whole(NINE)),
@@ -161,10 +161,10 @@ fn are_let_go<M: Machine + Drop>(rt: &(impl Abort + AllocGlobal), machine: M) ->
         seconds: 10,
         ..Evening::of(&clients)
     };
-    serve_all(rt, machine, evening, &["", "", "", NINE_TO_KEY])
+    serve_all(rt, host, evening, &["", "", "", NINE_TO_KEY])
 }
 
-/// Those who come, of whom so many are wanted; and how that must end.
+/// The clients, the number of them after which serving ends, and how it must end.
 fn wanted<'a>(
     clients: TestClients<'a>,
     connections: Option<u64>,
@@ -183,14 +183,11 @@ fn wanted<'a>(
     }
 }
 
-/// Some can't be accepted, and don't count. A network that fails ends it, and what was answered before remains valid.
-fn are_not_let_in<M: Machine + Drop>(
-    rt: &(impl Abort + AllocGlobal),
-    machine: M,
-) -> Result<M, Fail> {
+/// Connections that can't be accepted don't count. A network that fails ends serving, and earlier responses remain valid.
+fn are_not_let_in<M: TestHost + Drop>(rt: &(impl Abort + AllocGlobal), host: M) -> Result<M, Fail> {
     let work = Some(TestClient::whole(FOUR));
     let (one, late, between) = ([work], [None, work], [work, None, work]);
-    let mut machine = machine;
+    let mut host = host;
     for case in [
         wanted(&one, Some(0), &[""], "Ok(())"),
         wanted(&one, Some(2), &[FOUR_TO_KEY], "Err(Network)"),
@@ -199,12 +196,12 @@ fn are_not_let_in<M: Machine + Drop>(
         wanted(&between, Some(1), &[FOUR_TO_KEY, "", ""], "Ok(())"),
         wanted(&between, Some(2), &[FOUR_TO_KEY, "", FOUR_TO_KEY], "Ok(())"),
     ] {
-        machine = serve(rt, machine, case)?;
+        host = serve(rt, host, case)?;
     }
-    Ok(machine)
+    Ok(host)
 }
 
-/// How many come at once, and how many may be in.
+/// The number of clients that connect at the same time, and the most that may be connected.
 const CROWD: usize = 600;
 
 const MOST: usize = 512;
@@ -212,13 +209,13 @@ const MOST: usize = 512;
 /// Of the crowd, these ask for a clerk's work, three bytes at a time, and the network reports only them as ready.
 const ASKING: &[usize] = &[0, CROWD - MOST - 1, CROWD - MOST, MOST, CROWD - 1];
 
-/// A crowd of clients of whom the others are silent.
+/// A crowd of clients; those that send nothing are silent.
 fn crowd<'a>(alloc: Global) -> Result<Vec<Option<TestClient<'a>>>, Fail> {
     let mut clients = Vec::new(alloc);
     for place in 0..CROWD {
         clients.push(Some(if ASKING.contains(&place) {
             TestClient {
-                at_once: 3,
+                bytes_per_read: 3,
                 ..TestClient::whole(FOUR)
             }
         } else {
@@ -228,7 +225,7 @@ fn crowd<'a>(alloc: Global) -> Result<Vec<Option<TestClient<'a>>>, Fail> {
     Ok(clients)
 }
 
-/// What a crowd takes of which these places are answered.
+/// The responses to a crowd of which only these places get one.
 fn crowds_texts(alloc: Global, answered: &[usize]) -> Result<Vec<&'static str>, Fail> {
     let mut texts = Vec::new(alloc);
     for place in 0..CROWD {
@@ -242,9 +239,9 @@ fn crowds_texts(alloc: Global, answered: &[usize]) -> Result<Vec<&'static str>, 
     Ok(texts)
 }
 
-/// Where more come than may be in, those who have waited longest are let go for them, of a crowd of 600 the first 88. Nobody
-/// is let go so before he has waited a second: where no time passes, whoever comes waits until somebody leaves.
-fn are_too_many<M: Machine + Drop>(rt: &(impl Abort + AllocGlobal), machine: M) -> Result<M, Fail> {
+/// If more clients connect than may, those that have waited longest are closed, of a crowd of 600 the first 88. None is closed for
+/// that reason before it has waited a second: if no time passes, a new connection waits until another is closed.
+fn are_too_many<M: TestHost + Drop>(rt: &(impl Abort + AllocGlobal), host: M) -> Result<M, Fail> {
     let alloc = rt.alloc();
     let clients = crowd(alloc)?;
     let texts = crowds_texts(alloc, &[CROWD - MOST, MOST, CROWD - 1])?;
@@ -253,7 +250,7 @@ fn are_too_many<M: Machine + Drop>(rt: &(impl Abort + AllocGlobal), machine: M) 
         seconds: 1,
         ..Evening::of(&clients)
     };
-    let machine = serve_all(rt, machine, evening, &texts)?;
+    let host = serve_all(rt, host, evening, &texts)?;
     let texts = crowds_texts(alloc, &[0, CROWD - MOST - 1, CROWD - MOST, MOST])?;
     let evening = Evening {
         told: Some(ASKING),
@@ -263,7 +260,7 @@ fn are_too_many<M: Machine + Drop>(rt: &(impl Abort + AllocGlobal), machine: M) 
     let end = "Err(Network)";
     serve(
         rt,
-        machine,
+        host,
         Case {
             evening,
             texts: &texts,
@@ -272,7 +269,7 @@ fn are_too_many<M: Machine + Drop>(rt: &(impl Abort + AllocGlobal), machine: M) 
     )
 }
 
-/// A file of codes; and the work of clerk 4, asked for by his code, by a wrong one, and by none.
+/// A file of codes; and requests for the work of clerk 4 with the clerk's code, with a wrong one, and with none.
 const CODES: &str = "4 kf7m-2wxt\n9 w3hd-4psn\n";
 
 const BY_HIS_CODE: &[u8] =
@@ -285,8 +282,8 @@ const BY_A_WRONG_ONE: &[u8] =
 const UNAUTHORIZED: &str =
     "HTTP/1.1 401 Unauthorized\r\nContent-Type: application/json\r\nContent-Length: 24\r\nWWW-Authenticate: Basic realm=\"clerk 4\", charset=\"UTF-8\"\r\nConnection: close\r\n\r\n{\"error\":\"unauthorized\"}";
 
-/// What comes, and each response: clerk 4's work by the clerk's code alone, also where it was kept, and after wrong codes too. A
-/// sheet is everyone's.
+/// Requests and their responses: clerk 4's work only for that clerk's code, also when the response was cached, and after wrong
+/// codes too. A sheet is public.
 const AT_THE_GATE: [(&[u8], &str); 18] = [
     (BY_HIS_CODE, FOUR_TO_KEY),
     (BY_HIS_CODE, FOUR_TO_KEY),
@@ -308,7 +305,7 @@ const AT_THE_GATE: [(&[u8], &str); 18] = [
     (SHEET, WRONG_PHASE),
 ];
 
-/// Those who come to the gate.
+/// The clients of an office with codes.
 fn knocking<'a>(alloc: Global) -> Result<Vec<Option<TestClient<'a>>>, AllocError> {
     let mut clients = Vec::new(alloc);
     for (sends, _) in &AT_THE_GATE {
@@ -317,7 +314,7 @@ fn knocking<'a>(alloc: Global) -> Result<Vec<Option<TestClient<'a>>>, AllocError
     Ok(clients)
 }
 
-/// The answers that they get.
+/// The responses to them.
 fn told_at_the_gate(alloc: Global) -> Result<Vec<&'static str>, AllocError> {
     let mut texts = Vec::new(alloc);
     for (_, told) in &AT_THE_GATE {
@@ -326,10 +323,10 @@ fn told_at_the_gate(alloc: Global) -> Result<Vec<&'static str>, AllocError> {
     Ok(texts)
 }
 
-/// An evening with codes: each is answered by his own alone.
-fn come_with_codes<M: Machine + Drop>(
+/// An evening with codes: only a clerk's own code gets that clerk's work.
+fn come_with_codes<M: TestHost + Drop>(
     rt: &(impl Abort + AllocGlobal),
-    machine: M,
+    host: M,
 ) -> Result<M, Fail> {
     let clients = knocking(rt.alloc())?;
     let texts = told_at_the_gate(rt.alloc())?;
@@ -337,14 +334,12 @@ fn come_with_codes<M: Machine + Drop>(
         codes: Some(CODES),
         ..Evening::of(&clients)
     };
-    serve_all(rt, machine, evening, &texts)
+    serve_all(rt, host, evening, &texts)
 }
 
-/// Of bodies of a megabyte each, 63 may be held at once. Where one more comes, who has waited longest is let go, and nobody else.
-fn hold_too_much<M: Machine + Drop>(
-    rt: &(impl Abort + AllocGlobal),
-    machine: M,
-) -> Result<M, Fail> {
+/// Of bodies of a megabyte each, 63 may be in memory at once. If one more arrives, the client that has waited longest is closed,
+/// and no other.
+fn hold_too_much<M: TestHost + Drop>(rt: &(impl Abort + AllocGlobal), host: M) -> Result<M, Fail> {
     let alloc = rt.alloc();
     let head = b"POST /clerks/4/batches/12/keying HTTP/1.1\r\nContent-Length: 1048576\r\n\r\n";
     let mut body = Vec::from_slice(alloc, head)?;
@@ -354,7 +349,7 @@ fn hold_too_much<M: Machine + Drop>(
     // Most never send their last byte.
     let waits = TestClient {
         sends: body.get(..all_but_one).unwrap_or(&[]),
-        ends: false,
+        closes_after_sending: false,
         ..slow_client
     };
     let mut clients = [Some(waits); 64];
@@ -364,14 +359,14 @@ fn hold_too_much<M: Machine + Drop>(
     clients[63] = Some(slow_client);
     texts[1] = BAD_REQUEST;
     texts[63] = BAD_REQUEST;
-    serve(rt, machine, wanted(&clients, None, &texts, "Err(Network)"))
+    serve(rt, host, wanted(&clients, None, &texts, "Err(Network)"))
 }
 
-/// What a client can't ask.
-fn works<M: Machine + Drop>(rt: &(impl Abort + AllocGlobal), machine: M) -> Result<M, Fail> {
+/// Requests for work that no client can send.
+fn works<M: TestHost + Drop>(rt: &(impl Abort + AllocGlobal), host: M) -> Result<M, Fail> {
     hear(
         rt,
-        machine,
+        host,
         &[
             (Step::Work(4), (0, FOUR_KEYED, "")),
             (Step::Work(0), (0, NO_CLERK, "")),
@@ -380,17 +375,17 @@ fn works<M: Machine + Drop>(rt: &(impl Abort + AllocGlobal), machine: M) -> Resu
     )
 }
 
-fn come_at_once<M: Machine + Drop>(rt: &(impl Abort + AllocGlobal)) -> Result<(), Fail> {
-    let machine: M = play_acts(rt, BEGUN)?;
-    let machine = are_let_go(rt, machine)?;
-    let machine = are_not_let_in(rt, machine)?;
-    let machine = are_too_many(rt, machine)?;
-    let machine = hold_too_much(rt, machine)?;
-    let machine = come_with_codes(rt, machine)?;
-    have_their_turns(rt, machine)?;
-    let machine: M = play_acts(rt, BEGUN)?;
-    let machine = break_at_each_byte(rt, machine)?;
-    works(rt, machine)?;
+fn come_at_once<M: TestHost + Drop>(rt: &(impl Abort + AllocGlobal)) -> Result<(), Fail> {
+    let host: M = play_acts(rt, BEGUN)?;
+    let host = are_let_go(rt, host)?;
+    let host = are_not_let_in(rt, host)?;
+    let host = are_too_many(rt, host)?;
+    let host = hold_too_much(rt, host)?;
+    let host = come_with_codes(rt, host)?;
+    have_their_turns(rt, host)?;
+    let host: M = play_acts(rt, BEGUN)?;
+    let host = break_at_each_byte(rt, host)?;
+    works(rt, host)?;
     Ok(())
 }
 

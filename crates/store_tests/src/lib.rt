@@ -1,30 +1,34 @@
-//! Tests over stores: what only a test in the process can meet. That is stores, outputs and clients that fail, and calls
-//! that no order makes. (Refusals, replies, words, overviews and rows that no office has are played by
+//! Tests on stores that only code in the same process can make: stores, outputs and clients that fail, and calls that no order
+//! makes. (Refusals, replies, words, overviews and rows that no office has are played by
 //! examples/transcripts.sh.)
 //!
-//! A crate's tests are proved together with the whole crate. Here they load what `desk` states, and the program isn't
+//! A crate's tests are proved together with the whole crate. Here they load only the statements of `desk`, so the program isn't
 //! proved a second time.
 #![tactic(auto)]
 
-// What is done and printed, over any store.
+// The steps of a test on any store, and their output.
 #[cfg(test)]
 mod steps;
-// What is typed and printed, as a text.
+// What is typed and printed, as text.
 #[cfg(test)]
 mod transcripts;
-// What is done with an office on any machine.
+// An office on a host of any kind.
 #[cfg(test)]
-mod machine;
+mod test_host;
 // The one store of these tests.
 #[cfg(test)]
 mod disks;
 // Clients over HTTP.
 #[cfg(test)]
 mod clients;
-// Offices that tests go on with.
+// Offices from which tests start.
 #[cfg(test)]
 mod begun;
 // The tests.
+#[cfg(test)]
+mod console;
+#[cfg(test)]
+mod console_reads;
 #[cfg(test)]
 mod copies;
 #[cfg(test)]

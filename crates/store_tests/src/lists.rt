@@ -1,14 +1,14 @@
 //! A list of requests, handed to an office at once.
 
 use super::disks::Disks;
-use super::machine::{Machine, hear, lasting};
 use super::steps::Step;
+use super::test_host::{TestHost, hear, lasting};
 use register::{Command, Request, WardCommand};
 use std::alloc::{AllocError, Global};
 use std::process::Abort;
 use std::test::Fail;
 
-/// What comes from an actor under an id.
+/// A request of an actor with an id.
 fn asked(alloc: Global, actor: u32, id: &str, command: WardCommand) -> Result<Request, AllocError> {
     Ok(Request {
         actor,
@@ -26,8 +26,8 @@ fn harbour(alloc: Global) -> Result<WardCommand, AllocError> {
     })
 }
 
-/// The answers to the office that sends it, sends it again, and under another id; to a clerk who does, as only the office may;
-/// and to the office that closes a ward in which nobody stands.
+/// The answers to the office for this command, for its repetition, and for the same under another id; to a clerk, since only the
+/// office may send it; and to the office for closing a ward without candidates.
 const ANSWERS: &str = "done: ward 7 added
 kept: ward 7 added
 refused 6: ward exists
@@ -38,7 +38,7 @@ refused 12: no candidates
 const STATUS: &str =
     "ward 7 nominations: 0 candidates, 0 batches, 0 taken, 0 differing, 0 doubtful open, 0 stages\n";
 
-fn is_answered_in_turn<M: Machine + Drop>(rt: &(impl Abort + AllocGlobal)) -> Result<(), Fail> {
+fn is_answered_in_turn<M: TestHost + Drop>(rt: &(impl Abort + AllocGlobal)) -> Result<(), Fail> {
     let alloc = rt.alloc();
     let requests = vec![in alloc;
         asked(alloc, 0, "w1", harbour(alloc)?)?,
@@ -51,8 +51,8 @@ fn is_answered_in_turn<M: Machine + Drop>(rt: &(impl Abort + AllocGlobal)) -> Re
         (Step::List(requests.as_slice()), (0, ANSWERS, "")),
         (Step::Order(&["DB", "status", "7"]), (0, STATUS, "")),
     ];
-    let machine: M = lasting(alloc);
-    hear(rt, machine, &cases)?;
+    let host: M = lasting(alloc);
+    hear(rt, host, &cases)?;
     Ok(())
 }
 

@@ -1,11 +1,11 @@
-//! What the store reads of a ward's papers and of its count, call by call.
+//! The papers and the count of a ward as the store reads them, call by call.
 
 use super::begun::{
     DIFFERING, FOUR_COMES_LATE, GIVEN_OUT, NOMINATED, PAPER_BY_PAPER, SEALED, SET, TWO_STAGES,
 };
 use super::disks::Disks;
-use super::machine::{Act, Machine, do_act, follow, hear, play_acts};
 use super::steps::{Step, StepPrinted};
+use super::test_host::{Act, TestHost, do_act, follow, hear, play_acts};
 use sqlite::{Alter, Connection};
 use std::alloc::Global;
 use std::fmt::Write;
@@ -13,7 +13,7 @@ use std::process::Abort;
 use std::test::Fail;
 use store::{Fault, Store};
 
-/// What a call read.
+/// Returns the value that a call read.
 fn read<T>(loaded: Result<T, Fault>) -> Result<T, Fail> {
     match loaded {
         Ok(found) => Ok(found),
@@ -21,7 +21,7 @@ fn read<T>(loaded: Result<T, Fault>) -> Result<T, Fail> {
     }
 }
 
-/// A line a bundle: its list, and how many papers it has.
+/// Appends one line per bundle: its list, and its number of papers.
 fn write_bundles<S: Alter>(text: &mut String, store: &mut Store<S>, ward: u32) -> Result<(), Fail> {
     let ballots = read(store.load_bundles(ward))?;
     for (list, papers) in ballots.papers.iter() {
@@ -31,7 +31,7 @@ fn write_bundles<S: Alter>(text: &mut String, store: &mut Store<S>, ward: u32) -
     Ok(())
 }
 
-/// A line a bundle as it is kept: who holds it, and the value of each paper in units.
+/// Appends one line per stored bundle: its holder, and the value of each paper in units.
 fn write_book<S: Alter>(text: &mut String, store: &mut Store<S>, ward: u32) -> Result<(), Fail> {
     let Some(count) = read(store.load_book(ward))? else {
         text.push_str("no book\n")?;
@@ -45,7 +45,7 @@ fn write_book<S: Alter>(text: &mut String, store: &mut Store<S>, ward: u32) -> R
     Ok(())
 }
 
-/// What the calls say of a ward.
+/// Returns the results of the calls for a ward, as text.
 fn told<S: Alter>(alloc: Global, store: &mut Store<S>, ward: u32) -> Result<String, Fail> {
     let mut text = String::new(alloc);
     let ballots = read(store.load_papers(ward))?;
@@ -57,7 +57,7 @@ fn told<S: Alter>(alloc: Global, store: &mut Store<S>, ward: u32) -> Result<Stri
     Ok(text)
 }
 
-/// The store opened, and what it says of a ward.
+/// Opens the store, and returns the results of its calls for a ward.
 pub fn loads<S: Alter + Drop>(
     alloc: Global,
     conn: Connection<S>,
@@ -112,7 +112,7 @@ no book
 lots []
 ";
 
-/// A batch that clerks 5 and 9 took, and not as the lower clerk 4 keyed it.
+/// A batch on which clerks 5 and 9 agree, but not clerk 4, who has the lowest number.
 const LATE_LOADS: &str = "2 papers
 [1, 2] 1
 [3] 1
@@ -130,46 +130,46 @@ const LATE: &[Act] = &[
     Act::Typed(FOUR_COMES_LATE),
 ];
 
-/// Hears what is read of ward 7, before it is sealed and after: the papers are walked in another way then.
-fn read_twice<M: Machine + Drop>(
+/// Compares what is read of ward 7 before it is sealed and after: the papers are then read in another order.
+fn read_twice<M: TestHost + Drop>(
     rt: &(impl Abort + AllocGlobal),
-    machine: M,
+    host: M,
     seal: &str,
     told: &str,
 ) -> Result<(), Fail> {
     let read = [(Step::Loads(7), (0, told, ""))];
-    let machine = hear(rt, machine, &read)?;
-    let machine = follow(rt, machine, seal)?;
-    hear(rt, machine, &read)?;
+    let host = hear(rt, host, &read)?;
+    let host = follow(rt, host, seal)?;
+    hear(rt, host, &read)?;
     Ok(())
 }
 
 /// Both clerks of both batches key the same list on each paper.
-fn thousand_papers<M: Machine + Drop>(rt: &(impl Abort + AllocGlobal)) -> Result<M, Fail> {
+fn thousand_papers<M: TestHost + Drop>(rt: &(impl Abort + AllocGlobal)) -> Result<M, Fail> {
     let mut rows = String::from_str(rt.alloc(), "< paper,1,2,3\n")?;
     for paper in 1..=500 {
         writeln!(rows, "< {paper},1,2,")?;
     }
-    let mut machine: M = play_acts(rt, &[Act::Typed(NOMINATED), Act::Typed(TWO_BATCHES)])?;
+    let mut host: M = play_acts(rt, &[Act::Typed(NOMINATED), Act::Typed(TWO_BATCHES)])?;
     for (clerk, batch) in [(4, 12), (9, 12), (4, 13), (9, 13)] {
         let keyed = format!(in rt.alloc();
             "$ import-keying {clerk} {batch} 1 FILE --id k{batch}\n{rows}batch {batch} round 1 keyed\n"
         )?;
-        machine = follow(rt, machine, keyed.as_str())?;
+        host = follow(rt, host, keyed.as_str())?;
     }
-    Ok(machine)
+    Ok(host)
 }
 
-/// Hears what is read of the worked ward before its first stage, and after its second.
-fn read_in_count<M: Machine + Drop>(rt: &(impl Abort + AllocGlobal)) -> Result<(), Fail> {
-    let machine: M = play_acts(rt, SEALED)?;
-    let machine = hear(rt, machine, &[(Step::Loads(7), (0, SEALED_LOADS, ""))])?;
-    let machine = do_act(rt, machine, &TWO_STAGES)?;
-    hear(rt, machine, &[(Step::Loads(7), (0, STAGED_LOADS, ""))])?;
+/// Compares what is read of the worked ward before its first stage, and after its second.
+fn read_in_count<M: TestHost + Drop>(rt: &(impl Abort + AllocGlobal)) -> Result<(), Fail> {
+    let host: M = play_acts(rt, SEALED)?;
+    let host = hear(rt, host, &[(Step::Loads(7), (0, SEALED_LOADS, ""))])?;
+    let host = do_act(rt, host, &TWO_STAGES)?;
+    hear(rt, host, &[(Step::Loads(7), (0, STAGED_LOADS, ""))])?;
     Ok(())
 }
 
-fn are_read_back<M: Machine + Drop>(rt: &(impl Abort + AllocGlobal)) -> Result<(), Fail> {
+fn are_read_back<M: TestHost + Drop>(rt: &(impl Abort + AllocGlobal)) -> Result<(), Fail> {
     read_in_count::<M>(rt)?;
     let late: M = play_acts(rt, LATE)?;
     read_twice(

@@ -1,11 +1,11 @@
-//! Clients who send what a fixed generator makes of requests: noise, requests with bytes changed, and the beginning of
-//! one run into the end of another.
+//! Clients that send what a seeded generator makes: random bytes, requests with changed bytes, and the beginning of one request
+//! joined to the end of another.
 
 use super::begun::{BEGUN, KEYED, KEYING};
 use super::clients::{Evening, TestClient};
 use super::disks::Disks;
-use super::machine::{Machine, hear, play_acts, rows};
 use super::steps::{SERVER_SETTINGS, Step, StepPrinted};
+use super::test_host::{TestHost, hear, play_acts, rows};
 use rand_core::utils::NextWord;
 use rand_pcg::Pcg32;
 use std::alloc::{AllocError, Global};
@@ -16,7 +16,7 @@ use wire::{HttpRequest, RequestError, read_request};
 
 const CLIENTS: usize = 10_000;
 
-/// What is asked, before it is spoilt.
+/// The requests from which others are made.
 const REQUESTS: [&str; 5] = [
     KEYING,
     "GET /clerks/4/work HTTP/1.1\r\nHost: localhost\r\n\r\n",
@@ -25,25 +25,25 @@ const REQUESTS: [&str; 5] = [
     "PUT /clerks/9/batches/12/keying HTTP/1.1\r\nContent-Length: 2\r\n\r\n{}",
 ];
 
-/// Clerk 9 keys the batch as clerk 4 does.
+/// Clerk 9 keys the batch as clerk 4.
 const NINE: &str =
     "POST /clerks/9/batches/12/keying HTTP/1.1\r\nContent-Length: 43\r\n\r\n{\"id\":\"h1\",\"round\":1,\"papers\":[\"1,2,\",\"D\"]}";
 
-/// Both clerks key the batch, so that nothing more is taken of it.
-fn keyed_by_both<M: Machine + Drop>(rt: &(impl Abort + AllocGlobal)) -> Result<M, Fail> {
-    let mut machine: M = play_acts(rt, BEGUN)?;
+/// Both clerks key the batch, so that it accepts no other keying.
+fn keyed_by_both<M: TestHost + Drop>(rt: &(impl Abort + AllocGlobal)) -> Result<M, Fail> {
+    let mut host: M = play_acts(rt, BEGUN)?;
     for keying in [KEYING, NINE] {
         let client = [Some(TestClient::whole(keying.as_bytes()))];
-        machine = hear(
+        host = hear(
             rt,
-            machine,
+            host,
             &[(Step::Serve(Evening::of(&client)), (0, KEYED, "Ok(())"))],
         )?;
     }
-    Ok(machine)
+    Ok(host)
 }
 
-/// A number below a bound, or 0 where there is none.
+/// Returns a number below a bound, or 0 if there is none.
 fn below(numbers: &mut Pcg32, bound: usize) -> usize {
     (numbers.next_word() as usize)
         .checked_rem(bound)
@@ -85,7 +85,7 @@ fn changed(alloc: Global, numbers: &mut Pcg32) -> Result<Vec<u8>, AllocError> {
     Ok(bytes)
 }
 
-/// The beginning of one request, and behind it the end of another.
+/// Returns the beginning of one request, followed by the end of another.
 fn spliced(alloc: Global, numbers: &mut Pcg32) -> Result<Vec<u8>, AllocError> {
     let (first, second) = (request(numbers), request(numbers));
     let (begin, end) = (below(numbers, first.len()), below(numbers, second.len()));
@@ -103,7 +103,7 @@ fn sent(alloc: Global, numbers: &mut Pcg32) -> Result<Vec<u8>, AllocError> {
     }
 }
 
-/// Whether a client who sends these bytes may be answered with this status.
+/// Returns whether a client that sends these bytes may get this status.
 fn may_be_told(alloc: Global, bytes: &[u8], status: &str) -> bool {
     match read_request(alloc, SERVER_SETTINGS.http, &mut Counted::new(bytes)) {
         Ok(HttpRequest::Denied(RequestError::BadRequest)) => status == "400",
@@ -116,7 +116,7 @@ fn may_be_told(alloc: Global, bytes: &[u8], status: &str) -> bool {
     }
 }
 
-/// The status of the first answer, and what stands behind the answer and the line feed that ends it, if one does.
+/// Returns the status of the first response, and what follows it and its line feed, if it has one.
 fn first_answer(page: &str) -> Option<(&str, &str)> {
     let (head, behind) = page.split_once("\r\n\r\n")?;
     let status = head.strip_prefix("HTTP/1.1 ")?.get(..3)?;
@@ -126,17 +126,17 @@ fn first_answer(page: &str) -> Option<(&str, &str)> {
     Some((status, behind.strip_prefix('\n').unwrap_or(behind)))
 }
 
-/// Serves clients who come at once, and says what they took.
-fn served<'a, M: Machine + Drop>(
+/// Serves clients that connect at the same time, and returns the responses that they get.
+fn served<'a, M: TestHost + Drop>(
     alloc: Global,
-    machine: M,
+    host: M,
     clients: &'a [Option<TestClient<'a>>],
 ) -> Result<(Vec<StepPrinted>, M), Fail> {
     let evening = Evening::of(clients);
-    machine.play(alloc, &[Step::Serve(evening)])
+    host.play(alloc, &[Step::Serve(evening)])
 }
 
-fn clients_are_answered_as_they_ask<M: Machine + Drop>(
+fn clients_are_answered_as_they_ask<M: TestHost + Drop>(
     rt: &(impl Abort + AllocGlobal),
 ) -> Result<(), Fail> {
     let alloc = rt.alloc();
@@ -149,15 +149,15 @@ fn clients_are_answered_as_they_ask<M: Machine + Drop>(
         .iter()
         .map(|bytes| Some(TestClient::whole(bytes)))
         .collect(alloc)?;
-    let (before, machine): (String, M) = rows(alloc, keyed_by_both(rt)?)?;
-    let (said, machine) = served(alloc, machine, &clients)?;
+    let (before, host): (String, M) = rows(alloc, keyed_by_both(rt)?)?;
+    let (said, host) = served(alloc, host, &clients)?;
     let mut page = said.first().ok_or("nothing was said")?.told().1;
     for bytes in &all {
         let (status, behind) = first_answer(page).ok_or("an answer is missing")?;
         assert!(rt; may_be_told(alloc, bytes, status), "{bytes:?}: {status}");
         page = behind;
     }
-    let (after, _) = rows(alloc, machine)?;
+    let (after, _) = rows(alloc, host)?;
     assert!(rt; page.is_empty() && before == after, "{page} {after}");
     Ok(())
 }

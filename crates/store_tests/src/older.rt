@@ -1,11 +1,11 @@
-//! An office that an earlier program made, brought over to this one over files that stop. (What is brought over, and what
-//! isn't, is played in examples/transcripts/older.txt.)
+//! The migration of an office that an earlier program made, on files that stop. (What is migrated, and what isn't, is played in
+//! examples/transcripts/older.txt.)
 
 mod rows;
 
 use super::disks::Disks;
-use super::machine::{Act, File};
 use super::stops::stop_orders;
+use super::test_host::{Act, File};
 use rows::{OLDER_ROWS, OLDER_TABLES, ROWS_OF_ONE_WARD};
 use std::test::Fail;
 

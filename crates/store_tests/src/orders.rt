@@ -1,11 +1,11 @@
-//! Orders that are handed over to an office while it serves clients. They come whole or byte by byte, their lines break, they
-//! are for another file or from another program, or they are no orders at all.
+//! Orders that are sent to an office while it serves clients. They arrive at once or byte by byte, their connections break, they
+//! are for another file or from another program, or they aren't orders.
 
 use super::begun::{BEGUN, KEYED, KEYING};
 use super::clients::{Evening, TestClient};
 use super::disks::Disks;
-use super::machine::{Machine, hear, hear_unchanged, play_acts};
 use super::steps::{Case, SERVER_SETTINGS, Step};
+use super::test_host::{TestHost, hear, hear_unchanged, play_acts};
 use desk::version::VERSION;
 use std::alloc::Global;
 use std::process::Abort;
@@ -14,7 +14,7 @@ use std::test::Fail;
 /// The papers of a keying, as a file.
 const PAPERS: &[u8] = b"paper,1,2,3\n1,1,2,\n2,,,1\n";
 
-/// Orders that are handed over.
+/// Orders that are sent.
 const STATUS: &[&str] = &["DB", "status", "7"];
 
 const IMPORT: &[&str] = &["DB", "import-keying", "9", "12", "1", "FILE", "--id", "k1"];
@@ -37,15 +37,15 @@ const JUDGE: &[&str] = &["DB", "judge", "12", "1", "maybe", "--id", "j1"];
 
 const ELSEWHERE: &[&str] = &["DB", "status", "8"];
 
-/// The files that go with them.
+/// The files that are sent with them.
 const KEYED_FILE: &[(&str, &[u8])] = &[("FILE", PAPERS)];
 
 const SCRIPTED: &[(&str, &[u8])] = &[("SCRIPT", LINES), ("FILE", PAPERS)];
 
-/// What is printed of them.
+/// Their output.
 const IMPORTED: &[&str] = &["batch 12 round 1 keyed", "\n"];
 
-/// An order, the file for which it is given, and the program that gives it.
+/// An order, the file that it is for, and the program that sends it.
 #[derive(Clone, Copy)]
 struct HandedOrder<'a> {
     version: &'a str,
@@ -55,7 +55,7 @@ struct HandedOrder<'a> {
 }
 
 impl<'a> HandedOrder<'a> {
-    /// An order as this program gives it, for the file that is served.
+    /// Returns an order as this program sends it, for the file that is served.
     fn of(words: &'a [&'a str]) -> HandedOrder<'a> {
         HandedOrder {
             version: VERSION,
@@ -65,7 +65,7 @@ impl<'a> HandedOrder<'a> {
         }
     }
 
-    /// Its message, spelled here byte by byte.
+    /// Returns its message, built here byte by byte.
     fn message(&self, alloc: Global) -> Result<Vec<u8>, Fail> {
         let mut spelling = Vec::new(alloc);
         put_string(&mut spelling, self.version.as_bytes())?;
@@ -89,7 +89,7 @@ impl<'a> HandedOrder<'a> {
     }
 }
 
-/// Puts a number as four bytes.
+/// Appends a number as four bytes.
 fn put_count(out: &mut Vec<u8>, count: usize) -> Result<(), Fail> {
     let Ok(count) = u32::try_from(count) else {
         return Err(Fail::from("no count of four bytes"));
@@ -97,19 +97,19 @@ fn put_count(out: &mut Vec<u8>, count: usize) -> Result<(), Fail> {
     Ok(out.extend_from_slice(&count.to_be_bytes())?)
 }
 
-/// Puts how many bytes there are, and the bytes.
+/// Appends the number of bytes, and the bytes.
 fn put_string(out: &mut Vec<u8>, bytes: &[u8]) -> Result<(), Fail> {
     put_count(out, bytes.len())?;
     Ok(out.extend_from_slice(bytes)?)
 }
 
-/// Appends a frame of a kind, spelled here byte by byte.
+/// Appends a frame of a kind, built here byte by byte.
 fn put_frame(out: &mut Vec<u8>, kind: u8, bytes: &[u8]) -> Result<(), Fail> {
     out.push(kind)?;
     put_string(out, bytes)
 }
 
-/// What an order prints in frames: each of these, then what goes to the error output, and at the end the status.
+/// Returns the output of an order in frames: each of these texts, then the text of the error output, and at the end the status.
 fn frames(alloc: Global, told: &[&str], status: u8, err: &str) -> Result<String, Fail> {
     let mut bytes = Vec::new(alloc);
     for text in told {
@@ -122,7 +122,7 @@ fn frames(alloc: Global, told: &[&str], status: u8, err: &str) -> Result<String,
     Ok(String::from_utf8(bytes)?)
 }
 
-/// A step in which orders come at once, and get this.
+/// Returns a step in which orders arrive at the same time, with their output.
 fn told_of<'a>(orders: &'a [Option<TestClient<'a>>], told: &'a str) -> Case<'a> {
     let evening = Evening {
         connections: Some(0),
@@ -131,29 +131,29 @@ fn told_of<'a>(orders: &'a [Option<TestClient<'a>>], told: &'a str) -> Case<'a> 
     (Step::Serve(evening), (0, told, "Ok(())"))
 }
 
-/// Orders come at once, and get this.
-fn are_told<'a, M: Machine + Drop>(
+/// Orders arrive at the same time, and have this output.
+fn are_told<'a, M: TestHost + Drop>(
     rt: &(impl Abort + AllocGlobal),
-    machine: M,
+    host: M,
     orders: &'a [Option<TestClient<'a>>],
     told: &'a str,
 ) -> Result<M, Fail> {
-    hear(rt, machine, &[told_of(orders, told)])
+    hear(rt, host, &[told_of(orders, told)])
 }
 
 /// The same, and they change nothing.
-fn are_told_unchanged<'a, M: Machine + Drop>(
+fn are_told_unchanged<'a, M: TestHost + Drop>(
     rt: &(impl Abort + AllocGlobal),
-    machine: M,
+    host: M,
     orders: &'a [Option<TestClient<'a>>],
     told: &'a str,
 ) -> Result<M, Fail> {
-    hear_unchanged(rt, machine, &[told_of(orders, told)])
+    hear_unchanged(rt, host, &[told_of(orders, told)])
 }
 
-/// Orders that aren't followed, each with its status and why: of another program, for another file, which no office does while it
-/// is served, and those that aren't understood. They change nothing.
-fn are_refused<M: Machine + Drop>(rt: &(impl Abort + AllocGlobal), machine: M) -> Result<M, Fail> {
+/// Orders that are refused, each with its status and the reason: from another program, for another file, not possible while the
+/// office is served, or invalid. They change nothing.
+fn are_refused<M: TestHost + Drop>(rt: &(impl Abort + AllocGlobal), host: M) -> Result<M, Fail> {
     let alloc = rt.alloc();
     let older = HandedOrder {
         version: "1.2.0-older",
@@ -202,16 +202,16 @@ fn are_refused<M: Machine + Drop>(rt: &(impl Abort + AllocGlobal), machine: M) -
         .iter()
         .map(|message| Some(TestClient::order(message)))
         .collect(alloc)?;
-    are_told_unchanged(rt, machine, &orders, told.as_str())
+    are_told_unchanged(rt, host, &orders, told.as_str())
 }
 
-/// Messages that are no orders. One that is too long and one that ends too early are
-/// let go; one that spells nothing gets what a file gets that another program holds.
-fn are_none<M: Machine + Drop>(rt: &(impl Abort + AllocGlobal), machine: M) -> Result<M, Fail> {
+/// Messages that aren't orders. If one is too long or ends too early, its connection is closed; one that can't be decoded gets the
+/// fault of a file that another program has locked.
+fn are_none<M: TestHost + Drop>(rt: &(impl Abort + AllocGlobal), host: M) -> Result<M, Fail> {
     let mut told = frames(rt.alloc(), &[], 3, "fault 102: store\n")?;
     told.push_str("\n\n")?;
     let early = TestClient {
-        ends: true,
+        closes_after_sending: true,
         ..TestClient::order(b"\0\0\0\0\0\0\0\x04abc")
     };
     let orders = [
@@ -219,18 +219,18 @@ fn are_none<M: Machine + Drop>(rt: &(impl Abort + AllocGlobal), machine: M) -> R
         Some(TestClient::order(b"\0\0\0\0\x7f\0\0\0abc")),
         Some(early),
     ];
-    are_told_unchanged(rt, machine, &orders, told.as_str())
+    are_told_unchanged(rt, host, &orders, told.as_str())
 }
 
-/// An order, a client's keying, and an order that comes a few bytes at a time.
+/// An order, a client's keying, and an order that arrives a few bytes at a time.
 fn around_a_keying<'a>(
     before: &'a [u8],
     keying: &'a [u8],
     behind: &'a [u8],
 ) -> [Option<TestClient<'a>>; 3] {
     let slow = TestClient {
-        at_once: 3,
-        sips: 3,
+        bytes_per_read: 3,
+        bytes_per_write: 3,
         ..TestClient::order(behind)
     };
     [
@@ -240,10 +240,10 @@ fn around_a_keying<'a>(
     ]
 }
 
-/// One client comes, and orders beside him, and they get this.
-fn with_one_client<'a, M: Machine + Drop>(
+/// One client connects, and orders arrive along with it; they get this.
+fn with_one_client<'a, M: TestHost + Drop>(
     rt: &(impl Abort + AllocGlobal),
-    machine: M,
+    host: M,
     clients: &'a [Option<TestClient<'a>>],
     told: &'a str,
 ) -> Result<M, Fail> {
@@ -252,14 +252,14 @@ fn with_one_client<'a, M: Machine + Drop>(
         ..Evening::of(clients)
     };
     let step = Step::Serve(evening);
-    hear(rt, machine, &[(step, (0, told, "Ok(())"))])
+    hear(rt, host, &[(step, (0, told, "Ok(())"))])
 }
 
-/// Orders have their turns among clients: one before a keying and one behind it
-/// print how the ward stood. They come a few bytes at a time, and don't count.
-fn come_among_clients<M: Machine + Drop>(
+/// Orders are processed in turn with clients: one before a keying and one after it print the ward's status. They arrive a few bytes
+/// at a time, and don't count as clients.
+fn come_among_clients<M: TestHost + Drop>(
     rt: &(impl Abort + AllocGlobal),
-    machine: M,
+    host: M,
 ) -> Result<M, Fail> {
     let alloc = rt.alloc();
     let status = HandedOrder::of(STATUS).message(alloc)?;
@@ -278,14 +278,11 @@ fn come_among_clients<M: Machine + Drop>(
     out.push_str(KEYED)?;
     out.push('\n')?;
     out.push_str(keyed.as_str())?;
-    with_one_client(rt, machine, &clients, out.as_str())
+    with_one_client(rt, host, &clients, out.as_str())
 }
 
-/// A script has one turn. Its refusal is printed behind the number of its line, and what was done before stands.
-fn follow_scripts<M: Machine + Drop>(
-    rt: &(impl Abort + AllocGlobal),
-    machine: M,
-) -> Result<M, Fail> {
+/// A script is processed as a whole. A refusal is printed after the number of its line, and earlier lines remain done.
+fn follow_scripts<M: TestHost + Drop>(rt: &(impl Abort + AllocGlobal), host: M) -> Result<M, Fail> {
     let given = HandedOrder {
         files: SCRIPTED,
         ..HandedOrder::of(SCRIPT)
@@ -293,13 +290,14 @@ fn follow_scripts<M: Machine + Drop>(
     let message = given.message(rt.alloc())?;
     let told = frames(rt.alloc(), IMPORTED, 1, "line 2: refused 9: wrong phase\n")?;
     let orders = [Some(TestClient::order(message.as_slice()))];
-    are_told(rt, machine, &orders, told.as_str())
+    are_told(rt, host, &orders, told.as_str())
 }
 
-/// The lines of orders break at each byte that they take. The keying is kept from the first of them on, and gets its reply again.
-fn break_at_each_byte<M: Machine + Drop>(
+/// The connections of orders break at each byte that they accept. The keying is stored by the first of them, and the others get the
+/// same reply.
+fn break_at_each_byte<M: TestHost + Drop>(
     rt: &(impl Abort + AllocGlobal),
-    machine: M,
+    host: M,
 ) -> Result<M, Fail> {
     let alloc = rt.alloc();
     let given = HandedOrder {
@@ -320,18 +318,18 @@ fn break_at_each_byte<M: Machine + Drop>(
     }
     orders.push(Some(TestClient::order(message.as_slice())))?;
     told.push_str(whole.as_str())?;
-    are_told(rt, machine, &orders, told.as_str())
+    are_told(rt, host, &orders, told.as_str())
 }
 
-fn are_handed_over<M: Machine + Drop>(rt: &(impl Abort + AllocGlobal)) -> Result<(), Fail> {
-    let machine: M = play_acts(rt, BEGUN)?;
-    let machine = are_refused(rt, machine)?;
-    let machine = are_none(rt, machine)?;
-    come_among_clients(rt, machine)?;
-    let machine: M = play_acts(rt, BEGUN)?;
-    follow_scripts(rt, machine)?;
-    let machine: M = play_acts(rt, BEGUN)?;
-    break_at_each_byte(rt, machine)?;
+fn are_handed_over<M: TestHost + Drop>(rt: &(impl Abort + AllocGlobal)) -> Result<(), Fail> {
+    let host: M = play_acts(rt, BEGUN)?;
+    let host = are_refused(rt, host)?;
+    let host = are_none(rt, host)?;
+    come_among_clients(rt, host)?;
+    let host: M = play_acts(rt, BEGUN)?;
+    follow_scripts(rt, host)?;
+    let host: M = play_acts(rt, BEGUN)?;
+    break_at_each_byte(rt, host)?;
     Ok(())
 }
 

@@ -1,16 +1,16 @@
-//! Outputs that fail: a beginning is taken, what was answered stands, nothing more is sent, and the same order given again is
-//! printed whole. (That it is so at every byte is proved; here it is seen at one of each kind.)
+//! Outputs that fail: a prefix is accepted, acknowledged requests remain done, no more are sent, and the same order, repeated, has
+//! its whole output. (That this holds at every byte is proved; here is one case of each kind.)
 
 use super::disks::Disks;
-use super::machine::{Act, Machine, hear, play_acts};
 use super::steps::{Rooms, Step};
+use super::test_host::{Act, TestHost, hear, play_acts};
 use std::process::Abort;
 use std::test::Fail;
 
-/// What is printed of an output that fails.
+/// The fault of an output that fails.
 const BROKEN: &str = "fault 107: socket or output\n";
 
-/// Outputs of which the one takes no more than so many bytes of what is printed.
+/// Returns outputs that accept no more than so many bytes each.
 fn rooms(out: usize, err: usize) -> Rooms {
     Rooms { out, err }
 }
@@ -23,16 +23,16 @@ const IMPORT: &[&str] = &["DB", "import-candidates", "FILE", "--id", "c"];
 
 const NAMES: &[u8] = b"ward,candidate,name\n7,1,Ann\n7,2,Bob\n";
 
-/// What is printed of two candidates.
+/// The output for two candidates.
 const BOTH: &str = "candidate 1 of ward 7 added\ncandidate 2 of ward 7 added\n";
 
-/// How a ward stands where one of them was added.
+/// The status of the ward after one of them was added.
 const ONE: &str =
     "ward 7 nominations: 1 candidates, 0 batches, 0 taken, 0 differing, 0 doubtful open, 0 stages\n";
 
 const STATUS: &[&str] = &["DB", "status", "7"];
 
-fn has_taken_a_beginning<M: Machine + Drop>(rt: &(impl Abort + AllocGlobal)) -> Result<(), Fail> {
+fn has_taken_a_beginning<M: TestHost + Drop>(rt: &(impl Abort + AllocGlobal)) -> Result<(), Fail> {
     let every = usize::MAX;
     let cases = [
         // A reply: the ward is added.
@@ -63,8 +63,8 @@ fn has_taken_a_beginning<M: Machine + Drop>(rt: &(impl Abort + AllocGlobal)) -> 
         // An order that needs a socket.
         (Step::Order(&["DB", "serve", "8080", "2"]), (3, "", BROKEN)),
     ];
-    let machine: M = play_acts(rt, &[Act::Typed("$ init\noffice ready\n")])?;
-    hear(rt, machine, &cases)?;
+    let host: M = play_acts(rt, &[Act::Typed("$ init\noffice ready\n")])?;
+    hear(rt, host, &cases)?;
     Ok(())
 }
 

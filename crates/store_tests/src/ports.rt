@@ -3,8 +3,8 @@
 use super::begun::{BAD_REQUEST, BEGUN, KEYED, KEYING};
 use super::clients::{Jumping, Port};
 use super::disks::Disks;
-use super::machine::{Machine, hear, play_acts};
 use super::steps::Step;
+use super::test_host::{TestHost, hear, play_acts};
 use mio::net::TcpListener;
 use sockets::{Loopback, Poller, SocketNetwork};
 use std::cell::RefCell;
@@ -13,14 +13,14 @@ use std::net::{Ipv4Addr, SocketAddr, TcpStream};
 use std::process::Abort;
 use std::test::Fail;
 
-/// A client that has sent this, and stays.
+/// Returns a client that has sent this, and stays connected.
 fn connected(rt: &HostRuntime, office: SocketAddr, sends: &str) -> Result<TcpStream, Fail> {
     let mut stream = TcpStream::connect(rt, office)?;
     stream.write_all(sends.as_bytes())?;
     Ok(stream)
 }
 
-/// What a client is sent.
+/// Returns the response that a client gets.
 fn received(rt: &HostRuntime, mut stream: TcpStream) -> Result<String, Fail> {
     let mut text = Vec::new(rt.alloc());
     stream.read_to_end(&mut text)?;
@@ -28,13 +28,13 @@ fn received(rt: &HostRuntime, mut stream: TcpStream) -> Result<String, Fail> {
 }
 
 /// Serves the clients of a port.
-fn serve<M: Machine + Drop>(rt: &(impl Abort + AllocGlobal), port: &Port) -> Result<(), Fail> {
-    let machine: M = play_acts(rt, BEGUN)?;
-    hear(rt, machine, &[(Step::Listen(port), (0, "Ok(())", ""))])?;
+fn serve<M: TestHost + Drop>(rt: &(impl Abort + AllocGlobal), port: &Port) -> Result<(), Fail> {
+    let host: M = play_acts(rt, BEGUN)?;
+    hear(rt, host, &[(Step::Listen(port), (0, "Ok(())", ""))])?;
     Ok(())
 }
 
-/// The first of three is silent. He holds up nobody, and is let go.
+/// The first of three clients is silent. It delays no other, and is closed.
 #[test]
 fn connections_are_answered_side_by_side(rt: HostRuntime) -> Result<(), Fail> {
     let listener = TcpListener::bind(&rt, SocketAddr::from((Ipv4Addr::LOCALHOST, 0)))?;

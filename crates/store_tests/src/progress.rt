@@ -1,4 +1,4 @@
-//! How far a long output has come is printed, and the output is as it would be without.
+//! The progress of a long output is printed, and doesn't change the output.
 
 use super::clients::LimitedWriter;
 use desk::ProgressSink;

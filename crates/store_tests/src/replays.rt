@@ -1,17 +1,17 @@
-//! Scripts over files that stop: what is kept is a beginning of their requests. (What else comes of them is played in
+//! Scripts on files that stop: a prefix of their requests is stored. (Their other outcomes are played in
 //! examples/transcripts/replays.txt.)
 
 use super::disks::Disks;
-use super::machine::{Act, File, Machine, hear, play_acts, rows};
 use super::steps::{Case, STOPPED, Step, TestFiles};
 use super::stops::CALLS;
+use super::test_host::{Act, File, TestHost, hear, play_acts, rows};
 use super::transcripts::read;
 use std::process::Abort;
 use std::test::Fail;
 
 const MADE: &[Act] = &[Act::Typed("$ init\noffice ready\n")];
 
-/// The requests of a script that is stopped. Each order has one more than those before it.
+/// The requests of a script that is stopped, one order at a time.
 const REQUESTS: &str = "$ ward 7 1 Harbour --id w1
 ward 7 added
 $ import-candidates FILE --id c
@@ -40,7 +40,7 @@ const STOPPED_SHELF: TestFiles<'static> = &[
     ("clerk.csv", b"paper,1,2\n1,1,2\n"),
 ];
 
-/// The script, and the same with a line in it that is refused.
+/// The script, and the same with a line that is refused.
 const STOPPED_SCRIPTS: [Case<'static>; 2] = [
     (
         Step::Script(
@@ -84,32 +84,33 @@ candidate 2 of ward 7 added
     ),
 ];
 
-/// The rows behind each beginning of so many requests, the first of none.
-fn beginnings<M: Machine + Drop>(
+/// Returns the rows after each prefix of the requests, beginning with the empty one.
+fn beginnings<M: TestHost + Drop>(
     rt: &(impl Abort + AllocGlobal),
-    machine: M,
+    host: M,
     requests: usize,
 ) -> Result<Vec<String>, Fail> {
-    let (none, mut machine) = rows(rt.alloc(), machine)?;
+    let (none, mut host) = rows(rt.alloc(), host)?;
     let mut all = vec![in rt.alloc(); none]?;
     for typed in read(rt.alloc(), REQUESTS)?.iter().take(requests) {
-        let (found, behind) = rows(rt.alloc(), hear(rt, machine, &[typed.case()])?)?;
+        let (found, behind) = rows(rt.alloc(), hear(rt, host, &[typed.case()])?)?;
         all.push(found)?;
-        machine = behind;
+        host = behind;
     }
     Ok(all)
 }
 
-/// Sends a script over disks of which one stops after so many calls, restarts them, and judges what is found: the rows behind the requests
-/// that got replies, or behind one more. Sent again, it is answered whole, and ends as without the stop. Answers whether it met no stop.
-fn stop_script<M: Machine + Drop>(
+/// Runs a script on disks of which one stops after so many calls, restarts them, and checks the rows: those after the acknowledged
+/// requests, or after one more. Repeated, the script has its whole output, and the rows are those without the stop. Returns whether
+/// there was no stop.
+fn stop_script<M: TestHost + Drop>(
     rt: &(impl Abort + AllocGlobal),
-    machine: M,
+    host: M,
     case: Case<'_>,
     beginnings: &[String],
 ) -> Result<bool, Fail> {
     let (script, whole) = case;
-    let (said, left) = machine.play(rt.alloc(), &[script])?;
+    let (said, left) = host.play(rt.alloc(), &[script])?;
     let told = match said.as_slice() {
         [] => STOPPED,
         [said] => said.told(),
@@ -134,17 +135,17 @@ fn stop_script<M: Machine + Drop>(
 }
 
 /// Stops each of the scripts at each call of one file.
-fn stop_scripts<M: Machine + Drop>(
+fn stop_scripts<M: TestHost + Drop>(
     rt: &(impl Abort + AllocGlobal),
     file: File,
 ) -> Result<(), Fail> {
     for case in STOPPED_SCRIPTS {
-        let machine: M = play_acts(rt, MADE)?;
-        let copy = machine.copied(rt.alloc(), file, u64::MAX)?;
+        let host: M = play_acts(rt, MADE)?;
+        let copy = host.copied(rt.alloc(), file, u64::MAX)?;
         let beginnings = beginnings(rt, copy, case.1.1.lines().count())?;
         let mut ended = false;
         for calls in 0..CALLS {
-            let stopping = machine.copied(rt.alloc(), file, calls)?;
+            let stopping = host.copied(rt.alloc(), file, calls)?;
             if stop_script(rt, stopping, case, &beginnings)? {
                 ended = true;
                 break;

@@ -1,4 +1,4 @@
-//! Steps over an opened database, and what each prints. Nothing here names a store.
+//! Steps on an open database, and the output of each. Nothing here names a store.
 
 ghost use Rattle.std.specs.Prelude.{◌≡◌, ◌+◌, ◌-◌, ◌^◌, ◌<◌, Some, true};
 
@@ -9,7 +9,7 @@ use desk::perform::perform;
 use desk::{Failure, Folder, Order, copy_office, order, tell_failure, tell_words};
 use office::{Answer, Office, Run, Stop, Work};
 use register::Request;
-use server::{Destination, FileNumbers, ServeError, ServerSettings, SideJobs, serve_connections};
+use server::{Destination, FileNumbers, ServeError, ServedFile, ServerSettings, serve_connections};
 use sqlite::{Alter, Connection};
 use std::alloc::{AllocError, Global};
 use std::test::Fail;
@@ -20,25 +20,24 @@ use wire::{Gate, HttpSettings, Page};
 /// One step of a script.
 #[derive(Clone, Copy, Debug)]
 pub enum Step<'a> {
-    /// The order that the words are. A file that it names isn't there.
+    /// An order, by its words. The file that it names doesn't exist.
     Order(&'a [&'a str]),
-    /// The same, where the file that it names has these bytes.
+    /// The same, and the file that it names has these bytes.
     FileOrder(&'a [&'a str], &'a [u8]),
-    /// The same of a script, where each file that it names has the bytes beside its path, and no other is there.
+    /// A script; each file that it names has the bytes next to its path, and no other file exists.
     Script(&'a [u8], TestFiles<'a>),
-    /// The same, where each of the two outputs takes no more than so many bytes.
+    /// The same, and each of the two outputs accepts no more than so many bytes.
     BreakingOrder(&'a [&'a str], &'a [u8], Rooms),
-    /// A new office, and a list of requests handed to it; their answers stand as the output.
+    /// A list of requests to a new office; their answers are the output.
     List(&'a [Request]),
-    /// The office opened, and asked for the work of a clerk; what it answers stands as the output.
+    /// A request to the opened office for the work of a clerk; the answer is the output.
     Work(u32),
-    /// The store opened, and asked for a ward's papers and its count; what it reads stands as the output.
+    /// Reading a ward's papers and its count from the opened store; they are the output.
     Loads(u32),
-    /// The office opened, and clients served, of whom each may be let in or not, and whose lines may break. What each took stands
-    /// as the output, behind a line feed where somebody came before him. What came of serving stands as the error output.
+    /// Serving clients of the opened office; each may be accepted or not, and their connections may break. The responses are the
+    /// output, with a line feed between each two. The outcome of serving is the error output.
     Serve(Evening<'a>),
-    /// The office opened, and clients served at a port, while the clock jumps by more than half a minute; how that ended
-    /// stands as the output.
+    /// Serving clients of the opened office at a port, while the clock jumps by more than half a minute; the outcome is the output.
     Listen(&'a Port),
     /// Statements, whatever is in the database.
     Change(&'a str),
@@ -49,7 +48,7 @@ pub enum Step<'a> {
 /// Files in memory: the path and the bytes of each.
 pub type TestFiles<'a> = &'a [(&'a str, &'a [u8])];
 
-/// What opens them, and the file that the words name.
+/// A folder of these files, and the file that the words name.
 #[derive(Clone, Copy)]
 struct OpenTestFiles<'a> {
     named: Option<&'a str>,
@@ -76,7 +75,7 @@ impl<'a> Folder for OpenTestFiles<'a> {
 /// The words that send a script.
 const REPLAY: &[&str] = &["DB", "replay", "FILE"];
 
-/// How many bytes the output takes before it fails, and how many the error output.
+/// The number of bytes that the output accepts before it fails, and the same for the error output.
 #[derive(Clone, Copy, Debug)]
 pub struct Rooms {
     pub out: usize,
@@ -92,13 +91,13 @@ const AMPLE: Rooms = Rooms {
 /// A status, and what was printed to the output and the error output.
 pub type StepExpected<'a> = (u8, &'a str, &'a str);
 
-/// A step, and what must come of it.
+/// A step, and its expected result.
 pub type Case<'a> = (Step<'a>, StepExpected<'a>);
 
-/// What an order prints where the store stopped, and never that memory was wanting.
+/// The output of an order if the store stopped; it never reports that an allocation failed.
 pub const STOPPED: StepExpected<'static> = (3, "", "fault 102: store\n");
 
-/// What a client gets then.
+/// The response to a client then.
 pub const STOPPED_ANSWER: &str =
     "HTTP/1.1 503 Service Unavailable\r\nContent-Type: application/json\r\nContent-Length: 13\r\nConnection: close\r\n\r\n{\"fault\":102}";
 
@@ -119,12 +118,12 @@ impl StepPrinted {
         }
     }
 
-    /// It ended well.
+    /// Returns whether its status is 0.
     pub fn is_done(&self) -> bool {
         self.status == 0
     }
 
-    /// An order reported that the store stopped, or an answer over HTTP did.
+    /// Returns whether an order or a response over HTTP reported that the store stopped.
     pub fn is_stopped(&self) -> bool {
         self.told() == STOPPED || self.out.as_str() == STOPPED_ANSWER
     }
@@ -134,7 +133,7 @@ impl StepPrinted {
     }
 }
 
-/// Does what the words ask over a file, and gives the status.
+/// Performs an order with a file, and returns the status.
 fn give<S: Alter + Drop, O: Sink, E: Sink>(
     alloc: Global,
     conn: Connection<S>,
@@ -192,7 +191,7 @@ fn list<S: Alter + Drop>(
     Ok((StepPrinted::quietly(alloc, answered(alloc, &run)?), conn))
 }
 
-/// A line for each batch of a clerk's work.
+/// Returns one line per batch of a clerk's work.
 fn work_lines(alloc: Global, work: &[Work]) -> Result<String, AllocError> {
     let mut text = String::new(alloc);
     for one in work {
@@ -230,7 +229,7 @@ fn work<S: Alter + Drop>(
     Ok((StepPrinted::quietly(alloc, text), conn))
 }
 
-/// The file that is served, no proxy, and no codes; and nothing beside the office.
+/// The settings for the file that is served: no proxy, no codes, and no copies or journals.
 pub const SERVER_SETTINGS: ServerSettings<'static, Unaided> = ServerSettings {
     http: HttpSettings {
         origin: None,
@@ -240,10 +239,10 @@ pub const SERVER_SETTINGS: ServerSettings<'static, Unaided> = ServerSettings {
         device: 7,
         inode: 12,
     },
-    side_jobs: &Unaided,
+    served_file: &Unaided,
 };
 
-/// The codes of an evening, if they are asked for; and the wrong ones that came before, which are none.
+/// Returns the codes of an evening, if it has any; no wrong code was sent before.
 fn codes_of(alloc: Global, evening: Evening<'_>) -> Result<Option<Codes>, Fail> {
     let Some(text) = evening.codes else {
         return Ok(None);
@@ -254,7 +253,7 @@ fn codes_of(alloc: Global, evening: Evening<'_>) -> Result<Option<Codes>, Fail> 
     Ok(Some(held))
 }
 
-/// What the office is served by, with these codes.
+/// Returns the settings of a server with these codes.
 fn terms_of(held: &Option<Codes>) -> ServerSettings<'_, Unaided> {
     let gate = match held {
         Some(codes) => Some(Gate {
@@ -263,21 +262,25 @@ fn terms_of(held: &Option<Codes>) -> ServerSettings<'_, Unaided> {
                 text: "<p>keying</p>",
                 policy: "default-src 'none'",
             },
+            console: Page {
+                text: "<p>console</p>",
+                policy: "default-src 'self'",
+            },
         }),
         None => None,
     };
     ServerSettings {
         http: HttpSettings { origin: None, gate },
         file: SERVER_SETTINGS.file,
-        side_jobs: SERVER_SETTINGS.side_jobs,
+        served_file: SERVER_SETTINGS.served_file,
     }
 }
 
-/// An office that has nothing beside it: no copy and no journal can be made.
+/// A file next to which nothing can be made: no copy, and no journal.
 #[derive(Clone, Copy)]
 pub struct Unaided;
 
-impl SideJobs for Unaided {
+impl ServedFile for Unaided {
     ghost whole = { λ _. Some true };
 
     fn is_whole(&self) -> bool {
@@ -304,7 +307,7 @@ impl SideJobs for Unaided {
     }
 }
 
-/// Serves the clients of an evening: all that they took, and what came of it.
+/// Serves the clients of an evening, and returns their responses and the outcome.
 fn serve<S: Alter + Drop>(
     alloc: Global,
     conn: Connection<S>,
@@ -376,7 +379,7 @@ fn listen<S: Alter + Drop>(
 
 const TABLES: &str = "SELECT name FROM sqlite_schema WHERE type = 'table' ORDER BY name";
 
-/// Every row of every table, in the order of the tables' names.
+/// Returns every row of every table, in the order of the tables' names.
 fn contents<S: Alter + Drop>(alloc: Global, conn: &mut Connection<S>) -> Result<String, Fail> {
     let mut text = String::new(alloc);
     for found in conn.query_all(TABLES, &[])? {
@@ -409,7 +412,7 @@ fn ordered<S: Alter + Drop>(
     Ok((StepPrinted { status, out, err }, conn))
 }
 
-/// Copies the office of a connection over another.
+/// Copies the office of a connection to another.
 pub fn copied<S: Alter + Drop, T: Alter + Drop>(
     alloc: Global,
     conn: &mut Connection<S>,
@@ -454,7 +457,7 @@ fn done<S: Alter + Drop>(
     }
 }
 
-/// Does the steps in turn, up to the first that reports a stop.
+/// Runs the steps in turn, up to the first that reports a stop.
 pub fn play<S: Alter + Drop>(
     alloc: Global,
     mut conn: Connection<S>,

@@ -1,13 +1,14 @@
-//! A store that stops at each of its calls in turn, while one order is done. What was there before is found again, or all that the order makes,
-//! and the same order given again ends as if nothing had happened. A client behind one who met the stop gets the answer that the office is closed.
+//! A store that stops at each of its calls in turn during one order. After a restart it has either the old rows, or all changes of
+//! the order; the same order, repeated, ends as if nothing had happened. A client after the one whose request met the stop is told
+//! that the office is closed.
 
 mod counts;
 
 use super::begun::{BEGUN, KEYED, KEYING, NOMINATED};
 use super::clients::{Evening, TestClient};
 use super::disks::Disks;
-use super::machine::{Act, File, Machine, hear, hear_unchanged, play_acts, rows};
 use super::steps::{Case, STOPPED, STOPPED_ANSWER, Step, StepExpected};
+use super::test_host::{Act, File, TestHost, hear, hear_unchanged, play_acts, rows};
 use super::transcripts::read;
 use std::process::Abort;
 use std::test::Fail;
@@ -18,13 +19,13 @@ pub const CALLS: u64 = 2000;
 /// How many papers the largest batch has.
 const PAPERS: u32 = 500;
 
-/// What `init` prints where the office is there already.
+/// The output of `init` for an existing office.
 const MADE: StepExpected<'static> = (3, "", "fault 105: wrong database\n");
 
-/// What `migrate` prints where the office is at this version.
+/// The output of `migrate` for an office of this version.
 const MIGRATED: StepExpected<'static> = (0, "office is at version 2\n", "");
 
-/// What an order prints that is given again, where all that it makes was found.
+/// Returns the output of an order that is repeated after all of its changes were found.
 fn told_again<'a>(case: Case<'a>, whole: bool) -> StepExpected<'a> {
     match case {
         (Step::Order(["DB", "init"]), _) if whole => MADE,
@@ -33,8 +34,7 @@ fn told_again<'a>(case: Case<'a>, whole: bool) -> StepExpected<'a> {
     }
 }
 
-/// What is found where an order wasn't done, and where it was: the rows of every table, and the ward's sheet, if it has
-/// one then.
+/// The rows of every table before an order and after it, and the ward's sheet after it, if there is one.
 #[derive(Drop)]
 struct Sides {
     before: String,
@@ -44,18 +44,18 @@ struct Sides {
 
 const SHEET: Step<'static> = Step::Order(&["DB", "sheet", "7"]);
 
-/// Does an order over disks that last: both sides of it, and the disks behind it. Sent three times more it leaves the
-/// rows as they are.
-fn sides_of<M: Machine + Drop>(
+/// Performs an order on disks that don't stop, and returns the rows before and after it, and the disks. Repeated three times, it
+/// leaves the rows unchanged.
+fn sides_of<M: TestHost + Drop>(
     rt: &(impl Abort + AllocGlobal),
-    machine: M,
+    host: M,
     case: Case<'_>,
 ) -> Result<(Sides, M), Fail> {
-    let (before, machine) = rows(rt.alloc(), machine)?;
-    let (after, machine) = rows(rt.alloc(), hear(rt, machine, &[case])?)?;
+    let (before, host) = rows(rt.alloc(), host)?;
+    let (after, host) = rows(rt.alloc(), hear(rt, host, &[case])?)?;
     let again = (case.0, told_again(case, true));
-    let machine = hear_unchanged(rt, machine, &[again, again, again])?;
-    let (said, machine) = machine.play(rt.alloc(), &[SHEET])?;
+    let host = hear_unchanged(rt, host, &[again, again, again])?;
+    let (said, host) = host.play(rt.alloc(), &[SHEET])?;
     let sheet = match said.as_slice() {
         [said] if said.is_done() => Some(String::from_str(rt.alloc(), said.told().1)?),
         _ => None,
@@ -65,17 +65,17 @@ fn sides_of<M: Machine + Drop>(
         after,
         sheet,
     };
-    Ok((sides, machine))
+    Ok((sides, host))
 }
 
-/// Does an order over disks of which one stops after so many calls: whether it was answered, and the disks.
-fn stop_under<M: Machine + Drop>(
+/// Performs an order on disks of which one stops after so many calls. Returns whether it was acknowledged, and the disks.
+fn stop_under<M: TestHost + Drop>(
     rt: &(impl Abort + AllocGlobal),
-    machine: M,
+    host: M,
     case: Case<'_>,
 ) -> Result<(bool, M), Fail> {
     let (order, reply) = case;
-    let (said, left) = machine.play(rt.alloc(), &[order])?;
+    let (said, left) = host.play(rt.alloc(), &[order])?;
     let answered = match said.as_slice() {
         [] => false,
         [said] if said.is_stopped() => false,
@@ -88,17 +88,17 @@ fn stop_under<M: Machine + Drop>(
     Ok((answered, left))
 }
 
-/// Does an order over disks of which one stops after so many calls, restarts them, and judges what is
-/// found: the rows before it, or those after it if it was answered or may have been. Sent again it ends as without
-/// the stop, and so does the ward's sheet. Answers whether the order was answered.
-fn stop_once<M: Machine + Drop>(
+/// Performs an order on disks of which one stops after so many calls, restarts them, and checks the rows: those before it, or those
+/// after it, which alone are allowed if it was acknowledged. Repeated, it ends as without the stop, and the ward's sheet is the
+/// same. Returns whether the order was acknowledged.
+fn stop_once<M: TestHost + Drop>(
     rt: &(impl Abort + AllocGlobal),
-    machine: M,
+    host: M,
     case: Case<'_>,
     sides: &Sides,
 ) -> Result<bool, Fail> {
     let (order, _) = case;
-    let (answered, left) = stop_under(rt, machine, case)?;
+    let (answered, left) = stop_under(rt, host, case)?;
     let again = [Step::Contents, order, Step::Contents, SHEET];
     let steps = if sides.sheet.is_some() { 4 } else { 3 };
     let (said, _) = left.restarted().play(rt.alloc(), &again[..steps])?;
@@ -132,17 +132,17 @@ fn stop_once<M: Machine + Drop>(
     Ok(answered)
 }
 
-/// Stops an order at each call of one file, until a run meets no stop. Gives the disks after the order.
-fn stop_each<M: Machine + Drop>(
+/// Stops an order at each call of one file, until a run has no stop. Returns the disks after the order.
+fn stop_each<M: TestHost + Drop>(
     rt: &(impl Abort + AllocGlobal),
-    machine: M,
+    host: M,
     case: Case<'_>,
     file: File,
 ) -> Result<M, Fail> {
-    let lasting = machine.copied(rt.alloc(), file, u64::MAX)?;
+    let lasting = host.copied(rt.alloc(), file, u64::MAX)?;
     let (sides, done) = sides_of(rt, lasting, case)?;
     for calls in 0..CALLS {
-        let stopping = machine.copied(rt.alloc(), file, calls)?;
+        let stopping = host.copied(rt.alloc(), file, calls)?;
         if stop_once(rt, stopping, case, &sides)? {
             return Ok(done);
         }
@@ -150,15 +150,15 @@ fn stop_each<M: Machine + Drop>(
     Err(Fail::from("no run was long enough"))
 }
 
-/// The first orders of an office, over new files.
+/// The first orders of an office, on new files.
 const FIRST: &str = "$ init
 office ready
 $ ward 7 2 Harbour --id w1
 ward 7 added
 ";
 
-/// The orders of one request each from nominations to a batch. (An import of candidates is a request a record, so
-/// a stop may leave some of them.)
+/// The orders of one request each from nominations to a batch. (An import of candidates is one request per record, so a stop may
+/// leave some of them.)
 const TO_BATCH: &str = "$ withdraw 7 3 --id x1
 candidate 3 of ward 7 withdrawn
 $ candidate 7 3 Cy --id c4
@@ -169,7 +169,7 @@ $ batch 12 7 1 4 9 --id b1
 batch 12 added
 ";
 
-/// Those from a batch that is given out to its verdict.
+/// The orders from a batch in keying to its verdict.
 const TO_VERDICT: &str = "$ import-keying 4 12 1 FILE --id k1
 < paper,1,2,3
 < 1,D,,
@@ -195,7 +195,7 @@ $ import-keying 9 12 1 FILE --id k1
 batch 12 round 1 keyed
 ";
 
-/// It is given to a third clerk too, and keyed again.
+/// It gets a third clerk, and a new round.
 const NEW_ROUND: &str = "$ third 12 5 --id t1
 batch 12 third clerk 5
 $ again 12 --id g1
@@ -203,16 +203,19 @@ batch 12 round 2 open
 ";
 
 /// Stops a keying over HTTP at each call of one file.
-fn stop_client<M: Machine + Drop>(rt: &(impl Abort + AllocGlobal), file: File) -> Result<(), Fail> {
+fn stop_client<M: TestHost + Drop>(
+    rt: &(impl Abort + AllocGlobal),
+    file: File,
+) -> Result<(), Fail> {
     let client = [Some(TestClient::whole(KEYING.as_bytes()))];
     let case = (Step::Serve(Evening::of(&client)), (0, KEYED, "Ok(())"));
-    let machine: M = play_acts(rt, BEGUN)?;
-    stop_each(rt, machine, case, file)?;
+    let host: M = play_acts(rt, BEGUN)?;
+    stop_each(rt, host, case, file)?;
     Ok(())
 }
 
 /// Stops the orders of a new round at each call of one file.
-fn stop_new_round<M: Machine + Drop>(
+fn stop_new_round<M: TestHost + Drop>(
     rt: &(impl Abort + AllocGlobal),
     file: File,
 ) -> Result<(), Fail> {
@@ -221,20 +224,20 @@ fn stop_new_round<M: Machine + Drop>(
 }
 
 /// Stops orders, each at each call of one file.
-pub fn stop_orders<M: Machine + Drop>(
+pub fn stop_orders<M: TestHost + Drop>(
     rt: &(impl Abort + AllocGlobal),
     before: &[Act],
     orders: &str,
     file: File,
 ) -> Result<(), Fail> {
-    let mut machine: M = play_acts(rt, before)?;
+    let mut host: M = play_acts(rt, before)?;
     for order in &read(rt.alloc(), orders)? {
-        machine = stop_each(rt, machine, order.case(), file)?;
+        host = stop_each(rt, host, order.case(), file)?;
     }
     Ok(())
 }
 
-// Each test has a minute: the many calls of the log are parted.
+// A test has 60 seconds, so the many calls of the log are split among several.
 #[test]
 fn the_first_orders_stop_whole_at_their_log(rt: HostRuntime) -> Result<(), Fail> {
     stop_orders::<Disks>(&rt, &[], FIRST, File::Log)
@@ -295,26 +298,26 @@ fn a_large_keying_stops_whole(rt: HostRuntime) -> Result<(), Fail> {
     Ok(())
 }
 
-/// What a client of a closed office gets, behind another one.
+/// The response to a second client, of a closed office.
 const CLOSED_ANSWER: &str =
     "\nHTTP/1.1 503 Service Unavailable\r\nContent-Type: application/json\r\nContent-Length: 13\r\nConnection: close\r\n\r\n{\"fault\":104}";
 
-/// Where a store stopped under two clients who key in turn.
+/// What a store's stop does to the keyings of two clients in turn.
 enum StoreStop {
     AtTheOpening,
     AtTheFirst,
     BehindTheFirst,
 }
 
-/// Two clients key over disks whose log stops after so many calls. Where the first
-/// gets the fault of the stop, the second gets the answer that the office is closed.
-fn stop_twice<M: Machine + Drop>(
+/// Two clients key on disks whose log stops after so many calls. If the first gets the fault of the stop, the second is told that
+/// the office is closed.
+fn stop_twice<M: TestHost + Drop>(
     rt: &(impl Abort + AllocGlobal),
-    machine: &M,
+    host: &M,
     calls: u64,
 ) -> Result<StoreStop, Fail> {
     let keying = TestClient::whole(KEYING.as_bytes());
-    let stopping = machine.copied(rt.alloc(), File::Log, calls)?;
+    let stopping = host.copied(rt.alloc(), File::Log, calls)?;
     let clients = [Some(keying), Some(keying)];
     let (said, _) = stopping.play(rt.alloc(), &[Step::Serve(Evening::of(&clients))])?;
     let Some(said) = said.first() else {
@@ -332,11 +335,11 @@ fn stop_twice<M: Machine + Drop>(
     Ok(StoreStop::AtTheFirst)
 }
 
-fn closed_says_so<M: Machine + Drop>(rt: &(impl Abort + AllocGlobal)) -> Result<(), Fail> {
-    let machine: M = play_acts(rt, BEGUN)?;
+fn closed_says_so<M: TestHost + Drop>(rt: &(impl Abort + AllocGlobal)) -> Result<(), Fail> {
+    let host: M = play_acts(rt, BEGUN)?;
     let mut closed = false;
     for calls in 0..CALLS {
-        match stop_twice(rt, &machine, calls)? {
+        match stop_twice(rt, &host, calls)? {
             StoreStop::AtTheOpening => {}
             StoreStop::AtTheFirst => closed = true,
             StoreStop::BehindTheFirst => break,

@@ -1,4 +1,4 @@
-//! What is typed at the office and what it prints, as a text.
+//! Orders and their output, as text.
 //!
 //! ```text
 //! $ import-keying 4 12 1 FILE --id k1
@@ -10,15 +10,14 @@
 //! # UPDATE ward SET phase = 2
 //! ```
 //!
-//! A line `$ ..` has the words behind DB, each parted from the next by one space; `# ..` statements, whatever is
-//! in the database. Below stand the lines of the file that the words name, those that go to the output, and, behind a
-//! status, those that go to the error output.
+//! A line `$ ..` has the words after DB, separated by single spaces; `# ..` has statements, for any database. The lines below it
+//! are those of the file that the words name, those of the output, and, after a status, those of the error output.
 
 use super::steps::{Case, Step};
 use std::alloc::{AllocError, Global};
 use std::test::Fail;
 
-/// What is asked, with the file that it names, and what must come of it.
+/// An order with the file that it names, and its expected result.
 #[derive(Drop)]
 pub struct Typed<'a> {
     is_order: bool,
@@ -52,7 +51,7 @@ impl<'a> Typed<'a> {
         })
     }
 
-    /// Takes one more of the lines below the words.
+    /// Adds one of the lines below the words.
     fn take(&mut self, alloc: Global, line: &str) -> Result<(), Fail> {
         if let Some(row) = line.strip_prefix("< ") {
             let mut file = match self.file.take() {
@@ -81,7 +80,7 @@ impl<'a> Typed<'a> {
     }
 }
 
-/// What is asked in a transcript, in turn.
+/// Returns the orders of a transcript, in order.
 pub fn read(alloc: Global, transcript: &str) -> Result<Vec<Typed<'_>>, Fail> {
     let mut asked: Vec<Typed<'_>> = Vec::new(alloc);
     for line in transcript.lines() {

@@ -1,3 +1,3 @@
--- The streams, and what of them is counted.
+-- Streams, and what is counted of them.
 pub mod Streams
 pub mod Counted

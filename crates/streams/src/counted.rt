@@ -7,10 +7,9 @@ use crate::streams::{Broken, Sink, Source};
 use std::io;
 use std::io::{Read, Write};
 
-/// A sink over a writer, a source over a reader.
+/// A sink made from a writer, or a source made from a reader.
 ///
-/// An error of the writer or the reader is a failure, and so is a write that takes none of some
-/// bytes.
+/// An error of the writer or the reader is a failure, and so is a write that accepts no byte of a nonempty slice.
 #[derive(Drop)]
 pub struct Counted<T> {
     stream: T,
@@ -18,7 +17,7 @@ pub struct Counted<T> {
 }
 
 impl<T> Counted<T> {
-    /// The writer or the reader, of which no call has failed yet.
+    /// Wraps a writer or a reader; no call has failed yet.
     pub fn new(stream: T) -> Counted<T>
         ensures stream { stream_of result ≡ stream }
         ensures failed { failed_calls result ≡ 0 }
@@ -26,7 +25,7 @@ impl<T> Counted<T> {
         Counted { stream, failed: 0 }
     }
 
-    /// Counts a failure.
+    /// Counts a failure, and returns the error.
     fn broken(&mut self) -> Broken
         requires { failed_calls self.old < 2 ^ 64 - 1 }
         ensures stream { stream_of self.new ≡ stream_of self.old }
@@ -37,8 +36,8 @@ impl<T> Counted<T> {
     }
 }
 
-/// How many of so many bytes a writer took by its answer; `None`, a failure, for an error, and where
-/// it took none of some bytes.
+/// Returns how many of `len` bytes a writer accepted, by the result of a write. `None` for a failure: an error, or no byte accepted
+/// though there are some.
 fn taken(answer: io::Result<usize>, len: usize) -> Option<usize>
     ensures { result ≡ taken_of len answer }
 {
@@ -48,7 +47,7 @@ fn taken(answer: io::Result<usize>, len: usize) -> Option<usize>
     }
 }
 
-/// How many bytes a reader gave by its answer; `None`, a failure, for an error.
+/// Returns how many bytes a reader supplied, by the result of a read. `None` for an error, which is a failure.
 fn given(answer: io::Result<usize>) -> Option<usize>
     ensures { result ≡ given_of answer }
 {

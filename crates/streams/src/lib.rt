@@ -1,6 +1,6 @@
 //! Streams of bytes that count the calls that failed.
 //!
-//! A [`Sink`] takes bytes and a [`Source`] gives them. [`Counted`] makes them of a writer and a reader of the standard library.
+//! A [`Sink`] accepts bytes, and a [`Source`] supplies them. [`Counted`] makes either from a writer or a reader of the standard library.
 //!
 //! ```text
 //! let mut sink = Counted::new(&mut page);
@@ -8,7 +8,7 @@
 //! ```
 #![tactic(auto)]
 
-// what takes bytes, and what gives them
+// sinks and sources of bytes
 mod streams;
 // streams of the standard library
 mod counted;

@@ -1,4 +1,4 @@
-//! Where bytes go and where they come from, with a count of the calls that failed.
+//! Sinks and sources of bytes, each with a count of its failed calls.
 
 ghost use Rattle.std.specs.Prelude.{◌≡◌, ℕ, ◌+◌, ◌-◌, ◌^◌, ◌<◌, ◌≤◌, List, length, take, IfOk, OnOk, OnErr, Option};
 ghost use Rattle.std.specs.Io.KnownBytes.{Appends, Consumes, IsAtEnd, Keeps};
@@ -11,17 +11,17 @@ use thiserror::Error;
 #[error("broken stream")]
 pub struct Broken;
 
-/// Takes bytes, and counts the calls that failed.
+/// A destination of bytes that counts its failed calls.
 pub trait Sink {
-    /// The bytes taken so far, as far as they are known.
+    /// The bytes accepted so far, as far as they are known.
     ghost taken: { Self → Option (List ℕ) };
 
-    /// How many calls failed.
+    /// The number of failed calls.
     ghost failed: { Self → ℕ };
 
-    /// Takes some of the bytes from the front on, at least one if there are any, and says how many.
+    /// Accepts a prefix of the bytes, of at least one byte if there are any, and returns its length.
     ///
-    /// After `Broken` the bytes taken are those from before.
+    /// After `Broken` the accepted bytes are unchanged.
     fn put(&mut self, bytes: &[u8]) -> Result<usize, Broken>
         requires { failed self.old < 2 ^ 64 - 1 }
         ensures within { IfOk result (λ n. n ≤ length bytes.now) }
@@ -31,23 +31,22 @@ pub trait Sink {
         ensures kept { OnErr result (Keeps (taken self.old) (taken self.new)) }
         ensures err { OnErr result (failed self.new ≡ failed self.old + 1) };
 
-    /// How many calls failed.
+    /// Returns the number of failed calls.
     fn failures(&self) -> u64
         ensures { result ≡ failed self.now };
 }
 
-/// Gives bytes, and counts the calls that failed.
+/// A source of bytes that counts its failed calls.
 pub trait Source {
-    /// The bytes still held, as far as they are known.
+    /// The bytes still to be read, as far as they are known.
     ghost held: { Self → Option (List ℕ) };
 
-    /// How many calls failed.
+    /// The number of failed calls.
     ghost failed: { Self → ℕ };
 
-    /// Puts the next bytes to the front of the room, and says how many: none only where there is no
-    /// room, or at the end.
+    /// Reads the next bytes into the front of a buffer, and returns how many: none only if the buffer is empty, or at the end.
     ///
-    /// After `Broken` the bytes held are those from before; what the room has is left open.
+    /// After `Broken` the bytes still to be read are unchanged; the content of the buffer is unspecified.
     fn fetch(&mut self, room: &mut [u8]) -> Result<usize, Broken>
         requires { failed self.old < 2 ^ 64 - 1 }
         ensures within { IfOk result (λ n. n ≤ length room.new) }
@@ -57,15 +56,15 @@ pub trait Source {
         ensures kept { OnErr result (Keeps (held self.old) (held self.new)) }
         ensures err { OnErr result (failed self.new ≡ failed self.old + 1) };
 
-    /// How many calls failed.
+    /// Returns the number of failed calls.
     fn failures(&self) -> u64
         ensures { result ≡ failed self.now };
 }
 
-/// Puts all of the bytes, in as many calls as it takes.
+/// Writes all of the bytes to a sink, in as many calls as needed.
 ///
-/// `Broken` comes only from the sink, which has then taken a beginning of the bytes and counts one
-/// failure more.
+/// Returns `Broken` only if a call of the sink fails. The sink has then accepted a prefix of the bytes, and its count of failures
+/// is one higher.
 pub fn put_all<W: Sink>(sink: &mut W, bytes: &[u8]) -> Result<(), Broken>
     requires { W.failed sink.old < 2 ^ 64 - 1 }
     ensures all { OnOk result (Appends (W.taken sink.old) (W.taken sink.new) bytes.now) }

@@ -9,7 +9,7 @@ ghost use Rattle.count.specs.Law.Right.{IsRight, IsRightForSome};
 
 use count::{
     Action, AdvanceError, BundleBook, Bundles, CountBook, CountEnd, Due, Kind, ParcelBook, Placed,
-    Stage, is_bundled_contest, is_contest, run_count,
+    Stage, bundles_can_be_counted, can_be_counted, run_count,
 };
 use paper::{Columns, Prefs};
 use std::alloc::{AllocError, Global};
@@ -85,10 +85,10 @@ fn two() -> Columns {
 /// The end of a count of no papers by parcels, and of one by bundles: each waits for a lot.
 fn ends(rt: &impl Abort, alloc: Global, papers: &[Prefs]) -> Result<(CountEnd, CountEnd), Fail> {
     let candidates = two();
-    assert!(rt; is_contest(&candidates, 1, papers));
+    assert!(rt; can_be_counted(&candidates, 1, papers));
     let mut by_parcels = ParcelBook::new(alloc, candidates, 1, papers)?;
     let bundles = Bundles::new(alloc);
-    assert!(rt; is_bundled_contest(&candidates, 1, &bundles));
+    assert!(rt; bundles_can_be_counted(&candidates, 1, &bundles));
     let mut by_bundles = BundleBook::new(alloc, candidates, 1, &bundles)?;
     Ok((run(&mut by_parcels, &[])?, run(&mut by_bundles, &[])?))
 }

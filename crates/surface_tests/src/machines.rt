@@ -1,6 +1,6 @@
 //! Of `register`: each command, and what is decided on it.
 
-use register::{Command, Decision, Part, Request, Verdict, View, decide};
+use register::{Command, CommandInput, Decision, Request, Verdict, View, decide};
 use std::alloc::{AllocError, Global};
 use std::process::Abort;
 use std::test::Fail;
@@ -15,7 +15,7 @@ fn view_of(alloc: Global, id: &str) -> View<'_> {
         actor: 0,
         id,
         receipt: None,
-        part: Part::empty(alloc),
+        part: CommandInput::empty(alloc),
     }
 }
 

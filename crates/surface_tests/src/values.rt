@@ -71,7 +71,7 @@ fn judged(m: &Marked) -> Result<Prefs, Rejection> {
     judge(m)
 }
 
-/// The preference after the first one, where all candidates continue.
+/// The preference after the first one, if all candidates continue.
 fn second(prefs: &Prefs, columns: Columns) -> Option<u8> {
     let standing = Standing::new(columns, Columns::empty(), Columns::empty());
     next_available(prefs.as_slice(), 1, &standing)

@@ -1,4 +1,4 @@
--- Writes, one after the other.
+-- Writes, one after another.
 use Rattle.std.proofs.Common.{◌≡◌, ◌⊎◌, inl, ℕ, List, Result, Ok, Err, IsTrue, refl, sym, subst, ◌∙◌, arith}
 use Rattle.std.specs.Borrow.{MutBor}
 use Rattle.std.specs.Result.{IsErrAnd}
@@ -28,13 +28,13 @@ survives_itself a = record {
   crash = λ clean trees may. inl may;
 }
 
--- nothing for good, and then nothing for good
+-- two runs that commit nothing, one after the other, commit nothing
 survives_twice : (a b c : State) → Survives a b (λ _. ⊥) → Survives b c (λ _. ⊥) → Survives a c (λ _. ⊥)
 survives_twice a b c one two = survives_then a b c (λ _. ⊥) (λ _. ⊥) (λ _. ⊥) (λ clean trees none. none) (λ clean trees none. none) one two
 
 -- ---- one statement
 
--- a statement that writes, and what it makes of what is seen
+-- a statement that writes, and how it changes what is seen
 pub executed : {S X V : Type 0} {store : Ghosts S} {before after : MutBor (Held S)} {sql : List ℕ} {params : Row} {r : Result V Fault} {Takes Gives : X → State → Type 0}
     → RunsStatement store before after sql params r
     → ((x : X) → Takes x (state store before.now)
@@ -57,7 +57,7 @@ executed {store = store} {before = before} {after = after} {sql = sql} {params =
 
 -- ---- one write after another
 
--- nothing was written yet
+-- nothing is written yet
 pub alters_none : {S X V : Type 0} {store : Ghosts S} {conn : MutBor (Held S)} {v : V} {Takes Gives : X → State → Type 0}
     → ((x : X) → Takes x (state store conn.now) → Gives x (state store conn.now)) → Alters store conn conn (Ok v) Takes Gives
 alters_none {store = store} {conn = conn} told = record {
@@ -68,7 +68,7 @@ alters_none {store = store} {conn = conn} told = record {
   cause = tt;
 }
 
--- what a write makes of what it takes, told of what that is made from
+-- a write, restated for conditions that imply what it requires and that follow from what it ensures
 pub alters_told : {S X Y V : Type 0} {store : Ghosts S} {before after : MutBor (Held S)} {r : Result V Fault} {Takes Gives : X → State → Type 0} {From To : Y → State → Type 0}
     → Alters store before after r Takes Gives
     → ((y : Y) → From y (state store before.now) → (x : X) × Takes x (state store before.now) × (Gives x (state store after.now) → To y (state store after.now))) → Alters store before after r From To
@@ -81,7 +81,7 @@ alters_told {r = Ok v} one told = record {
 }
 alters_told {r = Err f} one told = record { same_reference = one.same_reference; writes = λ clean y from. tt; keeps = one.keeps; survives = one.survives; cause = one.cause }
 
--- the same of a write into contents, where they stand for others up to the order of rows
+-- the same for a write to contents that represent others up to the order of rows
 pub alters_same : {S X V : Type 0} {store : Ghosts S} {before after : MutBor (Held S)} {r : Result V Fault} {f : Contents → Contents} {from to : X → Contents}
     → Alters store before after r Sees (λ c. Sees (f c))
     → ((x : X) → SameContents (f (from x)) (to x)) → Alters store before after r (λ x. Sees (from x)) (λ x. Sees (to x))
@@ -112,21 +112,21 @@ alters_both {store = store} {a = a} {b = b} {c = c} {r = Err f} one two told =
       cause = two.cause;
     }
 
--- the same of a write into contents
+-- the same for a write to contents
 pub alters_sees : {S X V W : Type 0} {store : Ghosts S} {a b c : MutBor (Held S)} {v : V} {r : Result W Fault} {From : X → State → Type 0} {at : X → Contents} {f : Contents → Contents}
     → Alters store a b (Ok v) From (λ x. Sees (at x))
     → Alters store b c r Sees (λ rows. Sees (f rows)) → Alters store a c r From (λ x. Sees (f (at x)))
 alters_sees {at = at} one two = alters_both one two (λ x from sees. (at x, sees, λ given. given))
 
--- the same, of which it isn't told what they make
+-- the same, without stating what they make
 pub alters_after : {S X Y V W : Type 0} {store : Ghosts S} {a b c : MutBor (Held S)} {v : V} {w : W} {From Mid : X → State → Type 0} {Takes Gives : Y → State → Type 0}
     → Alters store a b (Ok v) From Mid
     → Alters store b c (Ok w) Takes Gives → Alters {V = W} store a c (Ok w) (λ (x : X) s. ⊥) (λ x s. ⊥)
 alters_after one two = alters_both (alters_told {To = λ x s. ⊥} one (λ x none. absurd none)) two (λ x none mid. absurd none)
 
--- ---- what fails
+-- ---- failures
 
--- want of memory before anything was written
+-- an allocation failed before anything was written
 pub alters_refused : {S X V : Type 0} {store : Ghosts S} {conn : MutBor (Held S)} {f : Fault} {r : Result V Fault} {Takes Gives : X → State → Type 0}
     → IsErrAnd r (λ e. e ≡ f) → f ≡ Memory → Alters store conn conn r Takes Gives
 alters_refused {r = Ok v} is memory = absurd is
@@ -151,7 +151,7 @@ alters_failed {r = Err e} is failed = record {
   cause = subst (λ (x : Fault). (x ≡ Memory) ⊎ (x ≡ Store)) (sym is) failed.cause;
 }
 
--- a write after another fails, which is passed on
+-- a write after another fails, and the failure is passed on
 pub alters_cut : {S X Y Z U V W : Type 0} {store : Ghosts S} {a b c : MutBor (Held S)} {v : V} {f : Fault} {r : Result W Fault} {From Mid : X → State
     → Type 0} {Takes Gives : Y → State → Type 0} {To Into : Z → State → Type 0}
     → IsErrAnd r (λ e. e ≡ f) → Alters store a b (Ok v) From Mid → Alters {V = U} store b c (Err f) Takes Gives → Alters store a c r To Into

@@ -1,4 +1,4 @@
--- Why a query of a table fails: memory is wanting, or the store failed.
+-- Why a query of a table fails: out of memory, or the store failed.
 use Rattle.std.proofs.Common.{◌≡◌, ◌≢◌, ◌⊎◌, inl, inr, ℕ, ◌+◌, ◌≤◌, List, [], ◌∷◌, length, append-nil, Bool, true, false, Ok, Err, Result, IfErr, IsTrue, zero, suc, ℤ, ◌&&◌, refl, sym, ap}
 use Rattle.std.proofs.Common.{subst, ◌∙◌, arith, true≢false}
 use Rattle.sqlite_trees.specs.declared.error.StoreError.{StoreError}
@@ -77,7 +77,7 @@ pub failed_by : (old new : State) (f : Fault) → FailsBy old new f → f ≡ St
 failed_by old new f (inl memory) store = absurd (let no : Memory ≡ Store = sym memory ∙ store in cc)
 failed_by old new f (inr failed) store = failed.1
 
--- and so where rows are listed
+-- and also if rows are listed
 pub if_fails_to_list : {X : Type 0} (db : Database) (old new : State) (r : Result X Fault) → IfErr r (FailsBy old new) → IfErr r (FailsToList db old new)
 if_fails_to_list db old new (Ok x) fails = tt
 if_fails_to_list db old new (Err f) fails = λ store. inl (failed_by old new f fails store)
@@ -99,7 +99,7 @@ store_fails old new Full h = inr (refl, inl h)
 store_fails old new Broken h = inr (refl, inr (inl h))
 store_fails old new Unstorable h = absurd h
 
--- the text of a query is one statement, whose parameters are all given
+-- the text of a query is one statement whose parameters are all given
 stated : (sql : List ℕ) (params : Row) (old : State) (r : Result Compiled CompileError) (e : Error) → understood old.now.schema sql ≡ r → IsPlain r → tail_of r ≡ length sql
     → asked_of r ≡ length params → ¬ IsNoStatement old sql params e
 stated sql params old (Err fault) e is plain whole given wrong = plain
@@ -140,7 +140,7 @@ module _ (schema : Schema) (sql : List ℕ) (tree : ℕ) (tests project : List T
     if_fails old new (Ok x) clean has tells = tt
     if_fails old new (Err f) clean has tells = subst (FailsBy old new) (sym tells.1) (query_fails old new tells.0 has (tells.2 clean))
 
--- a query of a connection that was shut fails for that
+-- a query on a connection that was already closed fails for that reason
 pub either_way : (sql : List ℕ) (params : Row) (old new : State) (f : Fault) → TellsQuery sql params old new f → (IsTrue old.is_open → FailsBy old new f) → FailsBy old new f
 either_way sql params old new f tells fails = go old.is_open refl
   where
@@ -174,7 +174,7 @@ pub behind : (v : Value) (more : Bool) → is_of Integer v && more ≡ true → 
 behind (Int n) more h = h
 behind _ more h = absurd (true≢false (sym h))
 
--- a query of the rows with a beginning of the key, of the columns' kinds, is accepted
+-- a query of the rows with a key prefix, of the columns' kinds, is accepted
 abbrev Accepts : Table → Row → Type 0
 Accepts t key =
     (rest : List Definition) (others : List Index) (views : List View)
@@ -293,7 +293,7 @@ rowids_fail t changes db begins old new f clean rests tells =
     ((selects_rowids t changes).select begins.rest begins.others begins.views) [] refl
     (accepts_rowids t changes begins.rest begins.others begins.views) {X = ℕ} old new (Err f) clean (ap (λ (d : Database). d.schema) rests.now ∙ begins.is) tells
 
--- the schema of an office, which is seen if the connection is open
+-- the schema of an office, as seen if the connection is open
 pub begun : (t : Table) (c : Contents) (s : State) → (IsTrue s.is_open → Rests c s) → IsTrue s.is_open → BeginsTo t s.now.schema
 begun t c s at is_open = begins_to t s.now.schema (office_of c s (at is_open)).begins
 

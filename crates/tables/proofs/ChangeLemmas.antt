@@ -1,4 +1,4 @@
--- What UPDATEs, a DELETE, and many INSERTs or UPDATEs make of the contents.
+-- How UPDATEs, a DELETE, and many INSERTs or UPDATEs change the contents.
 use Rattle.std.proofs.Common.{◌≡◌, inl, inr, ℕ, suc, ◌+◌, ◌==◌, drop, ◌<◌, List, [], ◌∷◌, ◌++◌, map, filter, fold, take, get_or, append_assoc, length, Bool, true, false, not, cond, Result}
 use Rattle.std.proofs.Common.{OnOk, IsTrue, refl, sym, ap, subst, ◌∙◌, arith, true≢false}
 use Rattle.std.proofs.Math.Seq.{take-suc}
@@ -16,7 +16,7 @@ use Rattle.sqlite_schema.specs.declared.schema.Column.{Column}
 use Rattle.std.proofs.lemmas.Bool.{and_parts, and_from}
 use Rattle.sqlite.specs.State.{State, ExecutesInside}
 use Rattle.tables.specs.declared.table.Table.{Table}
-use Rattle.tables.specs.declared.table.Setting.{Setting}
+use Rattle.tables.specs.declared.table.SettableColumn.{SettableColumn}
 use Rattle.tables.specs.Texts.{update_text, set_text, delete_text}
 use Rattle.tables.specs.Schema.{schema_from, place_of, shape, columns_of, places_from, changes_rows, table_set, place_set}
 use Rattle.tables.specs.Rows.{tuples, at, has_key, is_of, are_of, is_row_of, takes_from, value_set, is_setting, with_value}
@@ -33,7 +33,7 @@ use Rattle.tables.proofs.ReplaceLemmas.{shows_updated, replaces}
 
 -- ---- a DELETE
 
--- it takes the row with the key away
+-- it removes the row with the key
 pub row_removed : (t : Table) → changes_rows t ≡ true → (key : Row) (old new : State) (r : Result ℕ Error) → (IsTrue old.in_transaction → ExecutesInside 0 (delete_text t) key old new r)
     → (c : Contents) → Sees c old → OnOk r (Sees (removed t key c) new)
 unfolding removed
@@ -54,7 +54,7 @@ row_removed t changing key old new r runs c sees =
 
 -- ---- an UPDATE
 
--- it puts the row into the place of the one with its key
+-- it replaces the row that has the same key
 pub row_replaced : (t : Table) → changes_rows t ≡ true → (row : Row) → is_row_of t row ≡ true → (old new : State) (r : Result ℕ Error)
     → (IsTrue old.in_transaction → ExecutesInside 0 (update_text t) row old new r)
     → (c : Contents) → Sees c old → OnOk r (Sees (replaced t row c) new)
@@ -82,7 +82,7 @@ row_replaced t changing row kinds old new r runs c sees =
 
 -- ---- an UPDATE of one column
 
--- each column as it is, but the one that is set
+-- every column as it is, except the one that is set
 shows_set : (place key : ℕ) (params r : Row) (ps : List ℕ) → eval_all (map (λ p. cond (p == place) (col 0 key) (col 1 (suc p))) ps) (params ∷ r ∷ [])
     ≡ map (λ p. cond (p == place) (column params key) (column (drop 1 r) p)) ps
 shows_set place key params r [] = refl
@@ -94,7 +94,7 @@ shows_set place key params r (p ∷ ps) = go (p == place) (shows_set place key p
     go true more = ap (λ l. column params key ∷ l) more
     go false more = ap (λ v. v ∷ eval_all (map (λ q. cond (q == place) (col 0 key) (col 1 (suc q))) ps) (params ∷ r ∷ [])) (later p r) ∙ ap (λ l. column (drop 1 r) p ∷ l) more
 
--- a row of the right kinds has them still
+-- a row of the right kinds still has them
 typed_set : (cs : List Column) (k place : ℕ) (value : Value) (xs : Row) (f : ℕ → Value) → ((i : ℕ) → f (k + i) ≡ column xs i) → are_of cs xs ≡ true → takes_from k place value cs ≡ true
     → are_of cs (map (λ p. cond (p == place) value (f p)) (places_from k (length cs))) ≡ true
 typed_set [] k place value xs f same typed takes = refl
@@ -117,8 +117,9 @@ typed_set (c ∷ cs) k place value (x ∷ xs) f same typed takes =
 none_past : (i : ℕ) → 0 + i ≡ i
 none_past i = omega arith
 
--- it puts the value into the column of the row with the key
-pub value_set_there : (g : Setting) (values : Row) → is_setting g values ≡ true → (old new : State) (r : Result ℕ Error) → (IsTrue old.in_transaction → ExecutesInside 0 (set_text g) values old new r)
+-- it sets the value in the column of the row with the key
+pub value_set_there : (g : SettableColumn) (values : Row) → is_setting g values ≡ true → (old new : State) (r : Result ℕ Error)
+    → (IsTrue old.in_transaction → ExecutesInside 0 (set_text g) values old new r)
     → (c : Contents) → Sees c old → OnOk r (Sees (value_put g values c) new)
 unfolding value_put
 value_set_there g values kind old new r runs c sees =
@@ -152,7 +153,7 @@ value_set_there g values kind old new r runs c sees =
 
 -- ---- many INSERTs
 
--- no row more, and one row more after some
+-- no more rows, and one more row after some
 none_more : (t : Table) (c : Contents) → SameContents c (added_all t [] c)
 unfolding added_all
 none_more t c u = elim (which_table t u) [ inl same ↦ rw same.0 (IsPermutation-refl (c u)) | inr other ↦ rw other.0 (IsPermutation-refl (c u)) ]
@@ -194,7 +195,7 @@ next_replaced t rows k row low is c s sees =
 
 -- ---- rows of entries
 
--- The row of one entry in the place of the row with its key is the entry in the place of the one with its key.
+-- Replacing the row with the same key as an entry's row replaces the entry with the same key.
 pub replaced_rows : {X : Type 0} (t : Table) (row : X → Row) (same : X → Bool) (y : X) → ((x : X) → has_key t (row y) (row x) ≡ same x) → (xs : List X)
     → map (λ r. cond (has_key t (row y) r) (row y) r) (map row xs) ≡ map row (map (λ x. cond (same x) y x) xs)
 replaced_rows t row same y alike [] = refl
@@ -206,11 +207,11 @@ replaced_rows t row same y alike (x ∷ xs) =
     one true later = ap (λ l. row y ∷ l) later
     one false later = ap (λ l. row x ∷ l) later
 
--- the rows with each of these rows, in turn, in the place of the one with its key
+-- the rows, with the rows that have the same keys replaced by these, one after another
 abbrev pub all_replaced : Table → List Row → List Row → List Row
 all_replaced t = fold (λ rows row. map (λ r. cond (has_key t row r) row r) rows)
 
--- that is what many UPDATEs make of one table, and they leave the others
+-- this is how many UPDATEs change one table; they leave the others as they are
 pub replaced_all_there : (t : Table) (news : List Row) (c : Contents) (u : Table) → replaced_all t news c u ≡ changed t (λ rows. all_replaced t rows news) c u
 unfolding replaced_all replaced
 replaced_all_there t [] c u = elim (place_of u == place_of t) as (λ b. c u ≡ cond b (c u) (c u)) [ true ↦ refl | false ↦ refl ]
@@ -219,15 +220,15 @@ replaced_all_there t (row ∷ news) c u =
     ∙ elim (place_of u == place_of t) as (λ b. cond b (all_replaced t (cond b (map (λ r. cond (has_key t row r) row r) (c u)) (c u)) news)
     (cond b (map (λ r. cond (has_key t row r) row r) (c u)) (c u)) ≡ cond b (all_replaced t (map (λ r. cond (has_key t row r) row r) (c u)) news) (c u)) [ true ↦ refl | false ↦ refl ]
 
--- The rows of some entries, in turn, in the places of the rows with their keys are these entries in the places of those with their keys.
+-- Replacing, one after another, the rows with the same keys as entries' rows replaces the entries with the same keys.
 pub replaced_each : {X : Type 0} (t : Table) (row : X → Row) (same : X → X → Bool) → ((y x : X) → has_key t (row y) (row x) ≡ same y x) → (ys xs : List X)
     → all_replaced t (map row xs) (map row ys) ≡ map row (fold (λ zs y. map (λ z. cond (same y z) y z) zs) xs ys)
 replaced_each t row same alike [] xs = refl
 replaced_each t row same alike (y ∷ ys) xs =
     ap (λ rows. all_replaced t rows (map row ys)) (replaced_rows t row (same y) y (alike y) xs) ∙ replaced_each t row same alike ys (map (λ z. cond (same y z) y z) xs)
 
--- A value in the column of the row with a key is a change of the entry with it.
-pub rows_set : {X : Type 0} (g : Setting) (values : Row) (row : X → Row) (same : X → Bool) (change : X → X) → ((x : X) → has_key (table_set g) values (row x) ≡ same x)
+-- SettableColumn a value in the column of the row with a key changes the entry with it.
+pub rows_set : {X : Type 0} (g : SettableColumn) (values : Row) (row : X → Row) (same : X → Bool) (change : X → X) → ((x : X) → has_key (table_set g) values (row x) ≡ same x)
     → ((x : X) → with_value g (value_set g values) (row x) ≡ row (change x))
     → (xs : List X) → map (λ r. cond (has_key (table_set g) values r) (with_value g (value_set g values) r) r) (map row xs) ≡ map row (map (λ x. cond (same x) (change x) x) xs)
 rows_set g values row same change alike made [] = refl
@@ -241,7 +242,7 @@ rows_set {X} g values row same change alike made (x ∷ xs) =
     one true more = ap (λ r. r ∷ map (λ q. cond (has_key (table_set g) values q) (with_value g (value_set g values) q) q) (map row xs)) (made x) ∙ ap (λ l. row (change x) ∷ l) more
     one false more = ap (λ l. row x ∷ l) more
 
--- The rows without a key are those of the entries without it.
+-- The rows without a key are the rows of the entries without it.
 pub removed_rows : {X : Type 0} (t : Table) (key : Row) (row : X → Row) (same : X → Bool) → ((x : X) → has_key t key (row x) ≡ same x) → (xs : List X)
     → filter (λ r. not (has_key t key r)) (map row xs) ≡ map row (filter (λ x. not (same x)) xs)
 removed_rows t key row same alike xs = filter-map (λ r. not (has_key t key r)) row xs ∙ ap (map row) (filtered_same _ _ xs (λ x h. ap not (alike x)))

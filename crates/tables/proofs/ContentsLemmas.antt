@@ -1,4 +1,4 @@
--- What a statement inside a transaction makes of the contents.
+-- How a statement inside a transaction changes the contents.
 use Rattle.std.proofs.Common.{◌≡◌, ◌≢◌, inl, inr, ℕ, List, [], ◌∷◌, true, false, Ok, Err, Result, OnOk, IsTrue, sym, ap, subst, ◌∙◌, map, drop, append-nil}
 use Rattle.std.specs.List.{AllByRecursion}
 use Rattle.std.specs.List.Sorted.{IsPermutation}
@@ -33,7 +33,7 @@ holds_changed t f old new set others c h u = elim (which_table t u) [
   | inr other ↦ rw other.0 (table_kept u (c u) old new (others u other.1) (h u))
 ]
 
--- the trees of the office's other tables, of all other trees
+-- the trees of the office's other tables, among all other trees
 pub others_of : (rest : List Definition) (others : List Index) (views : List View) (t : Table) (old new : Trees)
     → AllByRecursion (λ d. d.tree ≢ tree_of t → new d.tree ≡ old d.tree) (schema_from 11 rest others views).tables → (u : Table) → tree_of u ≢ tree_of t → new (tree_of u) ≡ old (tree_of u)
 others_of rest others views t old new all u =
@@ -49,7 +49,7 @@ kept sql params old new (Err e) (inl h) = elim h.1 [
 ]
 kept sql params old new (Err e) (inr h) = record { was_open = λ _. h.2.0.was_open; committed = λ _. h.2.0.committed_is }
 
--- what a statement keeps of the last commit, also where the transaction had ended
+-- what a statement preserves of the last commit, even if the transaction had ended
 pub keeps : (sql : List ℕ) (params : Row) (old new : State) (r : Result ℕ Error) → (IsTrue old.in_transaction → ExecutesInside 0 sql params old new r)
     → (old.in_transaction ≡ false → new ≡ old) → KeepsCommit old new
 keeps sql params old new r runs ended = elim (cases_Bool old.in_transaction) [
@@ -64,7 +64,7 @@ module _ (t : Table) (f : List Row → List Row) (sql : List ℕ) (params : Row)
     → Executes sql params old new (Ok count)
     → (rows : List Row) → HoldsTable t rows old.now.trees → Changes (schema_from 11 rest others views) (tree_of t) old.now new.now × HoldsTable t (f rows) new.now.trees)
   where
-    -- it changes the table's rows, and no other's
+    -- it changes the table's rows, and those of no other
     pub table_changed : (r : Result ℕ Error) → (IsTrue old.in_transaction → ExecutesInside 0 sql params old new r) → (c : Contents) → Sees c old → OnOk r (Sees (changed t f c) new)
     unfolding IsOffice
     table_changed (Err e) runs c sees = tt

@@ -15,14 +15,14 @@ use Rattle.sqlite_rules.specs.Action.{works}
 use Rattle.sqlite_tied.specs.Compute.{everything}
 use Rattle.tables.specs.declared.table.Table.{Table}
 use Rattle.tables.specs.declared.table.Table.TheVariants.{Keying, Verdict, Lot, Receipt, Vote, Third}
-use Rattle.tables.specs.declared.table.Setting.{Setting}
-use Rattle.tables.specs.declared.table.Setting.TheVariants.{VersionOfOffice}
+use Rattle.tables.specs.declared.table.SettableColumn.{SettableColumn}
+use Rattle.tables.specs.declared.table.SettableColumn.TheVariants.{VersionOfOffice}
 use Rattle.tables.specs.Texts.{update_text, set_text, delete_text}
 use Rattle.tables.specs.Schema.{Definition, schema_from, definition, place_of, tree_of, shape, columns_of, places_from, changes_rows, table_set, place_set, AreFree}
 use Rattle.tables.proofs.SelectLemmas.{query, columns_from, tests_from}
 use Rattle.tables.proofs.Inserts.{given, none_from}
 
--- how many columns stand after the key
+-- the number of columns after the key
 abbrev pub beyond_key : Table → ℕ
 beyond_key t = length (columns_of t) - (shape t).key
 
@@ -30,11 +30,11 @@ beyond_key t = length (columns_of t) - (shape t).key
 abbrev pub updated : Table → List Term
 updated t = col 1 0 ∷ col 1 0 ∷ (columns_from 0 (shape t).key ++ given (places_from (shape t).key (beyond_key t)))
 
--- the rowid, twice, then each column as it is, but the one that is set, which is the parameter after the key
-abbrev pub set_terms : Setting → List Term
+-- the rowid, twice, then every column as it is, except the one that is set, which is the parameter after the key
+abbrev pub set_terms : SettableColumn → List Term
 set_terms g = col 1 0 ∷ col 1 0 ∷ map (λ p. cond (p == place_set g) (col 0 (shape (table_set g)).key) (col 1 (suc p))) (places_from 0 (length (columns_of (table_set g))))
 
-pub setting_changes : (g : Setting) → changes_rows (table_set g) ≡ true
+pub setting_changes : (g : SettableColumn) → changes_rows (table_set g) ≡ true
 setting_changes VersionOfOffice = refl
 setting_changes g = refl
 
@@ -42,7 +42,7 @@ module _ (rest : List Definition) (others : List Index) (views : List View) wher
   abbrev schema : Schema
   schema = schema_from 11 rest others views
 
-  -- what the statement of a table has to be that goes by the key
+  -- the condition on a table's statement that finds its row by the key
   pub record EditsRow (t : Table) : Type 0 where
     pub place : slice_get schema.tables (place_of t) ≡ Some (definition t)
     pub updates : command_of (understood schema (update_text t)) ≡ Update (place_of t) (record { lets = []; body = query (tree_of t) (tests_from 0 (shape t).key) (updated t) [] })
@@ -72,13 +72,13 @@ module _ (rest : List Definition) (others : List Index) (views : List View) wher
             (tree_of t) olds news rest free;
       }
 
-  -- what the statement has to be that sets one column
-  pub record SetsValue (g : Setting) : Type 0 where
+  -- the condition on the statement that sets one column
+  pub record SetsValue (g : SettableColumn) : Type 0 where
     pub sets : command_of (understood schema (set_text g)) ≡ Update (place_of (table_set g))
         (record { lets = []; body = query (tree_of (table_set g)) (tests_from 0 (shape (table_set g)).key) (set_terms g) [] })
     pub plain : IsPlain (understood schema (set_text g))
 
-  pub sets_value : (g : Setting) → SetsValue g
+  pub sets_value : (g : SettableColumn) → SetsValue g
   unfolding understood everything set_text
   sets_value VersionOfOffice = record { sets = refl; plain = (refl, refl) }
   sets_value g = record { sets = refl; plain = (refl, refl) }

@@ -1,4 +1,4 @@
--- Which faults a statement tells.
+-- The faults that a statement reports.
 use Rattle.std.proofs.Common.{◌≡◌, ◌⊎◌, inl, inr, ℕ, List, [], true, Ok, Err, Result, IfOk, IfErr, refl, sym, subst}
 use Rattle.sqlite.specs.declared.error.Error.{Error}
 use Rattle.sqlite.specs.declared.error.Error.TheVariants.{SqliteFailure}
@@ -21,7 +21,7 @@ cause_of _ = inr refl
 pub query_cause : (sql : List ℕ) (params : Row) (old new : State) (f : Fault) → TellsQuery sql params old new f → (f ≡ Memory) ⊎ (f ≡ Store)
 query_cause sql params old new f tells = subst (λ (x : Fault). (x ≡ Memory) ⊎ (x ≡ Store)) (sym tells.1) (cause_of tells.0)
 
--- the same of a query whose rows are sorted, for which memory may be wanting too
+-- the same for a query whose rows are sorted, which may also run out of memory
 pub sorted_cause : (sql : List ℕ) (params : Row) (old new : State) (f : Fault) → (f ≡ Memory) ⊎ TellsQuery sql params old new f → (f ≡ Memory) ⊎ (f ≡ Store)
 sorted_cause sql params old new f (inl memory) = inl memory
 sorted_cause sql params old new f (inr tells) = query_cause sql params old new f tells
@@ -34,7 +34,7 @@ if_sorted_cause sql params old new (Err f) tells = sorted_cause sql params old n
 pub statement_cause : (sql : List ℕ) (params : Row) (old new : State) (f : Fault) → TellsStatement sql params old new f → (f ≡ Memory) ⊎ (f ≡ Store)
 statement_cause sql params old new f tells = subst (λ (x : Fault). (x ≡ Memory) ⊎ (x ≡ Store)) (sym tells.1) (cause_of tells.0)
 
--- all rows, where it is known whether rowids are their own
+-- all rows, given that integer rowids identify them if they change
 pub if_listed_keyed : {X : Type 0} (t : Table) (db : Database) (rows : X → List Row) (r : Result X Fault) → (changes_rows t ≡ true → Keyed (db.trees (tree_of t)))
     → IfOk r (λ x. Lists t (begins_with []) db (rows x)) → IfOk r (λ x. ListsKeyed t db (rows x))
 if_listed_keyed t db rows (Ok x) keyed lists = record { keyed = keyed; lists = lists }

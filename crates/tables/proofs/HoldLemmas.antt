@@ -28,7 +28,7 @@ use Rattle.tables.specs.declared.table.Table.TheVariants.{Office, Ward, Candidat
 use Rattle.tables.specs.Schema.{definition, columns_of, tree_of, changes_rows, BeginsTo}
 use Rattle.tables.specs.Rows.{tuples, at, column_places, is_row_of, is_of, are_of, begins_with, row_cmp, HasWrongRowid, RepeatsRowid}
 use Rattle.tables.specs.Contents.{HoldsTable}
-use Rattle.tables.specs.Reading.{Lists, ListsKeyed, HoldsNone, HasOther, FailsToRise}
+use Rattle.tables.specs.Reading.{Lists, ListsKeyed, HoldsNone, HasInvalidRow, FailsToRise}
 use Rattle.tables.proofs.ListLemmas.{mapped_length, get_mapped, mapped_has, has_mapped, permuted_has, mapped_same, mapped_itself, all_pass, has_at}
 use Rattle.tables.proofs.ColumnPlaceLemmas.{padded, pads, at_twice, typed_at}
 use Rattle.tables.proofs.OrderLemmas.{row_total, rise_all, one_key}
@@ -101,7 +101,7 @@ shown_rows t test db rows lists =
     ap (at (column_places t)) raw.2 ∙ at_twice (length (columns_of t)) raw.0 ∙ sym raw.2)
     ∙ mapped_itself rows
 
--- rows of the right kinds that a query of all rows shows are those of the table
+-- rows of the right kinds, shown by a query of all rows, are those of the table
 pub rows_held : (t : Table) (db : Database) → BeginsTo t db.schema → IsDatabase db → (rows : List Row) → ListsKeyed t db rows → list_all (is_row_of t) rows ≡ true → HoldsTable t rows db.trees
 rows_held t db begins sound rows keyed typed =
     let n = length (columns_of t) in
@@ -118,7 +118,7 @@ rows_held t db begins sound rows keyed typed =
       typed = typed;
     }
 
--- what the table holds, a query of all rows shows
+-- a query of all rows shows what the table holds
 pub held_listed : (t : Table) (db : Database) (rows : List Row) → Lists t (begins_with []) db rows → (held : List Row) → HoldsTable t held db.trees → IsPermutation held rows
 held_listed t db rows lists held holds =
     IsPermutation-trans _ _ _
@@ -127,21 +127,21 @@ held_listed t db rows lists held holds =
     (IsPermutation-map (at (column_places t)) _ _ holds.same))
     (lists_all t db rows lists)
 
--- ---- rows that a table can not hold
+-- ---- rows that a table cannot hold
 
--- a row that is none of a kind is in no list of that kind
-no_wrong : (IsRow : Row → Type 0) (rows : List Row) → HasOther IsRow rows → (held : List Row) → AllByRecursion IsRow held → IsPermutation held rows → ⊥
+-- a row that is not of a kind is in no list of that kind
+no_wrong : (IsRow : Row → Type 0) (rows : List Row) → HasInvalidRow IsRow rows → (held : List Row) → AllByRecursion IsRow held → IsPermutation held rows → ⊥
 no_wrong IsRow rows other held all same =
     other.2 (all_has IsRow held (get_or rows other.0 []) all (permuted_has (get_or rows other.0 []) rows held (IsPermutation-sym _ _ same) (has_at rows other.0 [] other.1)))
 
--- rows of which two have one key are no list that rises by the key, in whatever order
+-- rows of which two have the same key are not a list in ascending key order, in any order
 no_repeat : (t : Table) (rows : List Row) → IsSorted (row_cmp t) rows → FailsToRise t rows → (held : List Row) → IsStrictlySortedBy (row_cmp t) held → IsPermutation held rows → ⊥
 no_repeat t rows sorted fails held rise same =
     let apart = IsDistinct-IsPermutation (eq_by_cmp (row_cmp t)) (eq_by_cmp_equiv (row_total t)).symm held rows same (IsDistinct-from_sorted (row_cmp t) held rise) in
     let at_place = apart_from_distinct (eq_by_cmp (row_cmp t)) rows fails.0 (fails.0 + 1) [] apart (omega arith) fails.1 in
     false≢true (sym at_place ∙ ap is_eq (one_key t rows sorted fails))
 
--- rowids of a table that holds a list that rises by the key are its rows' own
+-- the rowids of a table that holds a list in ascending key order identify its rows
 pub own_rowids : (t : Table) (rows : List Row) (trees : Trees) → HoldsTable t rows trees → IsStrictlySortedBy (row_cmp t) rows → changes_rows t ≡ true
     → ¬ (HasWrongRowid (trees (tree_of t)) ⊎ RepeatsRowid (trees (tree_of t)))
 own_rowids t rows trees holds rise changes (inl wrong) = true≢false (sym ((holds.keyed changes).ints wrong.0 wrong.1) ∙ wrong.2)
@@ -165,16 +165,16 @@ own_rowids t rows trees holds rise changes (inr twice) =
     let apart = apart_from_distinct (eq_by_cmp (row_cmp t)) shown k (k + 1) [] distinct (omega arith) (omega (arith, within, len)) in
     false≢true (sym apart ∙ ap (λ r. is_eq (row_cmp t (get_or shown k []) r)) (sym same) ∙ ap is_eq (tied_itself (row_total t) (get_or shown k [])))
 
-pub none_held : (t : Table) (IsRow : Row → Type 0) (db : Database) (rows : List Row) → Lists t (begins_with []) db rows → HasOther IsRow rows ⊎ FailsToRise t rows → HoldsNone t IsRow db
+pub none_held : (t : Table) (IsRow : Row → Type 0) (db : Database) (rows : List Row) → Lists t (begins_with []) db rows → HasInvalidRow IsRow rows ⊎ FailsToRise t rows → HoldsNone t IsRow db
 none_held t IsRow db rows lists (inl other) held all rise holds = no_wrong IsRow rows other held all (held_listed t db rows lists held holds)
 none_held t IsRow db rows lists (inr fails) held all rise holds = no_repeat t rows lists.sorted fails held rise (held_listed t db rows lists held holds)
 
--- ---- lists that rise
+-- ---- ascending lists
 
 never : {X : Type 0} {cmp : X → X → Ordering} → IsTotalOrder cmp → (x y : X) → cmp x y ≡ Less → cmp y x ≡ Less → ⊥
 never {X} {cmp} total x y h k = let turned = total.antisymm x y in let e : Less ≡ ordering_reverse Less = sym h ∙ turned ∙ ap ordering_reverse k in absurd cc
 
--- two lists that rise by one order and have the same elements are one
+-- two lists with the same elements, ascending in the same order, are equal
 pub rising_same : {X : Type 0} {cmp : X → X → Ordering} → IsTotalOrder cmp → (xs ys : List X) → IsStrictlySortedBy cmp xs → IsStrictlySortedBy cmp ys
     → ((z : X) → Has xs z → Has ys z) → ((z : X) → Has ys z → Has xs z) → xs ≡ ys
 rising_same total [] [] up above there back = refl
@@ -200,7 +200,7 @@ rising_same {X} {cmp} total (x ∷ xs) (y ∷ ys) up above there back =
     ] in
     ap (λ z. z ∷ xs) head ∙ ap (λ l. y ∷ l) (rising_same total xs ys (sorted_tail cmp x xs up) (sorted_tail cmp y ys above) first second)
 
--- rows in the order of the key, which are those of a list that rises by it, are that list
+-- rows in key order that are those of a list in ascending key order are that list
 pub found_same : (t : Table) (rows held : List Row) → IsSorted (row_cmp t) rows → IsStrictlySortedBy (row_cmp t) held → IsPermutation held rows → held ≡ rows
 found_same t rows held sorted rise same =
     rising_same (row_total t) held rows rise (rise_all t rows each) (λ r h. permuted_has r held rows same h) (λ r h. permuted_has r rows held (IsPermutation-sym _ _ same) h)

@@ -26,7 +26,7 @@ pub none_from : (schema : Schema) (tree : ℕ) (olds news : List Row) (ts : List
 none_from schema tree olds news [] h = refl
 none_from schema tree olds news (t ∷ ts) h = rw h.0 (none_from schema tree olds news ts h.1)
 
--- these parameters in turn
+-- these parameters in order
 abbrev pub given : List ℕ → List Term
 given = map (col 0)
 
@@ -41,7 +41,7 @@ module _ (rest : List Definition) (others : List Index) (views : List View) wher
   abbrev schema : Schema
   schema = schema_from 11 rest others views
 
-  -- what the INSERT of a table has to be
+  -- the condition on the INSERT of a table
   pub record InsertsRow (t : Table) : Type 0 where
     pub place : slice_get schema.tables (place_of t) ≡ Some (definition t)
     pub is : command_of (understood schema (insert_text t)) ≡ Insert (place_of t) (Values (inserted t) (width_of t))

@@ -29,7 +29,7 @@ use Rattle.tables.proofs.ReadLemmas.{rests_at}
 use Rattle.tables.proofs.SelectLemmas.{reads_rows, shows_columns, ordered_terms, ordered_keys, columns_from, ordered_from}
 use Rattle.tables.proofs.Queries.{Reads, scans, selects_rowids}
 
--- a schema that begins with all tables begins with those up to each
+-- a schema that begins with all tables begins with those up to any one
 pub begins_to : (t : Table) (s : Schema) → IsOfficeSchema s → BeginsTo t s
 begins_to Office s h =
     record { rest = map definition (drop (1 + place_of Office) all_tables) ++ h.rest; others = map key_index (drop (1 + place_of Office) all_tables) ++ h.others; views = h.views; is = h.is }
@@ -51,7 +51,7 @@ keys_shown : (m n : ℕ) → m ≤ n → (a b : Row) → keys_cmp m (at (places_
 keys_shown m n low a b = same_keys 0 m (at (places_from 0 m) a) (at (places_from 0 m) b) (at (places_from 0 n) a) (at (places_from 0 n) b)
     (λ j h. column_shown m j a (omega (arith, h)) ∙ sym (column_shown n j a (omega (arith, h, low)))) (λ j h. column_shown m j b (omega (arith, h)) ∙ sym (column_shown n j b (omega (arith, h, low))))
 
--- what is shown of rows has the order of the rows
+-- what is shown of rows is in the order of the rows
 pub order_shown : (t : Table) (a b : Row) → row_cmp t (at (column_places t) a) (at (column_places t) b) ≡ row_cmp t a b
 order_shown t a b =
     let within = key_within t in
@@ -60,7 +60,7 @@ order_shown t a b =
 
 -- ---- rows that pass a test
 
--- what a connection rests at
+-- the office of a connection between two transactions
 pub office_of : (c : Contents) (s : State) → Rests c s → OfficeAt c s.now
 unfolding IsOffice
 office_of c s rests = rests.office
@@ -103,7 +103,7 @@ module _ (t : Table) (sql : List ℕ) (tests : List Term) (reads : Reads t sql t
       found_in t test c old.now (rows x) (office_of c old rests) (listed old.now (begins_to t old.now.schema (office_of c old rests).begins) old new (rows x) (rests_at c old rests) shown)
   if_found c old new rows (Err e) rests shown = tt
 
--- ---- all rows, as the table has them
+-- ---- all rows, in stored order
 
 pub scanned : (t : Table) (db : Database) → BeginsTo t db.schema → (old new : State) (rows : List Row) → RestsAt db old → Shown (scan_text t) [] old new rows
     → IsPermutation (map (at (column_places t)) (tuples t db.trees)) rows
@@ -123,7 +123,7 @@ pub if_scanned : {X F : Type 0} (t : Table) (db : Database) → BeginsTo t db.sc
 if_scanned t db begins old new rows (Ok x) rests shown = scanned t db begins old new (rows x) rests shown
 if_scanned t db begins old new rows (Err e) rests shown = tt
 
--- the same rows in the order of the key are listed
+-- the same rows in key order are listed
 pub in_order_listed : (t : Table) (db : Database) (rows sorted : List Row) → IsPermutation (map (at (column_places t)) (tuples t db.trees)) rows → IsPermutation rows sorted
     → IsSorted (row_cmp t) sorted → Lists t (begins_with []) db sorted
 in_order_listed t db rows sorted scan same up = record {

@@ -1,4 +1,4 @@
--- The tables, made one after the other.
+-- Creating the tables, one after another.
 use Rattle.std.proofs.Common.{◌≡◌, inl, inr, ℕ, zero, suc, ◌+◌, ◌<◌, ◌≤◌, List, [], ◌∷◌, ◌++◌, append_assoc, map, drop, take, slice_get, Some, true, false, None, Ok, Err, Result, OnOk}
 use Rattle.std.proofs.Common.{IsTrue, refl, sym, ap, subst, ◌∙◌, arith}
 use Rattle.std.specs.List.{AllByRecursion}
@@ -32,7 +32,7 @@ use Rattle.tables.specs.Texts.{create_text}
 use Rattle.tables.specs.Schema.{Definition, BeginsTo, schema_from, no_schema, definition, shaped, shape, place_of, tree_of, all_tables, key_index}
 use Rattle.tables.specs.Rows.{Keyed}
 use Rattle.tables.specs.Contents.{Contents, HoldsTable, IsOffice, Sees}
-use Rattle.tables.specs.Making.{HoldsFirst, FirstAt, HasFirst, RestsFirst, SeesMade, StoresFirst}
+use Rattle.tables.specs.Making.{HoldsFirst, FirstAt, HasFirstTables, RestsFirst, SeesMade, StoresFirst}
 use Rattle.tables.proofs.ListLemmas.{mapped_has, front_has}
 use Rattle.tables.proofs.TableLemmas.{same_place, place_below}
 use Rattle.tables.proofs.WentLemmas.{went, same_value}
@@ -41,7 +41,7 @@ use Rattle.tables.proofs.WentLemmas.{went, same_value}
 abbrev before : Table → Schema
 before t = schema_from (place_of t) [] [] []
 
--- what the CREATE TABLE of a table has to be
+-- the condition on the CREATE TABLE of a table
 record MakesTable (t : Table) : Type 0 where
   is : command_of (understood (before t) (create_text t)) ≡ CreateTable
   plain : IsPlain (understood (before t) (create_text t))
@@ -56,7 +56,7 @@ unfolding understood everything create_text
 makes_table Office = record { is = refl; plain = (refl, refl); whole = refl; defined = refl; uncounted = refl; next = refl; tree = refl }
 makes_table t = record { is = refl; plain = (refl, refl); whole = refl; defined = refl; uncounted = refl; next = refl; tree = refl }
 
--- ---- one table more
+-- ---- one more table
 
 taken_has : {X : Type 0} (xs : List X) (n k : ℕ) (x : X) → k < n → slice_get xs k ≡ Some x → Has (take n xs) x
 taken_has [] n k x low at = absurd cc
@@ -91,7 +91,7 @@ one_more t c none old new others empty holds u low = elim (cases_lt (place_of u)
 ]
 
 makes : (t : Table) (c : Contents) → c t ≡ [] → (old new : State) (count : ℕ) → SeesMade (place_of t) c old → ExecutesInside 0 (create_text t) [] old new (Ok count) → SeesMade (place_of t + 1) c new
-unfolding HasFirst
+unfolding HasFirstTables
 makes t c none old new count sees h =
     let it = makes_table t in
     let had = sees.first in
@@ -126,12 +126,12 @@ table_made t c none old new (Err e) runs sees = tt
 
 -- no table yet
 pub none_made : (c : Contents) (s : State) → IsTrue s.in_transaction → s.now.schema ≡ no_schema → IsDatabase s.now → SeesMade 0 c s
-unfolding HasFirst
+unfolding HasFirstTables
 none_made c s inside blank sound = record { inside = inside; first = record { schema = blank; sound = sound; holds = λ t low. absurd (omega (arith, low)) } }
 
--- all tables: an office
+-- all tables make an office
 pub all_made : (c : Contents) (s : State) → SeesMade 11 c s → Sees c s
-unfolding HasFirst IsOffice
+unfolding HasFirstTables IsOffice
 all_made c s sees = record {
   inside = sees.inside;
   office = record {
@@ -143,12 +143,12 @@ all_made c s sees = record {
 
 -- ---- an office with only the first tables
 
-pub first_from : (n : ℕ) (c : Contents) (db : Database) → FirstAt n c db → HasFirst n c db
-unfolding HasFirst
+pub first_from : (n : ℕ) (c : Contents) (db : Database) → FirstAt n c db → HasFirstTables n c db
+unfolding HasFirstTables
 first_from n c db first = first
 
-pub first_at : (n : ℕ) (c : Contents) (db : Database) → HasFirst n c db → FirstAt n c db
-unfolding HasFirst
+pub first_at : (n : ℕ) (c : Contents) (db : Database) → HasFirstTables n c db → FirstAt n c db
+unfolding HasFirstTables
 first_at n c db first = first
 
 split : {X : Type 0} (xs : List X) (k n : ℕ) → k ≤ n → take n xs ≡ take k xs ++ drop k (take n xs)
@@ -157,7 +157,7 @@ split xs (suc k) zero low = absurd (omega (arith, low))
 split [] (suc k) (suc n) low = refl
 split (x ∷ xs) (suc k) (suc n) low = ap (λ l. x ∷ l) (split xs k n (omega (arith, low)))
 
--- so many tables begin with fewer
+-- the first tables begin with any fewer of them
 parted : (k n : ℕ) → k ≤ n → schema_from n [] [] [] ≡ schema_from k (map definition (drop k (take n all_tables)) ++ []) (map key_index (drop k (take n all_tables)) ++ []) []
 parted k n low = go (take n all_tables) (take k all_tables) (drop k (take n all_tables)) (split all_tables k n low)
   where
@@ -179,19 +179,19 @@ first_begins n s is t low =
     let k = 1 + place_of t in
     record { rest = map definition (drop k (take n all_tables)) ++ []; others = map key_index (drop k (take n all_tables)) ++ []; views = []; is = is ∙ parted k n (omega (arith, low)) }
 
--- an open connection leaves the last commit and nothing else, where the store says so
+-- an open connection leaves only the last commit, if the store guarantees it
 pub first_leaves : (n : ℕ) (c : Contents) (s : State) → ((trees : Trees) → IsTrue s.is_open → s.may_leave trees → trees ≡ s.committed.trees) → RestsFirst n c s → (trees : Trees)
     → s.may_leave trees → StoresFirst n c trees
 first_leaves n c s settled rests trees may = record { db = s.now; first = rests.first; same = settled trees rests.is_open may ∙ ap (λ (d : Database). d.trees) (sym rests.settled) }
 
--- What a stop left is found again: a schema is told by its trees.
-pub first_found : (n : ℕ) (c : Contents) (db : Database) → IsDatabase db → StoresFirst n c db.trees → HasFirst n c db
-unfolding HasFirst
+-- What a stop left is found after reopening: the trees determine the schema.
+pub first_found : (n : ℕ) (c : Contents) (db : Database) → IsDatabase db → StoresFirst n c db.trees → HasFirstTables n c db
+unfolding HasFirstTables
 first_found n c db sound stores =
     let was = stores.first in
     let lists : Lists (db.trees catalog_tree) stores.db.schema = subst (λ (t : Trees). Lists (t catalog_tree) stores.db.schema) (sym stores.same) was.sound.lists in
     record { schema = lists_once (db.trees catalog_tree) db.schema stores.db.schema sound.lists lists ∙ was.schema; sound = sound; holds = subst (HoldsFirst n c) (sym stores.same) was.holds }
 
--- a transaction begins with what its connection rests at
+-- a transaction begins at the state of its connection
 pub begun_first : {S : Type 0} (g : Ghosts S) (n : ℕ) (c : Contents) (old : Held S) → RestsFirst n c (state g old) → SeesMade n c (state g (record old { in_transaction = true }))
 begun_first g n c old rests = record { inside = refl; first = rests.first }

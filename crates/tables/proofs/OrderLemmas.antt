@@ -28,7 +28,7 @@ use Rattle.tables.proofs.ListLemmas.{get_any}
 
 -- ---- SQL's = of keys
 
--- what a truth is read as, when it is written as a number
+-- the truth value that is read from its number
 told : (b : Bool) → is_true (from_truth (Some b)) ≡ b
 told true = refl
 told false = refl
@@ -138,7 +138,7 @@ key_of_number_and_bytes n m s t =
     ap (λ b. b && (equal Binary (Blob t) (Blob s) && true)) (equal-Int (pos m) (pos n) ∙ ap is_eq (numbers m n) ∙ turned nat_cmp_total m n)
     ∙ ap (λ b. is_eq (nat_cmp n m) && b) (and-true _ ∙ equal-Blob t s ∙ turned nat_list_cmp_total t s) ∙ then_equal (nat_cmp n m) (slice_cmp nat_cmp s t)
 
--- ---- rows that rise
+-- ---- ascending rows
 
 pub row_total : (t : Table) → IsTotalOrder (row_cmp t)
 row_total t = key_cmp_total (ascending_keys (shape t).key) 0
@@ -158,7 +158,7 @@ falls t x y low greater =
     let e : true ≡ false = sym (ap is_lt turned) ∙ low in
     absurd cc
 
--- of rows in the order of their keys, two that do not rise have one key
+-- if two neighbours of rows in key order aren't ascending, they have the same key
 pub one_key : (t : Table) (rows : List Row) → IsSorted (row_cmp t) rows → (fails : FailsToRise t rows) → row_cmp t (get_or rows fails.0 []) (get_or rows (fails.0 + 1) []) ≡ Equal
 one_key t rows sorted fails = tie (row_cmp t (get_or rows fails.0 []) (get_or rows (fails.0 + 1) [])) refl
   where
@@ -174,7 +174,7 @@ below : {X : Type 0} (row : X → Row) (by : Row → Row → Ordering) (cmp : X 
 below row by cmp alike x [] all = tt
 below row by cmp alike x (y ∷ ys) all = (alike x y ∙ all.0, below row by cmp alike x ys all.1)
 
--- the rows of entries rise as the entries do
+-- the rows of entries ascend if the entries do
 pub rows_rise : {X : Type 0} (row : X → Row) (by : Row → Row → Ordering) (cmp : X → X → Ordering) → ((x y : X) → by (row x) (row y) ≡ cmp x y) → (xs : List X) → IsStrictlySortedBy cmp xs
     → IsStrictlySortedBy by (map row xs)
 unfolding IsStrictlySortedBy

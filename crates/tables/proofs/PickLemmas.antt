@@ -1,4 +1,4 @@
--- Rows that go by their rowids.
+-- Rows identified by their rowids.
 use Rattle.std.proofs.Common.{◌≡◌, inl, inr, ℤ, List, [], ◌∷◌, map, filter, Bool, true, false, not, cond, refl, sym, ap, subst, ◌∙◌, true≢false, ◌&&◌, ◌||◌, arith}
 use Rattle.std.specs.List.{list_any}
 use Rattle.std.specs.List.Sorted.{IsPermutation}
@@ -63,11 +63,11 @@ itself r int = ap (λ v. is_eq (value_cmp v (Int (id_in (rowid r))))) (int_is (r
 module _ (p : Row → Bool) (show : Row → Row) (same_rowid : (r : Row) → rowid (show r) ≡ rowid r) (rows : List Row) (keyed : Keyed rows)
     (ordered found : List Row) (from : IsPermutation (filter p rows) ordered) (shown : found ≡ map show ordered)
   where
-    -- a row that was picked is there and passes
+    -- a row that was picked exists and passes
     pub picked : (r : Row) → Has ordered r → Has rows r × (p r ≡ true)
     picked r there = has_filtered p rows r (permuted_has r ordered (filter p rows) (IsPermutation-sym (filter p rows) ordered from) there)
 
-    -- the ids that are shown name the rows that pass
+    -- the ids shown identify the rows that pass
     picks : (r : Row) → Has rows r → named (ids_of found) r ≡ p r
     picks r here = elim (cases_Bool (p r)) [
       | inl passes ↦
@@ -88,11 +88,11 @@ module _ (p : Row → Bool) (show : Row → Row) (same_rowid : (r : Row) → row
       ]
     ]
 
-    -- without those that are shown, the rows that do not pass are left
+    -- without the rows shown, the rows that do not pass remain
     pub picked_left : without_all rows (ids_of found) ≡ filter (λ r. not (p r)) rows
     picked_left = without_named (ids_of found) rows ∙ filtered_same _ _ rows (λ r here. ap not (picks r here))
 
--- some of the rows have rowids of their own too
+-- rowids also identify the rows of a part
 pub keyed_filtered : (p : Row → Bool) (rows : List Row) → Keyed rows → Keyed (filter p rows)
 keyed_filtered p rows keyed =
     let was = λ (r : Row) (there : Has (filter p rows) r). (has_filtered p rows r there).0 in

@@ -15,7 +15,7 @@ use Rattle.tables.specs.declared.fault.Fault.TheVariants.{Memory, Damaged}
 use Rattle.tables.specs.Schema.{columns_of}
 use Rattle.tables.specs.Rows.{at, column_places, is_row_of}
 use Rattle.tables.specs.Contents.{Contents, Rests}
-use Rattle.tables.specs.Reading.{Finds, HasOther}
+use Rattle.tables.specs.Reading.{Finds, HasInvalidRow}
 use Rattle.tables.proofs.ListLemmas.{mapped_same, mapped_itself, permuted_has, has_at}
 use Rattle.tables.proofs.ColumnPlaceLemmas.{typed_at}
 use Rattle.tables.proofs.ListingLemmas.{office_of}
@@ -24,7 +24,7 @@ use Rattle.tables.proofs.ListingLemmas.{office_of}
 pub itself : (t : Table) (c : Contents) (s : State) → Rests c s → (r : Row) → Has (c t) r → at (column_places t) r ≡ r
 itself t c s rests r there = typed_at (columns_of t) r (test_has (is_row_of t) (c t) r ((office_of c s rests).holds t).typed there)
 
--- the entries' rows are the rows that were found
+-- the rows of the entries are the rows found
 pub found_as : (t : Table) (test : Row → Bool) (c : Contents) (rows shown : List Row) → Finds t test c rows → map (at (column_places t)) rows ≡ shown → (s : State) → Rests c s → Finds t test c shown
 found_as t test c rows shown finds is s rests =
     let whole : map (at (column_places t)) rows ≡ rows =
@@ -32,9 +32,9 @@ found_as t test c rows shown finds is s rests =
     ∙ mapped_itself rows in
     subst (Finds t test c) (sym whole ∙ is) finds
 
--- where all rows are entries', only want of memory is told
+-- if all rows represent entries, the only fault is out of memory
 pub found_cause : (t : Table) (test : Row → Bool) (c : Contents) (IsRow : Row → Type 0) (rows : List Row) (f : Fault) → Finds t test c rows → AllByRecursion IsRow (c t)
-    → (f ≡ Memory) ⊎ ((f ≡ Damaged) × HasOther IsRow rows) → f ≡ Memory
+    → (f ≡ Memory) ⊎ ((f ≡ Damaged) × HasInvalidRow IsRow rows) → f ≡ Memory
 found_cause t test c IsRow rows f finds all (inl memory) = memory
 found_cause t test c IsRow rows f finds all (inr wrong) =
     let k = wrong.1 in
@@ -43,8 +43,8 @@ found_cause t test c IsRow rows f finds all (inr wrong) =
 
 -- ---- the row with a key
 
--- the one row of a query is that of no entry
-pub one_other : (IsRow : Row → Type 0) (o : Option Row) (rows : List Row) → rows ≡ option_to_list o → HasOther IsRow rows → ¬ IfSome o IsRow
+-- the only row of a query represents no entry
+pub one_other : (IsRow : Row → Type 0) (o : Option Row) (rows : List Row) → rows ≡ option_to_list o → HasInvalidRow IsRow rows → ¬ IfSome o IsRow
 one_other IsRow None rows is wrong fits = let low = wrong.1 in let none = ap length is in omega (arith, low, none)
 one_other IsRow (Some r) rows is wrong fits =
     let low = wrong.1 in

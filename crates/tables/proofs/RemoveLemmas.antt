@@ -31,7 +31,7 @@ use Rattle.tables.proofs.WentLemmas.{write_went, delete_went}
 use Rattle.tables.proofs.PickLemmas.{picked_left, keyed_filtered}
 use Rattle.tables.proofs.SelectLemmas.{query, selects, tests_from, tests_agree}
 
--- the rows with a key are gone from a table
+-- the rows with a key are removed from a table
 pub record Removes (schema : Schema) (t : Table) (key : Row) (old new : Database) : Type 0 where
   pub changes : Changes schema (tree_of t) old new
   pub rows : tuples t new.trees ≡ filter (λ r. not (has_key t key r)) (tuples t old.trees)
@@ -44,7 +44,7 @@ module _ (schema : Schema) (t : Table) (alone : (olds news : List Row) → works
     abbrev program : Program
     program = record { lets = []; body = query (tree_of t) (tests_from 0 (shape t).key) (col 1 0 ∷ []) [] }
 
-    -- without the rows that the query picked, those that do not have the key are left
+    -- without the rows picked by the query, those that do not have the key remain
     finish : (old new : Database) → IsDatabase new → Keyed (old.trees (tree_of t)) → (trees : Trees) → new ≡ record { schema = schema; trees = trees } → (found : List Row)
         → Answers (record { schema = schema; trees = old.trees }) program params found
         → Edited schema Enforced old.trees (edit_of old.trees (definition t) (ids_of found) Given 0 []) (Ok trees) → Removes schema t params old new

@@ -54,7 +54,7 @@ numbered_given : (rows news : List Row) → numbered Given rows news ≡ news
 numbered_given rows [] = refl
 numbered_given rows (n ∷ news) = ap (λ l. n ∷ l) (numbered_given (put_row n rows) news)
 
--- those that pass, each made another, and those that do not
+-- those that pass, each changed, and those that do not
 parted : {X : Type 0} (p : X → Bool) (f : X → X) (xs : List X) → IsPermutation (map f (filter p xs) ++ filter (λ x. not (p x)) xs) (map (λ x. cond (p x) (f x) x) xs)
 parted p f [] = IsPermutation-refl []
 parted p f (x ∷ xs) = go (p x) (parted p f xs)
@@ -76,7 +76,7 @@ shows_updated t params r =
 
 -- ---- the statement
 
--- what is made of it stands in the place of each row with a key in a table
+-- in a table every row with a key is replaced by what is made of it
 pub record Replaces (schema : Schema) (t : Table) (key : Row) (made : Row → Row) (old new : Database) : Type 0 where
   pub changes : Changes schema (tree_of t) old new
   pub rows : IsPermutation (map (λ r. cond (has_key t key r) (made r) r) (tuples t old.trees)) (tuples t new.trees)
@@ -91,7 +91,7 @@ module _ (schema : Schema) (t : Table) (alone : (olds news : List Row) → works
     abbrev program : Program
     program = record { lets = []; body = query (tree_of t) (tests_from 0 (shape t).key) project [] }
 
-    -- the rows that the query picked go, and each comes back under its rowid as what is made of it
+    -- the rows picked by the query are removed, and what is made of each is inserted with its rowid
     finish : (old new : Database) → IsDatabase new → Keyed (old.trees (tree_of t)) → list_all (is_row_of t) (tuples t old.trees) ≡ true → (trees : Trees)
         → new ≡ record { schema = schema; trees = trees } → (found : List Row)
         → Answers (record { schema = schema; trees = old.trees }) program params found

@@ -1,4 +1,4 @@
--- What the rowids of a table, in order, tell of it.
+-- What the rowids of a table, in order, prove about it.
 use Rattle.std.proofs.lemmas.Bool.{cases_lt}
 use Rattle.std.proofs.Common.{◌≡◌, ◌⊎◌, inl, inr, ℕ, ◌+◌, ◌<◌, ◌≤ℤ◌, ℤ, List, [], ◌∷◌, map, length, get_or, true, false, refl, sym, ap, subst, ◌∙◌, arith, Less, Equal, int_cmp, add-one, ◌<ℤ◌, ◌-◌}
 use Rattle.std.specs.Ordering.{is_lt}
@@ -30,9 +30,9 @@ no_integer (Real x) none = refl
 no_integer (Text t) none = refl
 no_integer (Blob b) none = refl
 
--- ---- one rowid more
+-- ---- one more rowid
 
--- the rowid of a row that was read at a place
+-- the rowid of a row read at a place
 pub rowid_there : (rows : List Row) (k : ℕ) (r : Row) (n : ℤ) → k < length rows → r ≡ get_or rows k r → rowid r ≡ Int n → rowid (get_or rows k []) ≡ Int n
 rowid_there rows k r n low is id = ap rowid (get_any rows k [] r low ∙ sym is) ∙ id
 
@@ -62,7 +62,7 @@ fall_there rows i m n some low first second above =
     let next : i ≡ i - 1 + 1 = omega (arith, some) in
     inr ((i - 1), m, n, omega (arith, some, low), first, subst (λ j. rowid (get_or rows j []) ≡ Int n) next second, above)
 
--- ---- rowids that rise
+-- ---- ascending rowids
 
 above : (r : Row) (rows : List Row) → IsStrictlySortedBy value_cmp (map rowid (r ∷ rows)) → (x : Row) → Has rows x → rowid x ≡ rowid r → ⊥
 above r rows up x h same =
@@ -113,7 +113,7 @@ keyed_from t db rows lists rise =
     each (w ∷ ws) all v (inl same) = ap is_int same ∙ all 0 (omega arith)
     each (w ∷ ws) all v (inr later) = each ws (λ k low. subst (λ n. is_int (get_or (w ∷ ws) n Null) ≡ true) (add-one k) (all (k + 1) (omega (arith, low)))) v later
 
--- ---- rowids that do not: the order of the query leaves two rows with one rowid
+-- ---- rowids that are not ascending: the order of the query leaves two rows with the same rowid
 
 not_above : (a b : ℤ) → is_lt (int_cmp b a) ≡ false → b ≤ℤ a → a ≡ b
 not_above a b low high = grind (arith, ints, nat_tests)

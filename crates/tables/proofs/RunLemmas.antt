@@ -18,8 +18,8 @@ use Rattle.tables.specs.Texts.{select_rowid_text, select_between_text}
 use Rattle.tables.specs.Schema.{BeginsTo, schema_from, places_from, place_of, tree_of, shape, columns_of}
 use Rattle.tables.specs.Rows.{at, agree_at, begins_key, begins_with, column_places, tuples}
 use Rattle.tables.specs.Contents.{Contents, RestsAt, Rests, RestsIfOpen}
-use Rattle.tables.specs.Reading.{FailsBy, HasOther, alone}
-use Rattle.tables.specs.Runs.{lies_between, run_of, StandsAt}
+use Rattle.tables.specs.Reading.{FailsBy, HasInvalidRow, alone}
+use Rattle.tables.specs.RowidRanges.{lies_between, run_of, StandsAt}
 use Rattle.tables.specs.Faults.{TellsQuery}
 use Rattle.tables.proofs.ListLemmas.{mapped_has, has_mapped, mapped_same, mapped_twice, mapped_itself, permuted_has, all_from, has_at}
 use Rattle.tables.proofs.SelectLemmas.{reads_rows, shows_columns, tests_agree}
@@ -30,7 +30,7 @@ use Rattle.tables.proofs.RunQueries.{selects_rowid, accepts_rowid, between_tests
 
 -- ---- the rowid of the row with a key
 
--- what is shown are rowids of rows with the key
+-- the rows shown are rowids of rows with the key
 pub rowid_shown : (t : Table) (key : Row) → length key ≡ (shape t).key → (db : Database) → BeginsTo t db.schema → (old new : State) (rows : List Row)
     → RestsAt db old → Shown (select_rowid_text t) key old new rows
     → IsPermutation (map alone (filter (λ r. begins_with key (drop 1 r)) (db.trees (tree_of t)))) rows
@@ -50,7 +50,7 @@ pub if_rowid_shown : {X F : Type 0} (t : Table) (key : Row) → length key ≡ (
 if_rowid_shown t key many db begins old new rows (Ok x) rests shown = rowid_shown t key many db begins old new (rows x) rests shown
 if_rowid_shown t key many db begins old new rows (Err e) rests shown = tt
 
--- the rowid in one of the rows shown is that of a row with the key
+-- the rowid in a row shown is that of a row with the key
 pub stands_at : (t : Table) (key : Row) (db : Database) (rows : List Row) (row : Row) (id : ℤ) → IsPermutation (map alone (filter (λ r. begins_with key (drop 1 r)) (db.trees (tree_of t)))) rows
     → Has rows row → rowid row ≡ Int id → StandsAt t key db.trees id
 stands_at t key db rows row id same there is =
@@ -74,7 +74,7 @@ rowid_fails {X} t key many kinds c old new (Err f) clean at tells =
     if_fails schema (select_rowid_text t) (tree_of t) _ _ _ _ ((selects_rowid t).select begins.rest begins.others begins.views) key (places_length 0 (shape t).key ∙ sym many)
     (accepts_rowid t key kinds many begins.rest begins.others begins.views) {X = X} old new (Err f) clean begins.is tells)
 
--- ---- the rows whose rowids lie between two
+-- ---- the rows whose rowids are between two
 
 between_tested : (low high : ℤ) (r : Row) → list_all (holds ((Int low ∷ Int high ∷ []) ∷ r ∷ [])) between_tests ≡ lies_between low high r
 between_tested low high r = rw (and-true _) refl
@@ -143,6 +143,6 @@ module _ (t : Table) (low high : ℤ) (c : Contents) (s : State) (rests : Rests 
   pub all_in_table : (found : List Row) → map (at (column_places t)) rows ≡ found → AllByRecursion (Has (c t)) found
   all_in_table found is = subst (AllByRecursion (Has (c t))) (sym shown_themselves ∙ is) (all_from (Has (c t)) rows shown_in_table)
 
-  -- where all rows of the table are entries', so are these
-  pub none_other : (IsRow : Row → Type 0) → AllByRecursion IsRow (c t) → ¬ HasOther IsRow rows
+  -- if all rows of the table represent entries, so do these
+  pub none_other : (IsRow : Row → Type 0) → AllByRecursion IsRow (c t) → ¬ HasInvalidRow IsRow rows
   none_other IsRow all wrong = wrong.2 (all_has IsRow (c t) _ all (shown_in_table _ (has_at rows wrong.0 [] wrong.1)))

@@ -1,4 +1,4 @@
--- One SELECT over one table.
+-- A SELECT from one table.
 use Rattle.std.proofs.Common.{◌≡◌, ℕ, zero, suc, pos, negsuc, List, [], ◌∷◌, ◌++◌, map, filter, drop, Bool, true, false, cond, None, length, Ok, Err, Result, refl, sym, ap, subst, ◌∙◌, Ordering, ◌&&◌}
 use Rattle.std.specs.List.{list_all, flat_map}
 use Rattle.std.specs.Ordering.{on}
@@ -34,7 +34,7 @@ drop_none : {X : Type 0} (xs : List X) → drop 0 xs ≡ xs
 drop_none [] = refl
 drop_none (x ∷ xs) = refl
 
--- the query, as `sqlite` reads it in the text
+-- the query as `sqlite` parses it from the text
 abbrev pub query : ℕ → List Term → List Term → List (Term × Key) → Query
 query tree tests project order = record {
   from = inner tree end;
@@ -48,7 +48,7 @@ query tree tests project order = record {
   offset = lit (Int (pos 0));
 }
 
--- the rows that pass the test, in an order by their keys, each as it is shown
+-- the rows that pass the test, ordered by their keys, each in the form shown
 pub record Selects (test : Row → Bool) (key show : Row → Row) (cmp : Row → Row → Ordering) (from rows : List Row) : Type 0 where
   pub ordered : List Row
   pub same : IsPermutation (filter test from) ordered
@@ -94,7 +94,7 @@ module _ (into : Row → Row) (tree : ℕ) (tests : List Term) (project : List T
             shown = a.shown ∙ drop_none _ ∙ ap (map (λ (o : Output). o.1)) pulled.2 ∙ shown_pairs pulled.0;
           }
 
--- where the statement ends, and how many parameters it takes
+-- where the statement ends, and its number of parameters
 abbrev pub tail_of : Result Compiled CompileError → ℕ
 tail_of (Ok c) = c.tail
 tail_of (Err e) = 0
@@ -103,7 +103,7 @@ abbrev pub asked_of : Result Compiled CompileError → ℕ
 asked_of (Ok c) = length c.names
 asked_of (Err e) = 0
 
--- what a SELECT over one table has to be
+-- the condition on a SELECT from one table
 pub record IsSelect (schema : Schema) (sql : List ℕ) (tree : ℕ) (tests project : List Term) (order : List (Term × Key)) (names : List (List ℕ)) : Type 0 where
   pub is : command_of (understood schema sql) ≡ Select (record { lets = []; body = query tree tests project order }) names
   pub unlisted : reads_listing schema sql ≡ false
@@ -132,7 +132,7 @@ pub later : (k : ℕ) (r : Row) → column r (suc k) ≡ column (drop 1 r) k
 later k [] = refl
 later k (x ∷ xs) = refl
 
--- the columns from a place on
+-- the columns from a place
 abbrev pub columns_from : ℕ → ℕ → List Term
 columns_from k n = map (col 1) (places_from (suc k) n)
 

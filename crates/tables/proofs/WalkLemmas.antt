@@ -1,4 +1,4 @@
--- What is known while rows are read one after the other.
+-- What is known while rows are read one at a time.
 use Rattle.std.proofs.Common.{◌≡◌, ◌⊎◌, inl, inr, ℕ, ◌≤◌, List, [], ◌∷◌, ◌++◌, map, length, append-nil, append_assoc, true, false, None, Some, Ok, Err, Result, OnOk, IfErr, IsTrue, refl}
 use Rattle.std.proofs.Common.{sym, ap, subst, ◌∙◌, arith}
 use Rattle.std.specs.List.{AllByRecursion}
@@ -38,7 +38,7 @@ use Rattle.tables.proofs.CauseLemmas.{fails_later, key_fails}
 
 -- ---- what a step leaves of the connection
 
--- one row more, or none, or an error
+-- one more row, or none, or an error
 pub step_reads : {X : Type 0} (old new : State) (r : Result X Error) → (HasCleanDisk new → OnOk r (IsUnchanged old new))
     → (HasCleanDisk new → IfErr r (λ e. Fails old new ⊥ e ⊎ IsUnchanged old new)) → Survives old new (λ _. ⊥) → OnlyReads old new
 step_reads {X} old new r same kept survives = reads_left (λ _. ⊥) old new (λ trees none. none) (λ clean. go r (same clean) (kept clean)) survives
@@ -69,7 +69,7 @@ pub refused_reads : (sql : List ℕ) (params : Row) (old new : State) (e : Error
     → Survives old new (CommitsShowing sql params old) → OnlyReads old new
 refused_reads sql params old new e query failed survives = only_reads sql params old new (λ (rows : List Row). rows) (Err e) query (λ clean. tt) failed survives
 
--- ---- rows that were given
+-- ---- rows returned so far
 
 still_open : (s : State) → IsTrue s.is_open → IsUnchanged s s
 still_open s is_open = (record { was_open = is_open; is_open = is_open; now_is = refl; committed_is = refl; mode = refl }, record { changes = refl; last_rowid = refl }, refl)
@@ -78,7 +78,7 @@ module _ {S : Type 0} (g : Ghosts S) (t : Table) (key : Row) (low : length key �
   abbrev sql : List ℕ
   sql = select_text t (length key)
 
-  -- a row that was given is one of the table
+  -- a row returned is one of the table
   given_there : (h : Held S) → Rests c (state g h) → (rows : List Row) → HasGiven g sql key h rows → (row : Row) → Has rows row → Has (c t) row
   given_there h rests rows given row there =
       let begins = begins_to t h.schema (office_of c (state g h) rests).begins in
@@ -92,20 +92,20 @@ module _ {S : Type 0} (g : Ghosts S) (t : Table) (key : Row) (low : length key �
 
 -- ---- a walk from its start to a row
 
--- so many rows were given, and their entries taken in
-pub record HasWalked {S V X : Type 0} (g : Ghosts S) (t : Table) (row_of : X → Row) (HasTaken : V → List X → Type 0) (start now : Held S) (was is : V) : Type 0 where
+-- this many rows were returned, and their entries consumed
+pub record HasWalked {S V X : Type 0} (g : Ghosts S) (t : Table) (row_of : X → Row) (HasVisited : V → List X → Type 0) (start now : Held S) (was is : V) : Type 0 where
   pub given : List Row
   pub found : List X
   pub gives : (sql : List ℕ) (params : Row) → HasGiven g sql params start [] → HasGiven g sql params now given
   pub same : map (at (column_places t)) given ≡ map row_of found
-  pub taken : (before : List X) → HasTaken was before → HasTaken is (before ++ found)
+  pub taken : (before : List X) → HasVisited was before → HasVisited is (before ++ found)
 
-module _ {S V X : Type 0} (g : Ghosts S) (t : Table) (row_of : X → Row) (HasTaken : V → List X → Type 0) where
-  pub none_walked : (start : Held S) (was : V) → HasWalked g t row_of HasTaken start start was was
-  none_walked start was = record { given = []; found = []; gives = λ sql params h. h; same = refl; taken = λ before h. subst (HasTaken was) (sym (append-nil before)) h }
+module _ {S V X : Type 0} (g : Ghosts S) (t : Table) (row_of : X → Row) (HasVisited : V → List X → Type 0) where
+  pub none_walked : (start : Held S) (was : V) → HasWalked g t row_of HasVisited start start was was
+  none_walked start was = record { given = []; found = []; gives = λ sql params h. h; same = refl; taken = λ before h. subst (HasVisited was) (sym (append-nil before)) h }
 
-  pub next_walked : (start now next : Held S) (was is will : V) → HasWalked g t row_of HasTaken start now was is → Visits g t row_of HasTaken now next is will true
-      → HasWalked g t row_of HasTaken start next was will
+  pub next_walked : (start now next : Held S) (was is will : V) → HasWalked g t row_of HasVisited start now was is → Visits g t row_of HasVisited now next is will true
+      → HasWalked g t row_of HasVisited start next was will
   next_walked start now next was is will walked step = record {
     given = walked.given ++ step.0 ∷ [];
     found = walked.found ++ step.1 ∷ [];
@@ -113,7 +113,7 @@ module _ {S V X : Type 0} (g : Ghosts S) (t : Table) (row_of : X → Row) (HasTa
     same =
         map-append (at (column_places t)) walked.given (step.0 ∷ []) ∙ ap (λ l. l ++ at (column_places t) step.0 ∷ []) walked.same ∙ ap (λ r. map row_of walked.found ++ r ∷ []) step.3
         ∙ sym (map-append row_of walked.found (step.1 ∷ []));
-    taken = λ before h. subst (HasTaken will) (append_assoc before walked.found (step.1 ∷ [])) (step.4 (before ++ walked.found) (walked.taken before h));
+    taken = λ before h. subst (HasVisited will) (append_assoc before walked.found (step.1 ∷ [])) (step.4 (before ++ walked.found) (walked.taken before h));
   }
 
   module _ (key : Row) (low : length key ≤ (shape t).key) (c : Contents) (start : Held S) (was : V) (begun : HasGiven g (select_text t (length key)) key start [])
@@ -121,10 +121,10 @@ module _ {S V X : Type 0} (g : Ghosts S) (t : Table) (row_of : X → Row) (HasTa
     rests_now : (now : Held S) → OnlyReads (state g start) (state g now) → HasCleanDisk (state g now) → RestsIfOpen c (state g now)
     rests_now now first clean is_open = rests_read c (state g start) (state g now) first clean is_open (rests (first.was_open clean is_open))
 
-    -- where no row is left, all entries were taken in
-    pub all_walked : (now last : Held S) (is will : V) → HasWalked g t row_of HasTaken start now was is → OnlyReads (state g start) (state g now) → HasCleanDisk (state g now)
+    -- if no row remains, all entries were consumed
+    pub all_walked : (now last : Held S) (is will : V) → HasWalked g t row_of HasVisited start now was is → OnlyReads (state g start) (state g now) → HasCleanDisk (state g now)
         → IsTrue (state g now).is_open
-        → Visits g t row_of HasTaken now last is will false → TakesFound HasTaken row_of t (begins_with key) c was will
+        → Visits g t row_of HasVisited now last is will false → TakesFound HasVisited row_of t (begins_with key) c was will
     all_walked now last is will walked first clean is_open end =
         let at_now = rests_now now first clean is_open in
         let shown = end.0 (select_text t (length key)) key walked.given (walked.gives (select_text t (length key)) key begun) in
@@ -135,16 +135,16 @@ module _ {S V X : Type 0} (g : Ghosts S) (t : Table) (row_of : X → Row) (HasTa
           walked.found,
           found_as t (begins_with key) c walked.given (map row_of walked.found) finds walked.same (state g now) at_now,
           subst
-              (λ v. (before : List X) → HasTaken was before → HasTaken v (before ++ walked.found)) (sym end.1) walked.taken,
+              (λ v. (before : List X) → HasVisited was before → HasVisited v (before ++ walked.found)) (sym end.1) walked.taken,
         )
 
-    module _ (IsRow : Row → Type 0) (Stops : Fault → Type 0) (now next : Held S) (is : V) (walked : HasWalked g t row_of HasTaken start now was is) (first : OnlyReads (state g start) (state g now))
+    module _ (IsRow : Row → Type 0) (Stops : Fault → Type 0) (now next : Held S) (is : V) (walked : HasWalked g t row_of HasVisited start now was is) (first : OnlyReads (state g start) (state g now))
         (second : OnlyReads (state g now) (state g next)) (clean : HasCleanDisk (state g next)) (all : AllByRecursion IsRow (c t)) (f : Fault)
       where
         told : (e : Error) → FailsToAdvance g now next e → FailsToQuery (select_text t (length key)) key (state g now) (state g next) e
         told e failed = failed (select_text t (length key)) key walked.given (walked.gives (select_text t (length key)) key begun)
 
-        -- each row that was given is that of an entry
+        -- every row returned represents an entry
         never_other : IsTrue (state g next).is_open → (row : Row) → Advances g now next (Some row) → ¬ IsRow row → ⊥
         never_other is_open row more other =
             let at_next = rests_read c (state g now) (state g next) second clean is_open (rests_now now first (second.clean clean) (second.was_open clean is_open)) in
@@ -168,7 +168,7 @@ module _ {S V X : Type 0} (g : Ghosts S) (t : Table) (row_of : X → Row) (HasTa
 
 -- ---- a whole walk
 
--- a query that does not begin tells why
+-- a query that fails to begin reports why
 pub refused_fails : {S : Type 0} (g : Ghosts S) (t : Table) (n : ℕ) (key : Row) → length key ≡ n → n ≤ (shape t).key → begins_key t key ≡ true → (c : Contents) (old new : Held S) (e : Error)
     → HasCleanDisk (state g new)
     → RestsIfOpen c (state g old) → FailsToQuery (select_text t n) key (state g old) (state g new) e → FailsBy (state g old) (state g new) (fault_of e)
@@ -184,7 +184,7 @@ module _ {S : Type 0} (g : Ghosts S) (t : Table) (n : ℕ) (key : Row) (many : l
     pub walk_reads : OnlyReads (state g old) (state g last)
     walk_reads = only_reads_then (state g old) (state g begun) (state g last) begin rest
 
-    -- what is told of the rows from the beginning on is so of this key and these contents
+    -- what is proved of the rows from the first is true of this key and these contents
     pub walk_tells : (P : Row → Contents → Type 0) (c : Contents) → HasCleanDisk (state g last) → RestsIfOpen c (state g old)
         → ((k : Row) → length k ≤ (shape t).key → HasGiven g (select_text t (length k)) k begun [] → (d : Contents) → RestsIfOpen d (state g begun) → P k d) → P key c
     walk_tells P c clean rests told =

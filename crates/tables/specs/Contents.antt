@@ -1,4 +1,4 @@
--- The rows of all tables, and what a connection or a stop has of them.
+-- The rows of all tables, and what a connection or a stop holds of them.
 use Rattle.std.specs.Prelude.{◌≡◌, true, false, not, if◌then◌else◌, ◌==◌, List, [], ◌∷◌, ◌++◌, map, filter, fold, IsTrue}
 use Rattle.std.specs.List.{list_all}
 use Rattle.std.specs.List.Sorted.{IsPermutation}
@@ -7,11 +7,11 @@ use Rattle.sqlite.specs.Tree.{Trees}
 use Rattle.sqlite.specs.Effect.{Database, IsDatabase}
 use Rattle.sqlite.specs.State.{State}
 use Rattle.tables.specs.declared.table.Table.{Table}
-use Rattle.tables.specs.declared.table.Setting.{Setting}
+use Rattle.tables.specs.declared.table.SettableColumn.{SettableColumn}
 use Rattle.tables.specs.Schema.{place_of, tree_of, table_set, changes_rows, IsOfficeSchema}
 use Rattle.tables.specs.Rows.{tuples, is_row_of, has_key, value_set, with_value, Keyed}
 
--- for each table its rows, in some order
+-- the rows of each table, in some order
 abbrev pub Contents : Type 0
 Contents = Table → List Row
 
@@ -28,45 +28,45 @@ abbrev pub filled : List (Table × List Row) → Contents
 filled [] u = []
 filled (one ∷ more) u = if place_of u == place_of one.0 then one.1 else filled more u
 
--- ---- what statements make of the contents; each is opaque, so that a search does not compute it
+-- ---- effects of statements on the contents; each is opaque, so that a search does not compute it
 
--- one row more
+-- with one more row
 unfoldable pub added : Table → Row → Contents → Contents
 added t row = changed t (λ rows. row ∷ rows)
 
--- these rows more
+-- with these rows added
 unfoldable pub added_all : Table → List Row → Contents → Contents
 added_all t news = changed t (λ rows. news ++ rows)
 
--- this row in the place of the one with its key
+-- with the row that has the same key replaced by this one
 unfoldable pub replaced : Table → Row → Contents → Contents
 replaced t row = changed t (map (λ r. if has_key t row r then row else r))
 
--- each of these rows, in turn, in the place of the one with its key
+-- with the rows that have the same keys replaced by these, one after another
 unfoldable pub replaced_all : Table → List Row → Contents → Contents
 replaced_all t news c = fold (λ before row. replaced t row before) c news
 
--- the contents with a value in one column of the row with a key; the values are those of the key and the new one, in turn
-unfoldable pub value_put : Setting → Row → Contents → Contents
+-- the contents with a value set in one column of the row with a key; the values are those of the key, followed by the new one
+unfoldable pub value_put : SettableColumn → Row → Contents → Contents
 value_put g values = changed (table_set g) (map (λ r. if has_key (table_set g) values r then with_value g (value_set g values) r else r))
 
 -- without the row with this key
 unfoldable pub removed : Table → Row → Contents → Contents
 removed t key = changed t (filter (λ r. not (has_key t key r)))
 
--- ---- what holds contents
+-- ---- holding contents
 
--- the rows, in some order, are those of the table, each with a value of the right kind in each column; where rows change, each has a rowid of its own
+-- the rows, in some order, are those of the table, each with a value of the right kind in each column; if rows change, integer rowids identify them
 pub record HoldsTable (t : Table) (rows : List Row) (trees : Trees) : Type 0 where
   pub same : IsPermutation rows (tuples t trees)
   pub keyed : changes_rows t ≡ true → Keyed (trees (tree_of t))
   pub typed : list_all (is_row_of t) rows ≡ true
 
--- each table holds its rows and no other
+-- each table holds exactly its rows
 abbrev pub Holds : Contents → Trees → Type 0
 Holds c trees = (t : Table) → HoldsTable t (c t) trees
 
--- a sound database that begins with the tables of an office, which hold these rows and no other
+-- a sound database that begins with the tables of an office, which hold exactly these rows
 pub record OfficeAt (c : Contents) (db : Database) : Type 0 where
   pub begins : IsOfficeSchema db.schema
   pub sound : IsDatabase db
@@ -82,29 +82,29 @@ pub record Stores (c : Contents) (trees : Trees) : Type 0 where
   pub office : IsOffice c db
   pub same : trees ≡ db.trees
 
--- a connection between two transactions, at this database
+-- a connection between two transactions, on this database
 pub record RestsAt (db : Database) (s : State) : Type 0 where
   pub is_open : IsTrue s.is_open
   pub outside : s.in_transaction ≡ false
   pub now : s.now ≡ db
   pub committed : s.committed ≡ db
 
--- a connection between two transactions, at an office with these contents
+-- a connection between two transactions, on an office with these contents
 pub record Rests (c : Contents) (s : State) : Type 0 where
   pub is_open : IsTrue s.is_open
   pub outside : s.in_transaction ≡ false
   pub settled : s.now ≡ s.committed
   pub office : IsOffice c s.now
 
--- the same of a connection that may have been shut
+-- the same for a connection that may have been closed
 abbrev pub RestsIfOpen : Contents → State → Type 0
 RestsIfOpen c s = IsTrue s.is_open → Rests c s
 
--- a connection inside a transaction, which sees an office with these contents
+-- a connection inside a transaction that sees an office with these contents
 pub record Sees (c : Contents) (s : State) : Type 0 where
   pub inside : IsTrue s.in_transaction
   pub office : IsOffice c s.now
 
--- whatever a stop leaves now is an office, with contents of this kind
+-- whatever a stop now leaves is an office, with contents of this kind
 abbrev pub Leaves : State → (Contents → Type 0) → Type 0
 Leaves s P = (trees : Trees) → s.may_leave trees → (c : Contents) × P c × Stores c trees

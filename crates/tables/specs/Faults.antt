@@ -1,4 +1,4 @@
--- The faults of a store, and for which error of `sqlite` each stands.
+-- The faults of a store, and the error of `sqlite` that each represents.
 use Rattle.std.specs.Prelude.{◌≡◌, ℕ, List, codes, Err, IsTrue}
 use Rattle.sqlite.specs.declared.error.Error.{Error}
 use Rattle.sqlite.specs.declared.error.Error.TheVariants.{SqliteFailure}
@@ -28,20 +28,20 @@ fault_text WrongDatabase = codes "wrong database"
 fault_text NewerSchema = codes "newer schema"
 fault_text OlderSchema = codes "older schema"
 
--- want of memory, or another refusal of the store
+-- out of memory, or another refusal by the store
 abbrev pub fault_of : Error → Fault
 fault_of (SqliteFailure OutOfMemory) = Memory
 fault_of _ = Store
 
--- a value that does not read as what its column holds, or want of memory
+-- a value that can't be read as what its column holds, or out of memory
 abbrev pub value_fault : Error → Fault
 value_fault (SqliteFailure OutOfMemory) = Memory
 value_fault _ = Damaged
 
--- the fault says why `sqlite` refused this query
+-- the fault is the reason why `sqlite` refused this query
 abbrev pub TellsQuery : List ℕ → Row → State → State → Fault → Type 0
 TellsQuery sql params old new f = (e : Error) × (f ≡ fault_of e) × (HasCleanDisk new → FailsToQuery sql params old new e)
 
--- the fault says why `sqlite` refused this statement inside a transaction
+-- the fault is the reason why `sqlite` refused this statement inside a transaction
 abbrev pub TellsStatement : List ℕ → Row → State → State → Fault → Type 0
 TellsStatement sql params old new f = (e : Error) × (f ≡ fault_of e) × (HasCleanDisk new → IsTrue old.in_transaction → ExecutesInside 0 sql params old new (Err e))

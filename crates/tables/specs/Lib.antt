@@ -1,6 +1,6 @@
 pub mod Schema
 pub mod Texts
-pub mod Cells
+pub mod RowValues
 pub mod Rows
 pub mod Contents
 pub mod Faults
@@ -8,5 +8,5 @@ pub mod Writing
 pub mod Making
 pub mod Presence
 pub mod Reading
-pub mod Runs
+pub mod RowidRanges
 pub mod Walking

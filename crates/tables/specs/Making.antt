@@ -1,4 +1,4 @@
--- The tables, made one after the other.
+-- Creating the tables, one after another.
 use Rattle.std.specs.Prelude.{◌≡◌, ◌<◌, false, ℕ, [], IsTrue}
 use Rattle.sqlite.specs.Tree.{Trees}
 use Rattle.sqlite.specs.Effect.{Database, IsDatabase}
@@ -11,39 +11,39 @@ use Rattle.tables.specs.Contents.{Contents, HoldsTable}
 unfoldable pub no_contents : Contents
 no_contents t = []
 
--- each of so many of the tables holds its rows and no other
+-- each of the first `n` tables holds exactly its rows
 abbrev pub HoldsFirst : ℕ → Contents → Trees → Type 0
 HoldsFirst n c trees = (t : Table) → place_of t < n → HoldsTable t (c t) trees
 
--- a sound database with so many of the tables and nothing else, which hold these rows and no other
+-- a sound database with only the first `n` tables, which hold exactly these rows
 pub record FirstAt (n : ℕ) (c : Contents) (db : Database) : Type 0 where
   pub schema : db.schema ≡ schema_from n [] [] []
   pub sound : IsDatabase db
   pub holds : HoldsFirst n c db.trees
 
 -- the same; opaque, so that a search does not open it
-unfoldable pub HasFirst : ℕ → Contents → Database → Type 0
-HasFirst = FirstAt
+unfoldable pub HasFirstTables : ℕ → Contents → Database → Type 0
+HasFirstTables = FirstAt
 
 -- the trees of such a database
 pub record StoresFirst (n : ℕ) (c : Contents) (trees : Trees) : Type 0 where
   pub db : Database
-  pub first : HasFirst n c db
+  pub first : HasFirstTables n c db
   pub same : trees ≡ db.trees
 
--- a connection between two transactions, at so many of the tables with these rows
+-- a connection between two transactions, on the first `n` tables with these rows
 pub record RestsFirst (n : ℕ) (c : Contents) (s : State) : Type 0 where
   pub is_open : IsTrue s.is_open
   pub outside : s.in_transaction ≡ false
   pub settled : s.now ≡ s.committed
-  pub first : HasFirst n c s.now
+  pub first : HasFirstTables n c s.now
 
--- a connection inside a transaction, which sees so many of the tables with these rows
+-- a connection inside a transaction that sees the first `n` tables with these rows
 pub record SeesMade (n : ℕ) (c : Contents) (s : State) : Type 0 where
   pub inside : IsTrue s.in_transaction
-  pub first : HasFirst n c s.now
+  pub first : HasFirstTables n c s.now
 
--- a connection inside a transaction, which sees a database with nothing in it
+-- a connection inside a transaction that sees an empty database
 pub record SeesNothing (s : State) : Type 0 where
   pub inside : IsTrue s.in_transaction
   pub schema : s.now.schema ≡ no_schema

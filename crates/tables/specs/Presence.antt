@@ -5,36 +5,36 @@ use Rattle.sqlite.specs.Schema.{Schema}
 use Rattle.sqlite_schema.specs.Names.{same_name}
 use Rattle.tables.specs.declared.table.Table.{Table}
 use Rattle.tables.specs.declared.table.Table.TheVariants.{Office}
-use Rattle.tables.specs.declared.presence.Form.{Form}
-use Rattle.tables.specs.declared.presence.Form.TheVariants.{Whole, WithoutThird, WithoutCounts, Other}
+use Rattle.tables.specs.declared.presence.TablesPresent.{TablesPresent}
+use Rattle.tables.specs.declared.presence.TablesPresent.TheVariants.{Whole, WithoutThird, WithoutCounts, Other}
 use Rattle.tables.specs.Schema.{shape, all_tables, schema_from, BeginsTo, IsOfficeSchema}
 
--- some table has this one's name, but for the case of ASCII letters
+-- some table has this one's name, ignoring the case of ASCII letters
 abbrev pub has_table : Table → Schema → Bool
 has_table t s = list_any (λ d. same_name d.name (shape t).name) s.tables
 
--- some table of an office is there
+-- some table of an office exists
 abbrev pub has_some_table : Schema → Bool
 has_some_table s = list_any (λ t. has_table t s) all_tables
 
--- every table of an office is there
+-- every table of an office exists
 abbrev pub has_every_table : Schema → Bool
 has_every_table s = list_all (λ t. has_table t s) all_tables
 
--- these first tables of an office, so many, are there, and none of the others
+-- of the tables of an office exactly the first `n` exist
 abbrev pub has_first : ℕ → Schema → Bool
 has_first n s = list_all (λ t. has_table t s) (take n all_tables) && not (list_any (λ t. has_table t s) (drop n all_tables))
 
--- which tables of an office are there
-abbrev pub form_of : Schema → Form
-form_of s = if has_every_table s then Whole else if has_first 10 s then WithoutThird else if has_first 8 s then WithoutCounts else Other
+-- which tables of an office exist
+abbrev pub tables_present : Schema → TablesPresent
+tables_present s = if has_every_table s then Whole else if has_first 10 s then WithoutThird else if has_first 8 s then WithoutCounts else Other
 
--- The tables with our names are ours: an office table is our first, and where all eleven names are there, the eleven come first and in order.
+-- The tables with our names are ours: if an office table exists it is our first, and if all eleven names exist, the eleven come first and in order.
 pub record IsOurs (s : Schema) : Type 0 where
   pub office : has_table Office s ≡ true → BeginsTo Office s
   pub every : has_every_table s ≡ true → IsOfficeSchema s
 
--- The tables of an older office are ours too, and nothing stands beside them: its names show how many of the first tables are there.
+-- The tables of an older office are ours too, and there are no others: its names show how many of the first tables exist.
 pub record IsOlderSchema (s : Schema) : Type 0 where
-  pub without_third : form_of s ≡ WithoutThird → s ≡ schema_from 10 [] [] []
-  pub without_counts : form_of s ≡ WithoutCounts → s ≡ schema_from 8 [] [] []
+  pub without_third : tables_present s ≡ WithoutThird → s ≡ schema_from 10 [] [] []
+  pub without_counts : tables_present s ≡ WithoutCounts → s ≡ schema_from 8 [] [] []

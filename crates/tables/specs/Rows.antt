@@ -18,7 +18,7 @@ use Rattle.sqlite.specs.View.{is_int}
 use Rattle.sqlite.specs.Tree.{Trees, rowid}
 use Rattle.tables.specs.declared.table.Table.{Table}
 use Rattle.tables.specs.declared.table.Reference.{Reference}
-use Rattle.tables.specs.declared.table.Setting.{Setting}
+use Rattle.tables.specs.declared.table.SettableColumn.{SettableColumn}
 use Rattle.tables.specs.Schema.{shape, columns_of, places_from, place_sought, table_set, place_set, tree_of}
 
 -- the columns of the table's rows, without the rowid
@@ -37,14 +37,14 @@ column_places t = places_from 0 (length (columns_of t))
 abbrev pub key_places : Table → List ℕ
 key_places t = places_from 0 (shape t).key
 
--- a value of this kind
+-- the value is of this kind
 abbrev pub is_of : Kind → Value → Bool
 is_of Integer (Int n) = true
 is_of Words (Text t) = true
 is_of Bytes (Blob b) = true
 is_of _ _ = false
 
--- one value for each column, of its kind, and none is NULL
+-- there is one value for each column, of its kind, and none is NULL
 abbrev pub are_of : List Column → Row → Bool
 are_of [] [] = true
 are_of (c ∷ cs) (v ∷ vs) = is_of c.kind v && are_of cs vs
@@ -64,12 +64,12 @@ are_first (c ∷ cs) (v ∷ vs) = is_of c.kind v && are_first cs vs
 abbrev pub begins_key : Table → Row → Bool
 begins_key t = are_first (columns_of t)
 
--- two rows have the same values at these places, as SQL's = says
+-- two rows have the same values at these places, as compared by SQL's =
 abbrev pub agree_at : List ℕ → Row → Row → Bool
 agree_at [] a b = true
 agree_at (p ∷ ps) a b = equal Binary (column a p) (column b p) && agree_at ps a b
 
--- the row has this key, which stands in the first columns
+-- the row has this key, which is in the first columns
 abbrev pub has_key : Table → Row → Row → Bool
 has_key t key row = agree_at (key_places t) row key
 
@@ -81,33 +81,33 @@ begins_with key row = agree_at (places_from 0 (length key)) row key
 abbrev pub refers_to : Reference → Value → Row → Bool
 refers_to r value row = equal Binary (column row (place_sought r)) value
 
--- a value of the kind of the column at this place, where the columns' places begin at another one
+-- a value of the kind of the column at a place, the columns being numbered from another place
 abbrev pub takes_from : ℕ → ℕ → Value → List Column → Bool
 takes_from k place value [] = true
 takes_from k place value (c ∷ cs) = (if k == place then is_of c.kind value else true) && takes_from (suc k) place value cs
 
--- the value that is set, which stands after those of the key
-abbrev pub value_set : Setting → Row → Value
+-- the value to be set, which follows those of the key
+abbrev pub value_set : SettableColumn → Row → Value
 value_set g values = column values (shape (table_set g)).key
 
--- a value of the kind of the column that is set
-abbrev pub is_setting : Setting → Row → Bool
+-- a value of the kind of the column to be set
+abbrev pub is_setting : SettableColumn → Row → Bool
 is_setting g values = takes_from 0 (place_set g) (value_set g values) (columns_of (table_set g))
 
--- the row with this value in the column that is set
-abbrev pub with_value : Setting → Value → Row → Row
+-- the row with this value in the column to be set
+abbrev pub with_value : SettableColumn → Value → Row → Row
 with_value g value row = map (λ p. if p == place_set g then value else column row p) (column_places (table_set g))
 
--- so many keys, each by SQL's order of values
+-- this many keys, each in SQL's order of values
 abbrev pub ascending_keys : ℕ → List Key
 ascending_keys zero = []
 ascending_keys (suc n) = ascending Binary ∷ ascending_keys n
 
--- rows in the order of their first columns, so many
+-- the order of rows by this many first columns
 abbrev pub keys_cmp : ℕ → Row → Row → Ordering
 keys_cmp n = key_cmp 0 (ascending_keys n)
 
--- rows in the order of the table's key
+-- the order of rows by the table's key
 abbrev pub row_cmp : Table → Row → Row → Ordering
 row_cmp t = keys_cmp (shape t).key
 
@@ -116,11 +116,11 @@ pub record Keyed (rows : List Row) : Type 0 where
   pub ints : (r : Row) → Has rows r → is_int (rowid r) ≡ true
   pub once : (a b : Row) → Has rows a → Has rows b → rowid a ≡ rowid b → a ≡ b
 
--- a rowid that is no integer
+-- some rowid is not an integer
 abbrev pub HasWrongRowid : List Row → Type 0
 HasWrongRowid rows = (r : Row) × Has rows r × (is_int (rowid r) ≡ false)
 
--- two rows with one rowid, neighbours where the rows are put in some order
+-- two rows share a rowid, and are adjacent if the rows are put in some order
 pub record RepeatsRowid (rows : List Row) : Type 0 where
   pub ordered : List Row
   pub same : IsPermutation rows ordered

@@ -1,4 +1,4 @@
--- The schema of an office, as `sqlite` reads it in the texts.
+-- The schema of an office, as `sqlite` parses it from the texts.
 use Rattle.std.specs.Prelude.{◌≡◌, ◌++◌, ◌+◌, ◌*◌, ℕ, zero, suc, Bool, List, [], ◌∷◌, codes, map, take, true, false, Option, None, Some, pos}
 use Rattle.std.specs.List.{AllByRecursion}
 use Rattle.sqlite.specs.declared.types.Value.TheVariants.{Null, Int}
@@ -18,17 +18,17 @@ use Rattle.sqlite.specs.Schema.{Schema}
 use Rattle.tables.specs.declared.table.Table.{Table}
 use Rattle.tables.specs.declared.table.Reference.{Reference}
 use Rattle.tables.specs.declared.table.Reference.TheVariants.{WardOfBatch}
-use Rattle.tables.specs.declared.table.Setting.{Setting}
-use Rattle.tables.specs.declared.table.Setting.TheVariants.{VersionOfOffice, PhaseOfWard, DoneOfWard, RoundOfBatch}
+use Rattle.tables.specs.declared.table.SettableColumn.{SettableColumn}
+use Rattle.tables.specs.declared.table.SettableColumn.TheVariants.{VersionOfOffice, PhaseOfWard, DoneOfWard, RoundOfBatch}
 use Rattle.tables.specs.declared.table.Table.TheVariants.{Office, Ward, Candidate, Batch, Keying, Verdict, Lot, Receipt, Bundle, Vote, Third}
 
--- a table as `sqlite` keeps it in a schema
+-- a table as `sqlite` represents it in a schema
 abbrev pub Definition : Type 0
 Definition = sqlite_table.Table
 
--- ---- by what the tables differ
+-- ---- differences between the tables
 
--- a column as the text of its table has it: whole numbers, texts or bytes, and the range that they are held to
+-- a column as defined in the text of its table: whole numbers, texts or bytes, and the range that it is restricted to
 pub record Field : Type 0 where
   pub name : List ℕ
   pub kind : Kind
@@ -38,7 +38,7 @@ pub record Field : Type 0 where
 abbrev pub number : List ℕ → Field
 number name = record { name = name; kind = Integer; range = None }
 
--- whole numbers from the first to the second
+-- whole numbers between two, both included
 abbrev pub within : List ℕ → ℕ → ℕ → Field
 within name low high = record { name = name; kind = Integer; range = Some (low, high) }
 
@@ -50,7 +50,7 @@ words name = record { name = name; kind = Text; range = None }
 abbrev pub bytes : List ℕ → Field
 bytes name = record { name = name; kind = Blob; range = None }
 
--- A table's name and columns; the first columns, so many, are the key.
+-- A table's name and columns; this many of the first columns are the key.
 pub record Shape : Type 0 where
   pub name : List ℕ
   pub key : ℕ
@@ -100,7 +100,7 @@ changes_rows Batch = true
 changes_rows Bundle = true
 changes_rows _ = false
 
--- the table in which rows are sought by a column outside the key
+-- the table in which rows are looked up by a column outside the key
 abbrev pub table_sought : Reference → Table
 table_sought WardOfBatch = Batch
 
@@ -108,39 +108,39 @@ table_sought WardOfBatch = Batch
 abbrev pub place_sought : Reference → ℕ
 place_sought WardOfBatch = 1
 
--- the table in which a column outside the key is set alone
-abbrev pub table_set : Setting → Table
+-- the table in which a column outside the key is set on its own
+abbrev pub table_set : SettableColumn → Table
 table_set VersionOfOffice = Office
 table_set PhaseOfWard = Ward
 table_set DoneOfWard = Ward
 table_set RoundOfBatch = Batch
 
 -- the place of that column
-abbrev pub place_set : Setting → ℕ
+abbrev pub place_set : SettableColumn → ℕ
 place_set VersionOfOffice = 1
 place_set PhaseOfWard = 2
 place_set DoneOfWard = 3
 place_set RoundOfBatch = 5
 
--- a column as `sqlite` keeps it
+-- a column as `sqlite` represents it
 abbrev pub column_of : Field → Column
 column_of f = record { name = f.name; kind = f.kind; is_strict = true; not_null = true; default = Null; collation = Binary }
 
--- the table's columns as `sqlite` keeps them
+-- the table's columns as `sqlite` represents them
 abbrev pub columns_of : Table → List Column
 columns_of t = map column_of (shape t).fields
 
--- the column at this place lies in this range, if there is one
+-- the column at this place is in this range, if there is one
 abbrev pub range_check : ℕ → Option (ℕ × ℕ) → List Term
 range_check place None = []
 range_check place (Some range) = op2 And (op2 (Compare Ge Binary) (col 1 place) (lit (Int (pos range.0)))) (op2 (Compare Le Binary) (col 1 place) (lit (Int (pos range.1)))) ∷ []
 
--- the ranges of the columns, from a place on
+-- the ranges of the columns, from a place
 abbrev pub checks_from : ℕ → List Field → List Term
 checks_from place [] = []
 checks_from place (f ∷ more) = range_check place f.range ++ checks_from (suc place) more
 
--- where the table stands in the order of making
+-- the place of the table in the order of creation
 abbrev pub place_of : Table → ℕ
 place_of Office = 0
 place_of Ward = 1
@@ -154,18 +154,18 @@ place_of Bundle = 8
 place_of Vote = 9
 place_of Third = 10
 
--- the tables in the order of making
+-- the tables in order of creation
 abbrev pub all_tables : List Table
 all_tables = Office ∷ Ward ∷ Candidate ∷ Batch ∷ Keying ∷ Verdict ∷ Lot ∷ Receipt ∷ Bundle ∷ Vote ∷ Third ∷ []
 
 -- ---- the schema
 
--- so many numbers, from this one on
+-- this many consecutive numbers, from this one
 abbrev pub places_from : ℕ → ℕ → List ℕ
 places_from k zero = []
 places_from k (suc n) = k ∷ places_from (suc k) n
 
--- a table whose key is its first columns; a row is its rowid, then these
+-- a table whose key is its first columns; a row is its rowid, followed by these
 abbrev pub keyed_by : List ℕ → List ℕ → ℕ → List Column → List Term → Definition
 keyed_by key name tree columns checks = record {
   name = name;
@@ -190,7 +190,7 @@ shaped s tree = keyed_by (places_from 1 s.key) s.name tree (map column_of s.fiel
 abbrev pub tree_of : Table → ℕ
 tree_of t = 2 * place_of t
 
--- the table as it stands in the schema
+-- the table as it is defined in the schema
 abbrev pub definition : Table → Definition
 definition t = shaped (shape t) (tree_of t)
 
@@ -198,11 +198,11 @@ definition t = shaped (shape t) (tree_of t)
 abbrev pub key_index : Table → Index
 key_index t = automatic (definition t) 0 (places_from 1 (shape t).key) (1 + tree_of t)
 
--- the schema that begins with so many of the tables
+-- the schema that begins with the first `n` tables
 abbrev pub schema_from : ℕ → List Definition → List Index → List View → Schema
 schema_from n rest others views = record { tables = map definition (take n all_tables) ++ rest; indexes = map key_index (take n all_tables) ++ others; views = views }
 
--- a database with nothing in it
+-- an empty database
 abbrev pub no_schema : Schema
 no_schema = record { tables = []; indexes = []; views = [] }
 
@@ -217,7 +217,7 @@ pub record BeginsTo (t : Table) (s : Schema) : Type 0 where
 abbrev pub AreFree : List Definition → Type 0
 AreFree = AllByRecursion (λ t. t.references ≡ [])
 
--- the schema begins with all tables of the office, and the later ones refer to nothing
+-- the schema begins with all tables of the office, and the later ones refer to none
 pub record IsOfficeSchema (s : Schema) : Type 0 where
   pub rest : List Definition
   pub others : List Index

@@ -1,4 +1,4 @@
-//! What the rows of a table stand for.
+//! Entries, and the rows that represent them.
 
 ghost use Rattle.std.specs.Prelude.{◌≡◌, ◌⊎◌, true, IfOk, IfErr};
 ghost use Rattle.sqlite.specs.Order.{Row};
@@ -12,13 +12,13 @@ use sqlite::Row;
 use sqlite_value::value::ValueRef;
 use std::alloc::Global;
 
-/// The entries of a table, each in a row of its own. An `impl` of this is all that one more table asks of
-/// the code: the values of its columns, in turn, and how they are read.
+/// The entries of a table, each in a row of its own. An `impl` of this is all the code that another table requires: the
+/// values of its columns, in order, and how to read them.
 pub trait Entries {
-    /// What a row stands for.
+    /// The type of entry that a row represents.
     type Entry: Drop;
 
-    // The row of an entry, and which rows are those of one.
+    // The row of an entry, and which rows represent an entry.
     ghost row_of: { Self.Entry → Row };
 
     ghost is_row: { Row → Type 0 };
@@ -28,12 +28,12 @@ pub trait Entries {
     /// The table.
     const TABLE: Table;
 
-    /// The values of the row; `Memory` where there is no room for them.
+    /// Returns the values of the entry's row; `Memory` if an allocation fails.
     fn values<'a>(entry: &'a Self::Entry, alloc: Global) -> Result<Vec<ValueRef<'a>>, Fault>
         ensures values { IfOk result (λ values. bound values.items ≡ row_of entry.now) }
         ensures cause { IfErr result (λ f. f ≡ Fault.Memory) };
 
-    /// The entry that a row holds; `Damaged` where it is that of no entry.
+    /// Returns the entry that a row represents; `Damaged` if it represents none.
     fn read(row: &Row) -> Result<Self::Entry, Fault>
         ensures reads { IfOk result (λ entry. at (column_places TABLE) row.now ≡ row_of entry) }
         ensures cause { IfErr result (λ f. (f ≡ Fault.Memory) ⊎ ((f ≡ Fault.Damaged) × ¬ is_row row.now)) };

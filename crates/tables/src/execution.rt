@@ -7,7 +7,7 @@ use crate::fault::{Fault, fault_of};
 use sqlite::{Alter, Transaction};
 use sqlite_value::value::ValueRef;
 
-/// Runs a statement that writes. A fault leaves the last commit as it was.
+/// Executes a statement that writes. A fault leaves the last commit as it was.
 pub(crate) fn execute<S: Alter>(
     tx: &mut Transaction<'_, S>,
     sql: &str,

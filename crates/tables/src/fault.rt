@@ -1,4 +1,4 @@
-//! Why a call of the office gave up.
+//! The faults that a call can return.
 
 ghost use Rattle.std.specs.Prelude.{◌≡◌, ◌↔◌};
 ghost use Rattle.tables.specs.Faults.{fault_number, fault_text, fault_of};
@@ -6,27 +6,27 @@ ghost use Rattle.tables.specs.Faults.{fault_number, fault_text, fault_of};
 use sqlite::{Error, ErrorCode};
 use std::fmt;
 
-/// The faults of an office, by their numbers 101 to 106 and 108.
+/// The faults of an office, numbered 101 to 106 and 108.
 #[derive(Clone, Copy, Debug, PartialEq, Eq, Drop)]
 pub enum Fault {
-    /// Memory was wanting.
+    /// Out of memory.
     Memory,
-    /// The store refused a call for another cause.
+    /// The store refused a call for another reason.
     Store,
-    /// The rows are the tables of no state of an office.
+    /// The rows are not the tables of any state of an office.
     Damaged,
     /// An earlier fault closed the office.
     Closed,
-    /// The database has no office, or, where one is to be made, has a table of its name.
+    /// The database has no office or, if one is to be created, has a table with one of its names.
     WrongDatabase,
-    /// A later program made the tables.
+    /// A later program created the tables.
     NewerSchema,
-    /// An earlier program made the tables, and they are to be brought over first.
+    /// An earlier program created the tables, and they must be migrated first.
     OlderSchema,
 }
 
 impl Fault {
-    /// The number of the fault, from 101 on, and the fault in words.
+    /// Returns the number of the fault, from 101, and its text.
     fn told(&self) -> (u32, &'static str)
         ensures number { result.0 ≡ fault_number self.now }
         ensures text { result.1.now ≡ fault_text self.now }
@@ -42,14 +42,14 @@ impl Fault {
         }
     }
 
-    /// The number of the fault, from 101 on.
+    /// Returns the number of the fault, from 101.
     pub fn number(&self) -> u32
         ensures { result ≡ fault_number self.now }
     {
         self.told().0
     }
 
-    /// The fault in words.
+    /// Returns the text of the fault.
     pub fn text(&self) -> &'static str
         ensures { result.now ≡ fault_text self.now }
     {
@@ -70,7 +70,7 @@ impl fmt::Display for Fault {
 
 impl std::error::Error for Fault {}
 
-/// Why `sqlite` refused a call: `Memory` for want of memory, and `Store` for any other cause.
+/// Returns the fault for a call that `sqlite` refused: `Memory` if out of memory, and `Store` for any other reason.
 pub fn fault_of(e: Error) -> Fault
     ensures value { result ≡ fault_of e }
     ensures memory { (result ≡ Fault.Memory) ↔ (e ≡ Error.SqliteFailure ErrorCode.OutOfMemory) }

@@ -1,4 +1,4 @@
-//! Some entries of a table: those with a key, with a beginning of it, or with another value.
+//! Finding entries of a table: those with a key, with a prefix of it, or with another value.
 
 ghost use Rattle.std.specs.Prelude.{◌≡◌, ◌≤◌, ◌⊎◌, true, false, length, filter, map, Option, option_map, IfOk, IfErr, IfSome, OnOk, IsTrue};
 ghost use Rattle.std.specs.List.{AllByRecursion};
@@ -12,7 +12,7 @@ ghost use Rattle.sqlite.specs.Held.{state};
 ghost use Rattle.tables.specs.Schema.{shape, table_sought};
 ghost use Rattle.tables.specs.Rows.{at, column_places, is_of, begins_key, begins_with, refers_to};
 ghost use Rattle.tables.specs.Contents.{Contents, RestsIfOpen};
-ghost use Rattle.tables.specs.Reading.{OnlyReads, FailsBy, Finds, HasOther};
+ghost use Rattle.tables.specs.Reading.{OnlyReads, FailsBy, Finds, HasInvalidRow};
 
 use crate::entry::Entries;
 use crate::fault::Fault;
@@ -23,8 +23,7 @@ use sqlite::{Alter, Connection, Row};
 use sqlite_value::value::ValueRef;
 use std::alloc::Global;
 
-/// The entries whose key begins with these values, in the order of the key; `Damaged` where a row is
-/// that of no entry.
+/// Returns the entries whose key begins with these values, in key order; `Damaged` if a row represents no entry.
 pub fn entries_beginning<E: Entries, S: Alter>(
     alloc: Global,
     conn: &mut Connection<S>,
@@ -47,8 +46,7 @@ pub fn entries_beginning<E: Entries, S: Alter>(
     Ok(entries)
 }
 
-/// The entries with a value in a column outside the key, in the order of the key; `Damaged` where a row
-/// is that of no entry.
+/// Returns the entries with a value in a column outside the key, in key order; `Damaged` if a row represents no entry.
 pub fn entries_referring<E: Entries, S: Alter>(
     alloc: Global,
     conn: &mut Connection<S>,
@@ -72,10 +70,10 @@ pub fn entries_referring<E: Entries, S: Alter>(
     Ok(entries)
 }
 
-/// The entry of the one row of a query, if there is one.
+/// Returns the entry of a query's only row, if there is one.
 fn first_entry<E: Entries>(rows: &[Row]) -> Result<Option<E::Entry>, Fault>
     ensures entry { (row : Option Row) → rows.now ≡ option_to_list row → IfOk result (λ found. option_map (at (column_places E.TABLE)) row ≡ option_map E.row_of found) }
-    ensures cause { IfErr result (λ f. (f ≡ Fault.Memory) ⊎ ((f ≡ Fault.Damaged) × HasOther E.is_row rows.now)) }
+    ensures cause { IfErr result (λ f. (f ≡ Fault.Memory) ⊎ ((f ≡ Fault.Damaged) × HasInvalidRow E.is_row rows.now)) }
 {
     match rows {
         [] => Ok(None),
@@ -83,7 +81,7 @@ fn first_entry<E: Entries>(rows: &[Row]) -> Result<Option<E::Entry>, Fault>
     }
 }
 
-/// The entry with this key, if it is there; `Damaged` where its row is that of no entry.
+/// Returns the entry with this key, if there is one; `Damaged` if its row represents no entry.
 pub fn find_entry<E: Entries, S: Alter>(
     conn: &mut Connection<S>,
     key: &[ValueRef<'_>],

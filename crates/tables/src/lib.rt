@@ -1,14 +1,13 @@
-//! The tables of an office in a store of `sqlite`, and the statements over any of them.
+//! The tables of an office in a store of `sqlite`, and the statements on any of them.
 //!
-//! `Table` names the tables. A statement is a function of one call, proved once for any table. `insertion` adds a row;
-//! `replacement` and `removal` change the one with a key. `reading` reads all rows, those whose key begins alike, or those with
-//! another value; `runs` reads those that stand side by side. `making` makes the tables, all or those that an older office
-//! lacks, and `presence` looks for them by name. Their clauses say what the tables hold afterwards and what a stop may leave of
-//! them.
+//! `Table` names the tables. A statement is a function with one call, proved once for any table. `insertion` adds a row;
+//! `replacement` and `removal` change the one with a key. `reading` reads all rows, those with a key prefix, or those with
+//! another value; `runs` reads adjacent rows. `making` creates the tables, all or those that an older office lacks, and
+//! `presence` looks for them by name. Their clauses state what the tables hold afterwards and what a stop may leave of them.
 //!
-//! An `impl` of `Entries` says what the rows of a table stand for; `listing`, `finding` and `writing` are
-//! those statements over entries, and `walking` hands entries on without ever holding them all. One more
-//! table asks for one more `impl`. `Fault` says why a call gave up.
+//! An `impl` of `Entries` defines what the rows of a table represent; `listing`, `finding` and `writing` are the same
+//! statements for entries, and `walking` passes entries on one at a time, without holding them all. Another table needs just
+//! another `impl`. `Fault` is the reason why a call failed.
 //!
 //! ```text
 //! add_entry::<Wards, S>(alloc, &mut tx, &ward)?;
@@ -19,8 +18,7 @@
 
 pub mod fault;
 pub mod table;
-// Statements over rows.
-pub mod cells;
+// Statements on rows.
 mod execution;
 pub mod insertion;
 pub mod making;
@@ -29,10 +27,11 @@ pub mod presence;
 pub mod reading;
 pub mod removal;
 pub mod replacement;
+pub mod rowid_ranges;
 pub mod rowids;
-pub mod runs;
 pub mod texts;
-// Statements over entries.
+pub mod value_conversion;
+// Statements on entries.
 pub mod entry;
 pub mod finding;
 pub mod listing;
@@ -41,4 +40,4 @@ pub mod writing;
 
 pub use entry::Entries;
 pub use fault::Fault;
-pub use table::{Reference, Setting, Table};
+pub use table::{Reference, SettableColumn, Table};

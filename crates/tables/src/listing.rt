@@ -1,4 +1,4 @@
-//! All rows of a table, and the entries that they are those of.
+//! All rows of a table, and the entries that they represent.
 
 ghost use Rattle.std.specs.Prelude.{◌≡◌, ◌⊎◌, false, map, IfOk, IfErr, OnOk, IsTrue};
 ghost use Rattle.sqlite.specs.Effect.{Database};
@@ -8,7 +8,7 @@ ghost use Rattle.tables.specs.Schema.{BeginsTo};
 ghost use Rattle.std.specs.List.Sorted.{IsStrictlySortedBy};
 ghost use Rattle.tables.specs.Rows.{at, column_places, row_cmp};
 ghost use Rattle.tables.specs.Contents.{RestsAt};
-ghost use Rattle.tables.specs.Reading.{OnlyReads, FailsToList, ListsKeyed, ListsEntries, HasOther, HoldsNone};
+ghost use Rattle.tables.specs.Reading.{OnlyReads, FailsToList, ListsKeyed, ListsEntries, HasInvalidRow, HoldsNone};
 
 use crate::entry::Entries;
 use crate::fault::Fault;
@@ -19,10 +19,10 @@ use crate::table::Table;
 use sqlite::{Alter, Connection, Row};
 use std::alloc::Global;
 
-/// The entries of rows; `Damaged` where one row is that of no entry.
+/// Returns the entries of rows; `Damaged` if a row represents no entry.
 pub(crate) fn entries_of<E: Entries>(alloc: Global, rows: &[Row]) -> Result<Vec<E::Entry>, Fault>
     ensures reads { IfOk result (λ found. map (at (column_places E.TABLE)) rows.now ≡ map E.row_of found.items) }
-    ensures cause { IfErr result (λ f. (f ≡ Fault.Memory) ⊎ ((f ≡ Fault.Damaged) × HasOther E.is_row rows.now)) }
+    ensures cause { IfErr result (λ f. (f ≡ Fault.Memory) ⊎ ((f ≡ Fault.Damaged) × HasInvalidRow E.is_row rows.now)) }
 {
     let mut entries = Vec::new(alloc);
     for row in rows {
@@ -34,8 +34,7 @@ pub(crate) fn entries_of<E: Entries>(alloc: Global, rows: &[Row]) -> Result<Vec<
     Ok(entries)
 }
 
-/// All rows of a table in the order of the key, once their rowids are seen to be their own where rows
-/// change.
+/// Returns all rows of a table in key order, after checking, if its rows change, that no two share a rowid.
 pub fn keyed_rows<S: Alter>(conn: &mut Connection<S>, table: Table) -> Result<Vec<Row>, Fault>
     requires { conn.old.in_transaction ≡ false }
     ensures lists { HasCleanDisk (state S.Store conn.new) → (db : Database) → BeginsTo table db.schema → RestsAt db (state S.Store conn.old)
@@ -56,8 +55,8 @@ pub fn keyed_rows<S: Alter>(conn: &mut Connection<S>, table: Table) -> Result<Ve
     Ok(rows)
 }
 
-/// All entries of a table, in the order of the key. `Damaged` where the rows are no entries', each with a
-/// key above that of the one before.
+/// Returns all entries of a table, in key order. `Damaged` if a row represents no entry, or its key is not above that of the
+/// row before.
 pub fn all_entries<E: Entries, S: Alter>(
     alloc: Global,
     conn: &mut Connection<S>,

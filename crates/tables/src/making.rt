@@ -1,4 +1,4 @@
-//! The tables of a new office, and those that an older one lacks.
+//! Creating the tables of a new office, and those that an older one lacks.
 
 ghost use Rattle.std.specs.Prelude.{◌≡◌, ◌↔◌, ◌<◌, ◌+◌, ℕ, [], true, ⊤, IfErr};
 ghost use Rattle.sqlite.specs.Schema.{Schema};
@@ -7,7 +7,7 @@ ghost use Rattle.sqlite.specs.Held.{Held, state};
 ghost use Rattle.tables.specs.Texts.{create_text};
 ghost use Rattle.tables.specs.Schema.{BeginsTo, schema_from, place_of};
 ghost use Rattle.tables.specs.Contents.{Contents, Sees};
-ghost use Rattle.tables.specs.Making.{no_contents, FirstAt, HasFirst, RestsFirst, SeesMade, SeesNothing, StoresFirst};
+ghost use Rattle.tables.specs.Making.{no_contents, FirstAt, HasFirstTables, RestsFirst, SeesMade, SeesNothing, StoresFirst};
 ghost use Rattle.tables.specs.Faults.{TellsStatement};
 ghost use Rattle.tables.specs.Writing.{Alters};
 ghost use Rattle.tables.specs.declared.table.Table.{Table};
@@ -18,8 +18,7 @@ use crate::table::Table;
 use crate::texts::create_text;
 use sqlite::{Alter, Transaction};
 
-/// Makes a table with no row, once those before it are made; their rows stay. A fault leaves the last
-/// commit as it was.
+/// Creates a table without rows, after those that precede it; their rows stay. A fault leaves the last commit as it was.
 pub fn create_table<S: Alter>(tx: &mut Transaction<'_, S>, table: Table) -> Result<(), Fault>
     ensures makes { Alters S.Store tx.old.conn tx.new.conn result (λ (c : Contents) s. (c table ≡ []) × SeesMade (place_of table) c s) (SeesMade (place_of table + 1)) }
     ensures told { IfErr result (TellsStatement (create_text table) [] (state S.Store tx.old.conn.now) (state S.Store tx.new.conn.now)) }
@@ -27,8 +26,7 @@ pub fn create_table<S: Alter>(tx: &mut Transaction<'_, S>, table: Table) -> Resu
     execute(tx, create_text(table), &[])
 }
 
-/// Makes all tables of an office, each empty, in a database with nothing in it. A fault leaves the
-/// last commit as it was.
+/// Creates all tables of an office, each empty, in an empty database. A fault leaves the last commit as it was.
 pub fn create_tables<S: Alter>(tx: &mut Transaction<'_, S>) -> Result<(), Fault>
     ensures { Alters S.Store tx.old.conn tx.new.conn result (λ (x : ⊤). SeesNothing) (λ x. Sees no_contents) }
 {
@@ -38,12 +36,13 @@ pub fn create_tables<S: Alter>(tx: &mut Transaction<'_, S>) -> Result<(), Fault>
     Ok(())
 }
 
-/// The laws of an office with only the first tables, beside one with all: each table that is there can be read, and what a stop
-/// left is found again. A transaction begins with what its connection rests at, and sees an office once all tables are made.
+/// The laws of an office that has only the first tables, and how it becomes a complete one: each existing table can be read,
+/// and what a stop left is found after reopening. A transaction begins at the state of its connection, and sees an office
+/// once all tables are created.
 pub fn first_tables_lead_to_all<S: Alter>()
-    ensures holds { (n : ℕ) → (c : Contents) → (db : Database) → FirstAt n c db ↔ HasFirst n c db }
+    ensures holds { (n : ℕ) → (c : Contents) → (db : Database) → FirstAt n c db ↔ HasFirstTables n c db }
     ensures reads { (n : ℕ) → (s : Schema) → s ≡ schema_from n [] [] [] → (t : Table) → place_of t < n → BeginsTo t s }
     ensures begins { (n : ℕ) → (c : Contents) → (held : Held S) → RestsFirst n c (state S.Store held) → SeesMade n c (state S.Store (record held { in_transaction = true })) }
     ensures ends { (c : Contents) → (held : Held S) → SeesMade 11 c (state S.Store held) → Sees c (state S.Store held) }
-    ensures found { (n : ℕ) → (c : Contents) → (db : Database) → IsDatabase db → StoresFirst n c db.trees → HasFirst n c db }
+    ensures found { (n : ℕ) → (c : Contents) → (db : Database) → IsDatabase db → StoresFirst n c db.trees → HasFirstTables n c db }
 {}

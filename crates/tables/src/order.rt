@@ -1,4 +1,4 @@
-//! Rows in the order of their keys.
+//! Rows in key order.
 
 ghost use Rattle.std.specs.Prelude.{◌≡◌, ◌<◌, ◌+◌, ◌^◌, true, false, OnOk};
 ghost use Rattle.std.specs.List.Sorted.{IsPermutation, IsSorted, IsStrictlySortedBy};
@@ -15,7 +15,7 @@ use sqlite_value::value::ValueRef;
 use std::alloc::AllocError;
 use std::cmp::Ordering;
 
-/// The value at a place, and NULL past the end.
+/// Returns the value at a place, or NULL past the end.
 fn value_at(row: &Row, place: usize) -> ValueRef<'_>
     ensures { owned result ≡ column row.now place }
 {
@@ -25,8 +25,7 @@ fn value_at(row: &Row, place: usize) -> ValueRef<'_>
     }
 }
 
-/// The order of two rows by so many columns, from a place on. It calls itself once a column of the key,
-/// of which there are four at most.
+/// Returns the order of two rows by `columns` columns, from a place. Recurses once per column of the key, so at most four times.
 fn order_from(a: &Row, b: &Row, place: usize, columns: usize) -> Ordering
     requires { place + columns < 2 ^ 64 }
     ensures { result ≡ key_cmp place (ascending_keys columns) a.now b.now }
@@ -39,14 +38,14 @@ fn order_from(a: &Row, b: &Row, place: usize, columns: usize) -> Ordering
     here.then(later)
 }
 
-/// The order of two rows by the key of their table.
+/// Returns the order of two rows by the key of their table.
 pub(crate) fn key_order(table: Table, a: &Row, b: &Row) -> Ordering
     ensures { result ≡ row_cmp table a.now b.now }
 {
     order_from(a, b, 0, table.key_columns())
 }
 
-/// Puts rows in the order of the key of their table. The only error is want of memory.
+/// Sorts rows by the key of their table. `AllocError` if an allocation fails.
 pub(crate) fn put_in_order(table: Table, rows: &mut Vec<Row>) -> Result<(), AllocError>
     ensures same { IsPermutation rows.old.items rows.new.items }
     ensures sorted { OnOk result (IsSorted (row_cmp table) rows.new.items) }
@@ -54,7 +53,7 @@ pub(crate) fn put_in_order(table: Table, rows: &mut Vec<Row>) -> Result<(), Allo
     rows.sort_by(|a, b| key_order(table, a, b))
 }
 
-/// Whether each row's key is below that of the next one.
+/// Returns whether each row's key is below that of the next one.
 pub fn keys_rise(table: Table, rows: &[Row]) -> bool
     ensures rise { result ≡ true → IsStrictlySortedBy (row_cmp table) rows.now }
     ensures fall { result ≡ false → FailsToRise table rows.now }

@@ -6,33 +6,33 @@ ghost use Rattle.sqlite.specs.State.{IsLive};
 ghost use Rattle.sqlite.specs.Held.{state};
 ghost use Rattle.sqlite.specs.Schema.{Schema};
 ghost use Rattle.sqlite_schema.specs.Names.{same_name};
-ghost use Rattle.tables.specs.Presence.{has_table, has_some_table, has_every_table, has_first, form_of};
+ghost use Rattle.tables.specs.Presence.{has_table, has_some_table, has_every_table, has_first, tables_present};
 
 use crate::table::Table;
 use sqlite::{Alter, Connection};
 use sqlite_schema::names::same_name;
 use sqlite_schema::schema::Schema;
 
-/// Which tables of an office a database has. Where it lacks the last ones, an older program made it.
+/// Which tables of an office a database has. If it lacks the last ones, an older program created it.
 #[derive(Clone, Copy, PartialEq, Eq)]
-pub enum Form {
+pub enum TablesPresent {
     /// All tables.
     Whole,
-    /// All but that of the third clerks.
+    /// All but the table of third clerks.
     WithoutThird,
-    /// As `WithoutThird`, and neither of those that a count goes on with.
+    /// As in `WithoutThird`, but also without the two tables from which a count resumes.
     WithoutCounts,
-    /// Some others, or none.
+    /// Any others, or none.
     Other,
 }
 
-/// How many tables an office had before third clerks had one.
+/// The number of tables of an office before third clerks had one.
 const BEFORE_THIRD: usize = 10;
 
-/// And how many before a count went on with its own.
+/// The number of tables before those from which a count resumes.
 const BEFORE_COUNTS: usize = 8;
 
-/// Whether a table has this one's name, but for the case of ASCII letters.
+/// Returns whether there is a table with this one's name, ignoring the case of ASCII letters.
 fn is_named(schema: &Schema, table: Table) -> bool
     ensures { result ≡ has_table table schema.now }
 {
@@ -44,21 +44,21 @@ fn is_named(schema: &Schema, table: Table) -> bool
         .any(|other| same_name(other.name.as_slice(), name))
 }
 
-/// Whether some of these tables is there by name.
+/// Returns whether any of these tables exists, by name.
 fn has_any(schema: &Schema, tables: &[Table]) -> bool
     ensures { result ≡ list_any (λ t. has_table t schema.now) tables.now }
 {
     tables.iter().any(|table| is_named(schema, *table))
 }
 
-/// Whether each of these tables is there by name.
+/// Returns whether each of these tables exists, by name.
 fn has_all(schema: &Schema, tables: &[Table]) -> bool
     ensures { result ≡ list_all (λ t. has_table t schema.now) tables.now }
 {
     tables.iter().all(|table| is_named(schema, *table))
 }
 
-/// Whether the database has a table of this name.
+/// Returns whether the database has a table with this one's name.
 pub fn has_table<S: Alter>(conn: &Connection<S>, table: Table) -> bool
     ensures value { result ≡ has_table table (state S.Store conn.now).now.schema }
     ensures live { IsLive (state S.Store conn.now) }
@@ -66,7 +66,7 @@ pub fn has_table<S: Alter>(conn: &Connection<S>, table: Table) -> bool
     is_named(conn.schema(), table)
 }
 
-/// Whether the database has a table with the name of some table of an office.
+/// Returns whether the database has a table with any of an office's table names.
 pub fn has_some_table<S: Alter>(conn: &Connection<S>) -> bool
     ensures value { result ≡ has_some_table (state S.Store conn.now).now.schema }
     ensures live { IsLive (state S.Store conn.now) }
@@ -74,7 +74,7 @@ pub fn has_some_table<S: Alter>(conn: &Connection<S>) -> bool
     has_any(conn.schema(), &Table::ALL)
 }
 
-/// Whether the database has a table of each name of an office.
+/// Returns whether the database has a table with each of an office's table names.
 pub fn has_every_table<S: Alter>(conn: &Connection<S>) -> bool
     ensures value { result ≡ has_every_table (state S.Store conn.now).now.schema }
     ensures live { IsLive (state S.Store conn.now) }
@@ -82,7 +82,7 @@ pub fn has_every_table<S: Alter>(conn: &Connection<S>) -> bool
     has_all(conn.schema(), &Table::ALL)
 }
 
-/// Whether these first tables of an office, so many, are there by name, and none of the others.
+/// Returns whether the first `count` tables of an office exist, by name, and none of the others.
 fn has_first(schema: &Schema, count: usize) -> bool
     requires { count ≤ 11 }
     ensures { result ≡ has_first count schema.now }
@@ -93,19 +93,19 @@ fn has_first(schema: &Schema, count: usize) -> bool
     all & !any
 }
 
-/// Which tables of an office the database has, by name.
-pub fn form_of<S: Alter>(conn: &Connection<S>) -> Form
-    ensures value { result ≡ form_of (state S.Store conn.now).now.schema }
+/// Returns which tables of an office the database has, by name.
+pub fn tables_present<S: Alter>(conn: &Connection<S>) -> TablesPresent
+    ensures value { result ≡ tables_present (state S.Store conn.now).now.schema }
     ensures live { IsLive (state S.Store conn.now) }
 {
     let schema = conn.schema();
     if has_every_table(conn) {
-        Form::Whole
+        TablesPresent::Whole
     } else if has_first(schema, BEFORE_THIRD) {
-        Form::WithoutThird
+        TablesPresent::WithoutThird
     } else if has_first(schema, BEFORE_COUNTS) {
-        Form::WithoutCounts
+        TablesPresent::WithoutCounts
     } else {
-        Form::Other
+        TablesPresent::Other
     }
 }

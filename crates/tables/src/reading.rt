@@ -1,4 +1,4 @@
-//! Rows that are read, outside a transaction.
+//! Reading rows, outside a transaction.
 
 ghost use Rattle.std.specs.Prelude.{◌≡◌, ◌⊎◌, ◌≤◌, [], ◌∷◌, true, false, length, map, IfOk, IfErr, OnOk, IsTrue};
 ghost use Rattle.std.specs.List.Sorted.{IsPermutation};
@@ -22,7 +22,7 @@ use crate::texts::{scan_text, select_by_reference_text, select_text};
 use sqlite::{Alter, Connection, Row};
 use sqlite_value::value::ValueRef;
 
-/// The rows that a SELECT shows.
+/// Returns the rows that a SELECT yields.
 pub(crate) fn query<S: Alter>(
     conn: &mut Connection<S>,
     sql: &str,
@@ -41,7 +41,7 @@ pub(crate) fn query<S: Alter>(
     }
 }
 
-/// All rows of a table with all their columns, as the table has them.
+/// Returns all rows of a table with all their columns, in the order in which the table stores them.
 fn scanned_rows<S: Alter>(conn: &mut Connection<S>, table: Table) -> Result<Vec<Row>, Fault>
     requires { conn.old.in_transaction ≡ false }
     ensures scans { HasCleanDisk (state S.Store conn.new) → (db : Database) → BeginsTo table db.schema → RestsAt db (state S.Store conn.old)
@@ -56,9 +56,9 @@ fn scanned_rows<S: Alter>(conn: &mut Connection<S>, table: Table) -> Result<Vec<
     query(conn, scan_text(table), &[])
 }
 
-/// All rows of a table with all their columns, in the order of the key. It asks only that the
-/// schema begins with the tables up to this one. The rows are read as the table has them, and sorted here:
-/// asked for the order of the key, `sqlite` would look each row up through the key's index.
+/// Returns all rows of a table with all their columns, in key order. Requires only that the schema begins with the tables up
+/// to this one. The rows are read in stored order and sorted here: if asked for key order, `sqlite` would look up each row
+/// through the key's index.
 pub fn all_rows<S: Alter>(conn: &mut Connection<S>, table: Table) -> Result<Vec<Row>, Fault>
     requires { conn.old.in_transaction ≡ false }
     ensures lists { HasCleanDisk (state S.Store conn.new) → (db : Database) → BeginsTo table db.schema → RestsAt db (state S.Store conn.old)
@@ -77,8 +77,7 @@ pub fn all_rows<S: Alter>(conn: &mut Connection<S>, table: Table) -> Result<Vec<
     }
 }
 
-/// The rows whose key begins with these values, up to the whole key, with all their columns, in the
-/// order of the key.
+/// Returns the rows whose key begins with these values, up to the whole key, with all their columns, in key order.
 pub fn rows_beginning<S: Alter>(
     conn: &mut Connection<S>,
     table: Table,
@@ -98,7 +97,7 @@ pub fn rows_beginning<S: Alter>(
     query(conn, select_text(table, key.len()), key)
 }
 
-/// The rows with a value in a column outside the key, with all their columns, in the order of the key.
+/// Returns the rows with a value in a column outside the key, with all their columns, in key order.
 pub fn rows_referring<S: Alter>(
     conn: &mut Connection<S>,
     reference: Reference,

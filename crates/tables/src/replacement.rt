@@ -1,4 +1,4 @@
-//! Rows that are replaced, or changed in one column, inside a transaction.
+//! Replacing rows, or changing one column of them, inside a transaction.
 
 ghost use Rattle.std.specs.Prelude.{◌≡◌, true, IfErr};
 ghost use Rattle.sqlite.specs.Values.{bound};
@@ -12,13 +12,13 @@ ghost use Rattle.tables.specs.Writing.{Alters};
 
 use crate::execution::execute;
 use crate::fault::Fault;
-use crate::table::{Setting, Table};
+use crate::table::{SettableColumn, Table};
 use crate::texts::{set_text, update_text};
 use sqlite::{Alter, Transaction};
 use sqlite_value::value::ValueRef;
 
-/// In a table whose rows change, puts these values in the place of the row with their key; they are one for each column and of
-/// its kind. Where there is no such row, the table stays as it is. A fault leaves the last commit as it was.
+/// Updates the row with the same key to these values, one per column and of its kind, in a table whose rows change. Without
+/// such a row the table stays as it is. A fault leaves the last commit as it was.
 pub fn replace<S: Alter>(
     tx: &mut Transaction<'_, S>,
     table: Table,
@@ -32,12 +32,11 @@ pub fn replace<S: Alter>(
     execute(tx, update_text(table), values)
 }
 
-/// Sets one column of the row with a key: the values are those of the key's columns and then the new one,
-/// of the column's kind. Where there is no such row, the table stays as it is. A fault leaves the last
-/// commit as it was.
+/// Sets one column of the row with a key: the values are those of the key's columns, followed by the new one, of the
+/// column's kind. Without such a row the table stays as it is. A fault leaves the last commit as it was.
 pub fn set_value<S: Alter>(
     tx: &mut Transaction<'_, S>,
-    setting: Setting,
+    setting: SettableColumn,
     values: &[ValueRef<'_>],
 ) -> Result<(), Fault>
     requires kind { is_setting setting (bound values.now) ≡ true }

@@ -1,4 +1,4 @@
-//! Rowids of their own.
+//! Checking that no two rows share a rowid.
 
 ghost use Rattle.std.specs.Prelude.{◌≡◌, ◌⊎◌, ◌<ℤ◌, ◌≤ℤ◌, [], true, false, IfOk, IfErr, OnOk, IsTrue};
 ghost use Rattle.sqlite.specs.declared.types.Value.TheVariants.{Int as Number};
@@ -14,14 +14,14 @@ ghost use Rattle.tables.specs.Contents.{RestsAt};
 ghost use Rattle.tables.specs.Reading.{OnlyReads, ListsRowids, RowidsRise, RowidsFailToRise, FailsToList};
 ghost use Rattle.tables.specs.Faults.{TellsQuery};
 
-use crate::cells::integer_at;
 use crate::fault::Fault;
 use crate::reading::query;
 use crate::table::Table;
 use crate::texts::select_rowids_text;
+use crate::value_conversion::integer_at;
 use sqlite::{Alter, Connection, Row};
 
-/// The rowid that stands alone in a row.
+/// Returns the rowid that is the only column of a row.
 fn rowid_at(row: &Row) -> Result<i64, Fault>
     ensures id { IfOk result (λ n. rowid row.now ≡ Number n) }
     ensures cause { IfErr result (λ f. (f ≡ Fault.Memory) ⊎ ((f ≡ Fault.Store) × (is_int (rowid row.now) ≡ false))) }
@@ -33,7 +33,7 @@ fn rowid_at(row: &Row) -> Result<i64, Fault>
     }
 }
 
-/// Whether one rowid is below another.
+/// Returns whether one rowid is below another.
 fn is_below(id: i64, other: i64) -> bool
     ensures below { result ≡ true → id <ℤ other }
     ensures not_below { result ≡ false → other ≤ℤ id }
@@ -41,7 +41,7 @@ fn is_below(id: i64, other: i64) -> bool
     id < other
 }
 
-/// Sees that each rowid is below the next one; `Store` where that fails.
+/// Checks that each rowid is below the next one; `Store` if not.
 fn check_each(rows: &[Row]) -> Result<(), Fault>
     ensures rise { OnOk result (RowidsRise rows.now) }
     ensures fall { IfErr result (λ f. (f ≡ Fault.Memory) ⊎ ((f ≡ Fault.Store) × RowidsFailToRise rows.now)) }
@@ -58,7 +58,7 @@ fn check_each(rows: &[Row]) -> Result<(), Fault>
     Ok(())
 }
 
-/// The rowids of a table, in order.
+/// Returns the rowids of a table, in order.
 fn all_rowids<S: Alter>(conn: &mut Connection<S>, table: Table) -> Result<Vec<Row>, Fault>
     requires outside { conn.old.in_transaction ≡ false }
     requires changes { changes_rows table ≡ true }
@@ -72,8 +72,7 @@ fn all_rowids<S: Alter>(conn: &mut Connection<S>, table: Table) -> Result<Vec<Ro
     query(conn, select_rowids_text(table), &[])
 }
 
-/// Sees that the rowids of a table whose rows change are integers and no two rows share one; `Store`
-/// where that fails.
+/// Checks that the rowids of a table whose rows change are integers and no two rows share one; `Store` if not.
 pub fn check_rowids<S: Alter>(conn: &mut Connection<S>, table: Table) -> Result<(), Fault>
     requires outside { conn.old.in_transaction ≡ false }
     requires changes { changes_rows table ≡ true }

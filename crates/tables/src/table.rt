@@ -3,7 +3,7 @@
 ghost use Rattle.std.specs.Prelude.{◌≡◌};
 ghost use Rattle.tables.specs.Schema.{shape, changes_rows};
 
-/// The tables, in the order of making.
+/// The tables, in order of creation.
 #[derive(Clone, Copy, PartialEq, Eq)]
 pub enum Table {
     Office,
@@ -20,7 +20,7 @@ pub enum Table {
 }
 
 impl Table {
-    /// All tables, in the order of making.
+    /// All tables, in order of creation.
     pub const ALL: [Table; 11] = [
         Table::Office,
         Table::Ward,
@@ -35,7 +35,7 @@ impl Table {
         Table::Third,
     ];
 
-    /// The name.
+    /// Returns the name.
     pub fn name(self) -> &'static str
         ensures { result.now ≡ (shape self).name }
     {
@@ -54,7 +54,7 @@ impl Table {
         }
     }
 
-    /// How many columns the key has, which are the first ones: 1 to 4.
+    /// Returns how many of the first columns are the key: 1 to 4.
     pub fn key_columns(self) -> usize
         ensures { result ≡ (shape self).key }
     {
@@ -66,7 +66,7 @@ impl Table {
         }
     }
 
-    /// Whether rows are changed or removed, and not only added.
+    /// Returns whether rows are also changed or removed, not only added.
     pub fn changes_rows(self) -> bool
         ensures { result ≡ changes_rows self }
     {
@@ -82,21 +82,21 @@ impl Table {
     }
 }
 
-/// The columns outside a key by which rows are sought.
+/// The columns outside a key by which rows are looked up.
 #[derive(Clone, Copy, PartialEq, Eq)]
 pub enum Reference {
     /// The ward of a batch.
     WardOfBatch,
 }
 
-/// The columns outside a key that are set alone, while the others stay.
+/// The columns outside a key that are set on their own, leaving the others as they are.
 #[derive(Clone, Copy, PartialEq, Eq)]
-pub enum Setting {
+pub enum SettableColumn {
     /// The version of the office.
     VersionOfOffice,
     /// The phase of a ward.
     PhaseOfWard,
-    /// How many stages of a ward's count are done.
+    /// The number of stages done in a ward's count.
     DoneOfWard,
     /// The round of a batch.
     RoundOfBatch,

@@ -5,10 +5,10 @@ ghost use Rattle.tables.specs.Schema.{shape, changes_rows};
 ghost use Rattle.tables.specs.Texts.{scan_text, create_text, insert_text, select_text, select_by_reference_text, select_rowids_text};
 ghost use Rattle.tables.specs.Texts.{select_rowid_text, select_between_text, update_text, set_text, delete_text};
 
-use crate::table::{Reference, Setting, Table};
+use crate::table::{Reference, SettableColumn, Table};
 
 #[tactic(auto, unfolding(crate::specs::Texts::create_text))]
-/// The text that makes the table.
+/// Returns the text that creates the table.
 pub fn create_text(table: Table) -> &'static str
     ensures { result.now ≡ create_text table }
 {
@@ -39,7 +39,7 @@ pub fn create_text(table: Table) -> &'static str
 }
 
 #[tactic(auto, unfolding(crate::specs::Texts::insert_text))]
-/// The text that adds a row, with the values of all columns as its parameters.
+/// Returns the text that inserts a row, with the values of all columns as its parameters.
 pub fn insert_text(table: Table) -> &'static str
     ensures { result.now ≡ insert_text table }
 {
@@ -64,8 +64,7 @@ pub fn insert_text(table: Table) -> &'static str
 }
 
 #[tactic(auto, unfolding(crate::specs::Texts::select_text))]
-/// The text of all columns of the rows whose first columns, so many, are the parameters, in the order
-/// of the key.
+/// Returns the text that selects all columns of the rows whose first `columns` columns equal the parameters, in key order.
 pub fn select_text(table: Table, columns: usize) -> &'static str
     requires { columns ≤ (shape table).key }
     ensures { result.now ≡ select_text table columns }
@@ -133,7 +132,7 @@ pub fn select_text(table: Table, columns: usize) -> &'static str
 }
 
 #[tactic(auto, unfolding(crate::specs::Texts::scan_text))]
-/// The text of all columns of all rows, in whatever order.
+/// Returns the text that selects all columns of all rows, in any order.
 pub(crate) fn scan_text(table: Table) -> &'static str
     ensures { result.now ≡ scan_text table }
 {
@@ -153,7 +152,7 @@ pub(crate) fn scan_text(table: Table) -> &'static str
 }
 
 #[tactic(auto, unfolding(crate::specs::Texts::select_by_reference_text))]
-/// The text of all columns of the rows with a value in a column outside the key, in the order of the key.
+/// Returns the text that selects all columns of the rows with a value in a column outside the key, in key order.
 pub fn select_by_reference_text(reference: Reference) -> &'static str
     ensures { result.now ≡ select_by_reference_text reference }
 {
@@ -164,7 +163,7 @@ pub fn select_by_reference_text(reference: Reference) -> &'static str
 }
 
 #[tactic(auto, unfolding(crate::specs::Texts::select_rowids_text))]
-/// The text of the rowids, in order, of a table whose rows change.
+/// Returns the text that selects the rowids, in order, of a table whose rows change.
 pub fn select_rowids_text(table: Table) -> &'static str
     requires { changes_rows table ≡ true }
     ensures { result.now ≡ select_rowids_text table }
@@ -180,7 +179,7 @@ pub fn select_rowids_text(table: Table) -> &'static str
 }
 
 #[tactic(auto, unfolding(crate::specs::Texts::select_rowid_text))]
-/// The text of the rowid of the row with a key, whose values are the parameters.
+/// Returns the text that selects the rowid of the row with a key, whose values are the parameters.
 pub fn select_rowid_text(table: Table) -> &'static str
     ensures { result.now ≡ select_rowid_text table }
 {
@@ -201,7 +200,7 @@ pub fn select_rowid_text(table: Table) -> &'static str
 }
 
 #[tactic(auto, unfolding(crate::specs::Texts::select_between_text))]
-/// The text of all columns of the rows whose rowids lie between the two parameters, in whatever order.
+/// Returns the text that selects all columns of the rows whose rowids are between the two parameters, in any order.
 pub fn select_between_text(table: Table) -> &'static str
     ensures { result.now ≡ select_between_text table }
 {
@@ -229,7 +228,7 @@ pub fn select_between_text(table: Table) -> &'static str
 }
 
 #[tactic(auto, unfolding(crate::specs::Texts::update_text))]
-/// The text that replaces the row with a key, with the values of all columns as its parameters.
+/// Returns the text that replaces the row with a key, with the values of all columns as its parameters.
 pub fn update_text(table: Table) -> &'static str
     requires { changes_rows table ≡ true }
     ensures { result.now ≡ update_text table }
@@ -248,20 +247,20 @@ pub fn update_text(table: Table) -> &'static str
 }
 
 #[tactic(auto, unfolding(crate::specs::Texts::set_text))]
-/// The text that sets one column of the row with a key, with the key and the value as its parameters.
-pub fn set_text(setting: Setting) -> &'static str
+/// Returns the text that sets one column of the row with a key, with the key and the value as its parameters.
+pub fn set_text(setting: SettableColumn) -> &'static str
     ensures { result.now ≡ set_text setting }
 {
     match setting {
-        Setting::VersionOfOffice => "UPDATE office SET version = ?2 WHERE one = ?1",
-        Setting::PhaseOfWard => "UPDATE ward SET phase = ?2 WHERE ward = ?1",
-        Setting::DoneOfWard => "UPDATE ward SET done = ?2 WHERE ward = ?1",
-        Setting::RoundOfBatch => "UPDATE batch SET round = ?2 WHERE batch = ?1",
+        SettableColumn::VersionOfOffice => "UPDATE office SET version = ?2 WHERE one = ?1",
+        SettableColumn::PhaseOfWard => "UPDATE ward SET phase = ?2 WHERE ward = ?1",
+        SettableColumn::DoneOfWard => "UPDATE ward SET done = ?2 WHERE ward = ?1",
+        SettableColumn::RoundOfBatch => "UPDATE batch SET round = ?2 WHERE batch = ?1",
     }
 }
 
 #[tactic(auto, unfolding(crate::specs::Texts::delete_text))]
-/// The text that removes the row with a key, whose values are the parameters.
+/// Returns the text that removes the row with a key, whose values are the parameters.
 pub fn delete_text(table: Table) -> &'static str
     requires { changes_rows table ≡ true }
     ensures { result.now ≡ delete_text table }

@@ -1,4 +1,4 @@
-//! Entries that are handed on one after the other, without ever holding them all.
+//! Passing entries on one at a time, without holding them all.
 
 ghost use Rattle.std.specs.Prelude.{◌≡◌, ◌≤◌, ◌⊎◌, [], ◌∷◌, true, false, length, List, IfOk, IfErr, OnOk, IsTrue};
 ghost use Rattle.std.specs.List.{AllByRecursion};
@@ -20,29 +20,29 @@ use crate::texts::select_text;
 use sqlite::{Alter, Connection, Rows};
 use sqlite_value::value::ValueRef;
 
-/// What takes entries in, one after the other.
+/// A consumer of entries, one at a time.
 pub trait Visitor<E: Entries> {
     ghost use Rattle.tables.specs.declared.fault.Fault.{Fault};
 
-    // Whether it has taken these entries in, in this order, and none else.
-    ghost HasTaken: { Self → List E.Entry → Type 0 };
+    // It has consumed these entries, in this order, and no others.
+    ghost HasVisited: { Self → List E.Entry → Type 0 };
 
-    // Why it stops.
+    // A fault with which it stops.
     ghost Stops: { Fault → Type 0 };
 
-    /// Takes one more entry in.
+    /// Consumes one more entry.
     fn visit(&mut self, entry: E::Entry) -> Result<(), Fault>
-        ensures takes { OnOk result (TakesNext HasTaken self.old self.new entry) }
+        ensures takes { OnOk result (TakesNext HasVisited self.old self.new entry) }
         ensures cause { IfErr result Stops };
 }
 
-/// Whether there is one more row, whose entry is then taken in.
+/// Passes on the entry of the next row, and returns whether there was one.
 fn visit_next<E: Entries, V: Visitor<E>, S: Alter>(
     rows: &mut Rows<'_, S>,
     visitor: &mut V,
 ) -> Result<bool, Fault>
     ensures same_reference { rows.new.conn.ghost_name ≡ rows.old.conn.ghost_name }
-    ensures visits { HasCleanDisk (state S.Store rows.new.conn.now) → IfOk result (Visits S.Store E.TABLE E.row_of V.HasTaken rows.old.conn.now rows.new.conn.now visitor.old visitor.new) }
+    ensures visits { HasCleanDisk (state S.Store rows.new.conn.now) → IfOk result (Visits S.Store E.TABLE E.row_of V.HasVisited rows.old.conn.now rows.new.conn.now visitor.old visitor.new) }
     ensures cause { HasCleanDisk (state S.Store rows.new.conn.now) → IfErr result (FailsToVisit S.Store E.is_row V.Stops rows.old.conn.now rows.new.conn.now) }
     ensures opens { HasCleanDisk (state S.Store rows.new.conn.now) → OnOk result (IsTrue (state S.Store rows.new.conn.now).is_open) }
     ensures reads { OnlyReads (state S.Store rows.old.conn.now) (state S.Store rows.new.conn.now) }
@@ -57,14 +57,14 @@ fn visit_next<E: Entries, V: Visitor<E>, S: Alter>(
     Ok(true)
 }
 
-/// Takes the entries of all rows in that are still to come; `Memory` also past 2^64 - 2 rows.
+/// Passes on the entries of all remaining rows; `Memory` also past 2^64 - 2 rows.
 fn visit_rest<E: Entries, V: Visitor<E>, S: Alter>(
     rows: &mut Rows<'_, S>,
     visitor: &mut V,
 ) -> Result<(), Fault>
     ensures same_reference { rows.new.conn.ghost_name ≡ rows.old.conn.ghost_name }
     ensures finds { HasCleanDisk (state S.Store rows.new.conn.now) → (key : Row) → length key ≤ (shape E.TABLE).key → HasGiven S.Store (select_text E.TABLE (length key)) key rows.old.conn.now []
-        → (c : Contents) → RestsIfOpen c (state S.Store rows.old.conn.now) → OnOk result (TakesFound V.HasTaken E.row_of E.TABLE (begins_with key) c visitor.old visitor.new) }
+        → (c : Contents) → RestsIfOpen c (state S.Store rows.old.conn.now) → OnOk result (TakesFound V.HasVisited E.row_of E.TABLE (begins_with key) c visitor.old visitor.new) }
     ensures cause { HasCleanDisk (state S.Store rows.new.conn.now) → (key : Row) → length key ≤ (shape E.TABLE).key → HasGiven S.Store (select_text E.TABLE (length key)) key rows.old.conn.now []
         → (c : Contents) → RestsIfOpen c (state S.Store rows.old.conn.now) → begins_key E.TABLE key ≡ true → AllByRecursion E.is_row (c E.TABLE)
         → IfErr result (λ f. FailsBy (state S.Store rows.old.conn.now) (state S.Store rows.new.conn.now) f ⊎ V.Stops f) }
@@ -82,11 +82,11 @@ fn visit_rest<E: Entries, V: Visitor<E>, S: Alter>(
     Err(Fault::Memory)
 }
 
-/// Hands on the entries whose key begins with these values, one after the other, in the order of the key,
-/// and answers what has taken them in. Of the rows, those that are read ahead are held, and no others.
+/// Passes the entries whose key begins with these values to the visitor, one at a time, in key order, and returns the
+/// visitor. Of the rows only those read ahead are held in memory.
 ///
-/// A fault of the visitor ends the walk. `Damaged` where a row is that of no entry; `Memory` also past
-/// 2^64 - 2 rows. What has taken some entries in is dropped then, and the tables are as they were.
+/// A fault of the visitor ends the walk. `Damaged` if a row represents no entry; `Memory` also past 2^64 - 2 rows. In these
+/// cases the visitor is dropped, and the tables are as they were.
 pub fn walk_beginning<E: Entries, V: Visitor<E> + Drop, S: Alter>(
     conn: &mut Connection<S>,
     key: &[ValueRef<'_>],
@@ -95,7 +95,7 @@ pub fn walk_beginning<E: Entries, V: Visitor<E> + Drop, S: Alter>(
     requires outside { conn.old.in_transaction ≡ false }
     requires key { length key.now ≤ (shape E.TABLE).key }
     ensures finds { HasCleanDisk (state S.Store conn.new) → (c : Contents) → RestsIfOpen c (state S.Store conn.old)
-        → IfOk result (TakesFound V.HasTaken E.row_of E.TABLE (begins_with (bound key.now)) c visitor) }
+        → IfOk result (TakesFound V.HasVisited E.row_of E.TABLE (begins_with (bound key.now)) c visitor) }
     ensures cause { HasCleanDisk (state S.Store conn.new) → (c : Contents) → RestsIfOpen c (state S.Store conn.old)
         → begins_key E.TABLE (bound key.now) ≡ true → AllByRecursion E.is_row (c E.TABLE) → IfErr result (λ f. FailsBy (state S.Store conn.old) (state S.Store conn.new) f ⊎ V.Stops f) }
     ensures cause_alone { HasCleanDisk (state S.Store conn.new) → (c : Contents) → RestsIfOpen c (state S.Store conn.old) → AllByRecursion E.is_row (c E.TABLE)

@@ -1,4 +1,4 @@
-//! Entries that are written, inside a transaction.
+//! Writing entries, inside a transaction.
 
 ghost use Rattle.std.specs.Prelude.{◌≡◌, true, map};
 ghost use Rattle.tables.specs.Schema.{changes_rows};
@@ -12,8 +12,7 @@ use crate::replacement::replace;
 use sqlite::{Alter, Transaction};
 use std::alloc::Global;
 
-/// Adds the row of an entry. A fault, as where a row with the key is there, leaves the last commit as it
-/// was.
+/// Inserts the row of an entry. A fault, for example if there is a row with the key, leaves the last commit as it was.
 pub fn add_entry<E: Entries, S: Alter>(
     alloc: Global,
     tx: &mut Transaction<'_, S>,
@@ -25,7 +24,7 @@ pub fn add_entry<E: Entries, S: Alter>(
     insert(tx, E::TABLE, &values)
 }
 
-/// Adds the rows of entries, each as `add_entry` does. A fault leaves the last commit as it was.
+/// Inserts the rows of entries, each as `add_entry` does. A fault leaves the last commit as it was.
 pub fn add_entries<E: Entries, S: Alter>(
     alloc: Global,
     tx: &mut Transaction<'_, S>,
@@ -39,8 +38,7 @@ pub fn add_entries<E: Entries, S: Alter>(
     Ok(())
 }
 
-/// Adds the rows of entries to their table, and those of others to theirs. A fault leaves the last commit as
-/// it was.
+/// Inserts the rows of entries into their table, and those of others into theirs. A fault leaves the last commit as it was.
 pub fn add_both<E: Entries, F: Entries, S: Alter>(
     alloc: Global,
     tx: &mut Transaction<'_, S>,
@@ -53,8 +51,8 @@ pub fn add_both<E: Entries, F: Entries, S: Alter>(
     add_entries::<F, S>(alloc, tx, others)
 }
 
-/// Puts the row of an entry in the place of the one with its key; where there is none, nothing changes. A
-/// fault leaves the last commit as it was.
+/// Updates the row with an entry's key to the entry's row; without such a row nothing changes. A fault leaves the
+/// last commit as it was.
 pub fn replace_entry<E: Entries, S: Alter>(
     alloc: Global,
     tx: &mut Transaction<'_, S>,
@@ -67,8 +65,8 @@ pub fn replace_entry<E: Entries, S: Alter>(
     replace(tx, E::TABLE, &values)
 }
 
-/// Puts the row of each entry, in turn, in the place of the one with its key, as `replace_entry` does. A
-/// fault leaves the last commit as it was.
+/// Updates the rows with the keys of entries, one after another, each as `replace_entry` does. A fault leaves the last
+/// commit as it was.
 pub fn replace_entries<E: Entries, S: Alter>(
     alloc: Global,
     tx: &mut Transaction<'_, S>,

@@ -1,3 +1,3 @@
--- What votes are, and their text.
+-- Votes, and their text.
 pub mod Units
 pub mod Text

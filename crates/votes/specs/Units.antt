@@ -5,15 +5,15 @@ use Rattle.std.specs.Prelude.{◌≡◌, ℕ, ◌+◌, ◌*◌, ◌/◌, ◌<◌
 abbrev pub one_vote : ℕ
 one_vote = 100000
 
--- the most valid ballot papers of a ward: 9999 batches of 500 papers
+-- the maximum number of valid ballot papers in a ward: 9999 batches of 500 papers
 abbrev pub max_papers : ℕ
 max_papers = 4999500
 
--- the most units that anyone is credited with: one vote for each of the most papers
+-- the maximum number of units that can be credited: one vote for each of the maximum number of papers
 abbrev pub max_units : ℕ
 max_units = 499950000000
 
--- the most seats of a ward
+-- the maximum number of seats in a ward
 abbrev pub max_seats : ℕ
 max_seats = 15
 
@@ -27,26 +27,26 @@ pub record IsGreatest (P : ℕ → Type 0) (n : ℕ) : Type 0 where
   pub holds : P n
   pub greatest : (m : ℕ) → P m → m ≤ n
 
--- Quota: the least whole number of votes that one candidate more than there are seats can't all reach,
--- since together they would need more votes than there are valid papers; in units
+-- Quota: the least whole number of votes that one more candidate than there are seats can't all reach, because together they
+-- would need more votes than there are valid papers; in units
 pub record IsQuota (papers seats units : ℕ) : Type 0 where
   pub votes : ℕ
   pub whole : units ≡ one_vote * votes
   pub least : IsLeast (λ q. papers < q * (seats + 1)) votes
 
--- Transfer values: the most units that a paper received at a value can have, if everyone's share of the
--- surplus is to be no more than his value's part of the votes credited to the transferring candidate
+-- Transfer values: the most units that a paper received at a value can have if its share of the surplus is to be no more than
+-- its value's share of the votes credited to the transferring candidate
 abbrev pub IsCut : ℕ → ℕ → ℕ → ℕ → Type 0
 IsCut surplus value credited = IsGreatest (λ w. w * credited ≤ surplus * value)
 
--- the quota worked out, for terms that compute
+-- the quota as a formula, for terms that compute
 abbrev pub quota_of : ℕ → ℕ → ℕ
 quota_of papers seats = one_vote * (papers / (seats + 1) + 1)
 
--- the transfer value worked out, for terms that compute
+-- the transfer value as a formula, for terms that compute
 abbrev pub cut : ℕ → ℕ → ℕ → ℕ
 cut surplus value credited = surplus * value / credited
 
--- cutting never makes votes: papers whose values are within the votes credited are given no more than the surplus
+-- rounding down never creates votes: papers whose values are within the votes credited receive no more than the surplus
 abbrev pub GivesWithin : ℕ → ℕ → Type 0
 GivesWithin surplus credited = (values : List ℕ) → sum values ≤ credited → sum_by (λ v. cut surplus v credited) values ≤ surplus

@@ -1,8 +1,8 @@
 //! Votes, exact to the hundred-thousandth.
 //!
-//! [`Votes`] is a number of units, of which one vote has [`ONE_VOTE`]. [`quota`] and [`transfer_value`]
-//! are the two divisions of a count by the single transferable vote; both cut down, and say so.
-//! Their text goes to a [`Sink`] of `streams`, whose types are here too, since they were first fixed under these names.
+//! [`Votes`] is a number of units; one vote is [`ONE_VOTE`] units. [`quota`] and [`transfer_value`] are the two divisions
+//! of a count by the single transferable vote. Both round down, and their clauses state exactly how.
+//! The text of votes is written to a [`Sink`] from `streams`, whose types are exported here too, under their original names.
 //!
 //! ```text
 //! let quota = quota(9, 2);                                    // prints 4.00000

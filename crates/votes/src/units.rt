@@ -14,13 +14,13 @@ use streams::{Broken, Sink, put_all};
 /// One vote, in units.
 pub const ONE_VOTE: u64 = 100000;
 
-/// The most valid ballot papers of a ward: 9999 batches of 500 papers.
+/// The maximum number of valid ballot papers in a ward: 9999 batches of 500 papers.
 pub const MAX_PAPERS: u32 = 4999500;
 
-/// The most seats of a ward.
+/// The maximum number of seats in a ward.
 pub const MAX_SEATS: u8 = 15;
 
-/// A number of votes, in units: one vote is `ONE_VOTE` of them.
+/// A number of votes, in units; one vote is `ONE_VOTE` units.
 #[derive(Clone, Copy, Debug, PartialEq, Eq, PartialOrd, Ord)]
 pub struct Votes(u64);
 
@@ -33,14 +33,14 @@ impl Model for Votes {
 }
 
 impl Votes {
-    /// The votes of so many units.
+    /// Returns the votes for a number of units.
     pub fn from_units(units: u64) -> Votes
         ensures { result ≡ units }
     {
         Votes(units)
     }
 
-    /// How many units these votes are.
+    /// Returns the number of units.
     pub fn units(self) -> u64
         ensures { result ≡ self }
     {
@@ -49,8 +49,8 @@ impl Votes {
 
     /// Writes the whole votes without leading zeros, a point, and five digits.
     ///
-    /// Takes no memory. `Broken` comes only from the sink, which has then taken a beginning of the
-    /// text and counts one failure more.
+    /// Allocates nothing. `Broken` comes only from the sink, which has then accepted a prefix of the text and counts one more
+    /// failure.
     #[tactic(auto, using(streams::proofs::Beginnings::beginnings))]
     pub fn write<W: Sink>(self, sink: &mut W) -> Result<(), Broken>
         requires { W.failed sink.old < 2 ^ 64 - 1 }
@@ -68,7 +68,7 @@ impl Votes {
     }
 }
 
-/// The point and the five digits of so many units.
+/// Returns the point and the five digits of a number of units.
 fn fraction(units: u64) -> [u8; 6]
     ensures { result ≡ fraction_text units }
 {
@@ -99,8 +99,7 @@ impl fmt::Display for Votes {
     }
 }
 
-/// The quota ("Quota"): the least whole number of votes that no more candidates than there are
-/// seats can all reach.
+/// Returns the quota ("Quota"): the least whole number of votes that more candidates than there are seats can't all reach.
 ///
 /// `valid` is the number of valid ballot papers, at most `MAX_PAPERS`, and `seats` is 1 to
 /// `MAX_SEATS`.
@@ -115,11 +114,11 @@ pub fn quota(valid: u32, seats: u8) -> Votes
     Votes(whole * ONE_VOTE)
 }
 
-/// The value at which a paper goes on with a surplus ("Transfer values"). It is the surplus times its value when received,
-/// divided by the votes credited to its holder, cut down to whole units.
+/// Returns the value at which a paper is transferred with a surplus ("Transfer values"): the surplus times the paper's value when
+/// received, divided by the votes credited to its holder, rounded down to whole units.
 ///
-/// `received` is at most one vote, `credited` at most one vote for each of `MAX_PAPERS` papers, and
-/// `surplus` a part of `credited` that is neither nothing nor all of it.
+/// `received` is at most one vote, `credited` at most one vote for each of `MAX_PAPERS` papers, and `surplus` more than nothing
+/// and less than `credited`.
 pub fn transfer_value(surplus: Votes, received: Votes, credited: Votes) -> Votes
     requires some { 0 < surplus }
     requires part { surplus < credited }
@@ -127,7 +126,7 @@ pub fn transfer_value(surplus: Votes, received: Votes, credited: Votes) -> Votes
     requires one { received ≤ one_vote }
     ensures greatest { IsCut surplus received credited result }
     ensures is { result ≡ cut surplus received credited }
-    // cutting makes no votes
+    // rounding down creates no votes
     ensures within { GivesWithin surplus credited }
 {
     Votes(surplus.0 * received.0 / credited.0)

@@ -11,7 +11,7 @@ use Rattle.std.proofs.lemmas.Slice.{take-put_mid}
 use Rattle.wire.specs.Requests.{HasRead}
 use Rattle.wire.specs.Bodies.{body_in}
 
--- a buffer whose back was filled, as it stands in its `Vec` again
+-- a buffer whose end was filled, as it is in its `Vec` again
 pub back_filled : (items buf front_bytes room : List ℕ) (front size len : ℕ) → len ≡ size → length buf ≡ size → front + length room ≡ size → take front buf ≡ front_bytes
     → take len (put_mid front (length buf - front) buf room ++ drop (length (put_mid front (length buf - front) buf room)) items) ≡ front_bytes ++ room
 back_filled items buf front_bytes room front size len there full fits is =
@@ -56,7 +56,7 @@ enough body others size is =
     let own : take size (body ++ others) ≡ body = ap (λ n. take n (body ++ others)) (sym is) ∙ take-append_seam body others in
     rw (le-leb size (length (body ++ others)) fits, own) refl
 
--- the bytes behind the head are the body and others: the body is of those that were read with the head, as far as they go, and of those in the room
+-- the bytes after the head are the body and others: the body is of those that were read with the head, as far as they go, and of those in the room
 follows : (behind room left rest : List ℕ) (front size : ℕ) → front ≤ length behind → front + length room ≡ size → (front ≡ length behind) ⊎ (front ≡ size) → left ≡ room ++ rest
     → (others : List ℕ) × (behind ++ left ≡ (take front behind ++ room) ++ others)
 follows behind room left rest front size within is (inl all) e = (

@@ -1,6 +1,6 @@
 -- The numbers that digits write.
 use Rattle.std.proofs.Common.{◌≡◌, ◌∙◌, ◌<◌, ◌≤◌, ◌+◌, ◌*◌, ◌-◌, ◌∷◌, ◌&&◌, zero, suc, ℕ, true, List, [], length, get_or, Result, refl, sym, ap, min, take, arith}
-use Rattle.std.specs.Prelude.{slice_get, unwrap_or}
+use Rattle.std.specs.Prelude.{IsUtf8, slice_get, unwrap_or}
 use Rattle.std.specs.Char.{digit_value, is_ascii_digit}
 use Rattle.std.specs.List.{list_all}
 use Rattle.std.specs.Int.{IsInRange}
@@ -10,10 +10,11 @@ use Rattle.std.specs.Str.Parse.{ParsesUnsigned, digits_value}
 use Rattle.std.proofs.lemmas.Bool.{and_parts, le-leb, ne_eqb}
 use Rattle.std.proofs.lemmas.Bool.Decides.{nat_tests}
 use Rattle.std.proofs.lemmas.List.{take_more}
-use Rattle.std.proofs.lemmas.Str.{digit_value_digit}
+use Rattle.std.proofs.lemmas.Str.{IsUtf8-from_ascii, digit_value_digit}
+use Rattle.std.proofs.lemmas.Str.Ascii.{IsAscii-from_all}
 use Rattle.httparse.proofs.ChunkLemmas.{digits_value_after_push}
 use Rattle.std.proofs.lemmas.Str.Parse.{digits_value_short, numerals_by_value, parse_gives, tells_all_ascii_digits}
-use Rattle.wire.specs.Targets.{number_in}
+use Rattle.wire.specs.Numbers.{number_in}
 
 all_digits : (ds : List ℕ) → list_all is_ascii_digit ds ≡ all_ascii_digits ds
 all_digits [] = refl
@@ -29,6 +30,19 @@ number_read (b ∷ bs) r front few digits parses =
     let short = digits_value_short own (b ∷ bs) 5 all few in
     let is = parse_gives own 32 (b ∷ bs) r parses all (omega arith) (omega (arith, short)) in
     rw (is, ne_eqb b 48 front, le-leb (length (b ∷ bs)) 5 few, digits) refl
+
+-- ---- digits are text
+
+below : (d : ℕ) → is_ascii_digit d ≡ true → d < 128
+below d is = grind (arith, nat_tests)
+
+digits-below : (ds : List ℕ) → list_all is_ascii_digit ds ≡ true → (i d : ℕ) → i < length ds → get_or ds i d < 128
+digits-below [] all i d there = absurd (omega (arith, there))
+digits-below (b ∷ bs) all zero d there = below b (and_parts (is_ascii_digit b) (list_all is_ascii_digit bs) all).0
+digits-below (b ∷ bs) all (suc i) d there = digits-below bs (and_parts (is_ascii_digit b) (list_all is_ascii_digit bs) all).1 i d (omega (arith, there))
+
+pub digits-utf8 : (ds : List ℕ) → list_all is_ascii_digit ds ≡ true → IsUtf8 ds
+digits-utf8 ds all = IsUtf8-from_ascii ds (IsAscii-from_all ds (digits-below ds all))
 
 -- ---- a number that may be great
 

@@ -30,7 +30,7 @@ Consumes-more (Some xs) (Some ys) (Some zs) buf room filled n k fits few a b =
 
 -- ---- no head
 
--- of a head, its bytes and those behind it in what was read and in what wasn't
+-- of a head, its bytes and those after it, in what was read and in what wasn't
 parted : (xs got ys front behind : List ℕ) → xs ≡ got ++ ys → xs ≡ front ++ behind → got ++ ys ≡ front ++ behind
 parted xs got ys front behind a b = sym a ∙ b
 

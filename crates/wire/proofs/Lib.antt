@@ -2,10 +2,12 @@
 pub mod HeadLemmas
 pub mod BodyLemmas
 pub mod TextLemmas
+pub mod FileLemmas
 pub mod DigitLemmas
 pub mod TargetLemmas
 pub mod RowLemmas
 pub mod PartLemmas
+pub mod OfficeTargetLemmas
 pub mod PathLemmas
 pub mod LengthLemmas
 pub mod RequestLemmas
@@ -13,6 +15,8 @@ pub mod GateLemmas
 pub mod AuthenticationLemmas
 pub mod ParsedLemmas
 pub mod ReplyLemmas
+pub mod OfficeReplyLemmas
+pub mod ToldLemmas
 pub mod ResponseLemmas
 pub mod OutcomeLemmas
 pub mod AnswerLemmas

@@ -3,7 +3,7 @@ use Rattle.std.proofs.Common.{◌≡◌, ◌∙◌, ℕ, List, Option, Some, Non
 use Rattle.register.specs.Keyings.{objections, part_of, reply_to, subject_of}
 use Rattle.register.specs.Machine.{answered, decided, judged, outcome_at, refuses, step, step_of}
 use Rattle.register.specs.Offices.{OfficeState, ReceiptEntry, receipt_at}
-use Rattle.register.specs.Parts.{PartEntries}
+use Rattle.register.specs.CommandInputs.{CommandInputEntries}
 use Rattle.register.specs.Ranges.{is_id}
 use Rattle.register.specs.Reasons.{first_reason}
 use Rattle.register.specs.declared.command.Command.TheVariants as command
@@ -20,16 +20,16 @@ record IsSame (one other : KeyingCommand) : Type 0 where
   pub round : one.round ≡ other.round
   pub papers : map string_bytes one.papers.items ≡ map string_bytes other.papers.items
 
-objections-same : (clerk : ℕ) (part : PartEntries) (one other : KeyingCommand) → IsSame one other → objections clerk one part ≡ objections clerk other part
+objections-same : (clerk : ℕ) (part : CommandInputEntries) (one other : KeyingCommand) → IsSame one other → objections clerk one part ≡ objections clerk other part
 objections-same clerk part one other same = rw (same.batch, same.round, same.papers) refl
 
-judged-same : (clerk : ℕ) (id : List ℕ) (part : PartEntries) (one other : KeyingCommand) → IsSame one other → (why : Option Reason)
+judged-same : (clerk : ℕ) (id : List ℕ) (part : CommandInputEntries) (one other : KeyingCommand) → IsSame one other → (why : Option Reason)
     → judged clerk id (command.Keying one) part why ≡ judged clerk id (command.Keying other) part why
 unfolding subject_of reply_to
 judged-same clerk id part one other same (Some why) = refl
 judged-same clerk id part one other same None = rw (same.batch, same.round, same.papers) refl
 
-answered-same : (clerk : ℕ) (id : List ℕ) (part : PartEntries) (one other : KeyingCommand) → IsSame one other → (receipt : Option ReceiptEntry)
+answered-same : (clerk : ℕ) (id : List ℕ) (part : CommandInputEntries) (one other : KeyingCommand) → IsSame one other → (receipt : Option ReceiptEntry)
     → answered clerk id (command.Keying one) receipt part ≡ answered clerk id (command.Keying other) receipt part
 unfolding subject_of
 answered-same clerk id part one other same (Some receipt) = rw (same.batch, same.round) refl

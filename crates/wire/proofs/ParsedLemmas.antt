@@ -1,4 +1,4 @@
--- What a request lacks and asks, and who asks it, by how its head was parsed.
+-- What a request lacks and asks, and under whose number, by how its head was parsed.
 use Rattle.std.proofs.Common.{◌≡◌, ◌∙◌, ◌<◌, ◌≤◌, ◌+◌, ◌-◌, ℕ, List, Option, None, Result, Ok, Err, [], ◌++◌, Some}
 use Rattle.std.proofs.Common.{inl, inr, append_assoc, ap, arith, drop, length, map, min, option_map, refl, subst, sym, take}
 use Rattle.std.proofs.Math.Seq.{drop-append_seam}
@@ -9,7 +9,7 @@ use Rattle.httparse.specs.Grammar.{HasNoRequest, MayBecomeRequest, RequestHead, 
 use Rattle.httparse.specs.Spans.{IsRequestOf, RequestOverflows, header_bytes, name_and_value, span_bytes}
 use Rattle.httparse.specs.declared.spans.HeaderSpan.{HeaderSpan}
 use Rattle.httparse.specs.declared.spans.RequestSpans.{RequestSpans}
-use Rattle.wire.specs.Requests.{HttpRequestEntry, Asks, IsWanting, MissesBehind, MissesBytes, asked_by, http_request_entry, asked_in, asked_of, denied, reading, wanted}
+use Rattle.wire.specs.Requests.{HttpRequestEntry, Asks, IsWanting, MissesBehind, MissesBytes, asked_by, http_request_entry, asked_in, asked_of, denied, ordered_in, reading, wanted}
 use Rattle.wire.specs.declared.request.HttpRequest.{HttpRequest}
 use Rattle.wire.specs.Bodies.{KeyingEntry, body_in, keying_of}
 use Rattle.wire.specs.Gates.{GateEntry, HttpSettingsEntry, IsAuthentication, authentication_at, authentication_entry}
@@ -24,6 +24,8 @@ use Rattle.wire.specs.declared.parsed.Head.{Head}
 use Rattle.wire.specs.declared.target.Resource.{Resource}
 use Rattle.wire.specs.declared.target.Target.{Target}
 use Rattle.wire.specs.declared.target.Target.TheVariants as target
+use Rattle.wire.specs.declared.target.OfficeTarget.TheVariants as office
+use Rattle.wire.specs.ConsoleOrders.{ConsoleOrderEntry, order_of}
 use Rattle.wire.proofs.RequestLemmas.{AsksOneThing-all, begins}
 use Rattle.wire.proofs.HeadLemmas.{HasOneHead-all, within}
 
@@ -84,9 +86,13 @@ asked_stays gate (Ok (target.Keying clerk batch)) (Err why) behind more enough =
 asked_stays gate (Ok (target.Page clerk)) size behind more enough = refl
 asked_stays gate (Ok (target.Leave clerk)) size behind more enough = refl
 asked_stays gate (Ok (target.Resource what)) size behind more enough = refl
+asked_stays gate (Ok (target.Office office.ConsolePage)) size behind more enough = refl
+asked_stays gate (Ok (target.Office office.Leave)) size behind more enough = refl
+asked_stays gate (Ok (target.Office office.Orders)) (Ok n) behind more enough = ap (λ b. ordered_in (option_and_then order_of b)) (body_stays n behind more enough)
+asked_stays gate (Ok (target.Office office.Orders)) (Err why) behind more enough = refl
 asked_stays gate (Err why) size behind more enough = refl
 
--- a request that begins with a head, for which no byte behind it is lacking
+-- a request that begins with a head, for which no byte after it is lacking
 whole_behind : (settings : HttpSettingsEntry) (got : List ℕ) (head : RequestHead) (behind : List ℕ) → BeginsWith got head behind → (MissesBehind settings head behind → ⊥) → IsWhole settings got
 whole_behind settings got head behind begun enough more asked asks =
     let one : asked ≡ asked_by settings head behind = AsksOneThing-all settings got asked (asked_by settings head behind) asks (inr (head, behind, begun, refl)) in
@@ -111,6 +117,10 @@ lacks_few (Ok (target.Keying clerk batch)) (Err why) behind few = absurd (omega 
 lacks_few (Ok (target.Page clerk)) body behind few = absurd (omega (arith, few))
 lacks_few (Ok (target.Leave clerk)) body behind few = absurd (omega (arith, few))
 lacks_few (Ok (target.Resource what)) body behind few = absurd (omega (arith, few))
+lacks_few (Ok (target.Office office.ConsolePage)) body behind few = absurd (omega (arith, few))
+lacks_few (Ok (target.Office office.Leave)) body behind few = absurd (omega (arith, few))
+lacks_few (Ok (target.Office office.Orders)) (Ok n) behind few = few
+lacks_few (Ok (target.Office office.Orders)) (Err why) behind few = absurd (omega (arith, few))
 lacks_few (Err why) body behind few = absurd (omega (arith, few))
 
 lacks_none : (t : Result Target RequestError) (body : Result ℕ RequestError) (behind : List ℕ) → needed t body ≤ length behind → MissesBytes t body behind → ⊥
@@ -119,6 +129,10 @@ lacks_none (Ok (target.Keying clerk batch)) (Err why) behind enough completeness
 lacks_none (Ok (target.Page clerk)) body behind enough completeness_of = completeness_of
 lacks_none (Ok (target.Leave clerk)) body behind enough completeness_of = completeness_of
 lacks_none (Ok (target.Resource what)) body behind enough completeness_of = completeness_of
+lacks_none (Ok (target.Office office.ConsolePage)) body behind enough completeness_of = completeness_of
+lacks_none (Ok (target.Office office.Leave)) body behind enough completeness_of = completeness_of
+lacks_none (Ok (target.Office office.Orders)) (Ok n) behind enough completeness_of = omega (arith, enough, completeness_of)
+lacks_none (Ok (target.Office office.Orders)) (Err why) behind enough completeness_of = completeness_of
 lacks_none (Err why) body behind enough completeness_of = completeness_of
 
 -- what a head that was parsed lacks, its head lacks
@@ -163,6 +177,10 @@ needed_small (Ok (target.Keying clerk batch)) (Err why) fits = omega arith
 needed_small (Ok (target.Page clerk)) body fits = omega arith
 needed_small (Ok (target.Leave clerk)) body fits = omega arith
 needed_small (Ok (target.Resource what)) body fits = omega arith
+needed_small (Ok (target.Office office.ConsolePage)) body fits = omega arith
+needed_small (Ok (target.Office office.Leave)) body fits = omega arith
+needed_small (Ok (target.Office office.Orders)) (Ok n) fits = fits
+needed_small (Ok (target.Office office.Orders)) (Err why) fits = omega arith
 needed_small (Err why) body fits = omega arith
 
 pub whole_is : (settings : HttpSettingsEntry) (got : List ℕ) (head : Head) (whole : ℕ) → IsHeadOf settings got head → whole ≡ min (head.size + needed head.wanted head.body) (2 ^ 64 - 1)
@@ -178,7 +196,7 @@ whole_parsed settings got head is enough =
     whole_behind settings got is.found is.behind is.begins
     (λ completeness_of. lacks_none head.wanted head.body is.behind (omega (arith, enough, parts_of settings got head is)) (MissesBehind-back settings got head is is.behind completeness_of))
 
--- no head came yet, and one may
+-- no head has arrived yet, and one may
 pub lacks_head : (settings : HttpSettingsEntry) (got : List ℕ) → IsHeadWanting got → IsCompletenessOf settings got (AtLeast (length got + 1))
 lacks_head settings got may = (
   inl may,
@@ -188,7 +206,7 @@ lacks_head settings got may = (
       subst (IsWanting settings) (sym (ap (λ xs. got ++ xs) nothing ∙ append-nil got)) (inl may),
 )
 
--- one byte more than came
+-- one byte more than has arrived
 pub one_more : (got : List ℕ) (come next : ℕ) → length got ≡ come → IsHeadWanting got → next ≡ min (come + 1) (2 ^ 64 - 1) → next ≡ length got + 1
 one_more got come next long may is = omega (arith, long, may.short, is)
 
@@ -219,7 +237,7 @@ never_over front back room is over more head behind begun =
 pub none_over : (got : List ℕ) (n room : ℕ) → room ≡ 32 → RequestOverflows room (take n got) → (more : List ℕ) → HasNoHead (got ++ more)
 none_over got n room is over more = subst (λ (xs : List ℕ). HasNoHead (xs ++ more)) (take-append-drop n got) (never_over (take n got) (drop n got) room is over more)
 
--- none came yet
+-- none has arrived yet
 pub none_yet : (got : List ℕ) (n : ℕ) → length got ≤ n → length got < 8192 → HasNoRequest (take n got) → MayBecomeRequest (take n got) → IsHeadWanting got
 none_yet got n all short none may =
     let same : take n got ≡ got = take_all n got all in
@@ -230,7 +248,7 @@ none_yet got n all short none may =
 pub never_lasts : (got : List ℕ) → ((more : List ℕ) → HasNoHead (got ++ more)) → (more later : List ℕ) → HasNoHead ((got ++ more) ++ later)
 never_lasts got never more later = subst HasNoHead (sym (append_assoc got more later)) (never (more ++ later))
 
--- none came, whatever follows
+-- none has arrived, whatever follows
 pub none_came : (got : List ℕ) → ((more : List ℕ) → HasNoHead (got ++ more)) → HasNoHead got
 none_came got never = subst HasNoHead (append-nil got) (never [])
 
@@ -277,12 +295,18 @@ asks_read settings got head (Ok (target.Keying clerk batch)) same is = tt
 asks_read settings got head (Ok (target.Page clerk)) same is = tt
 asks_read settings got head (Ok (target.Leave clerk)) same is = tt
 asks_read settings got head (Ok (target.Resource what)) same is = asks_reading settings got head what same is
+asks_read settings got head (Ok (target.Office place)) same is = tt
 asks_read settings got head (Err why) same is = tt
 
 -- a keying is no read
 no_keying : (clerk batch : ℕ) (what : Resource) (entry : Option KeyingEntry) → reading what ≡ asked_in clerk batch entry → ⊥
 no_keying clerk batch what (Some entry) is = cc is
 no_keying clerk batch what None is = cc is
+
+-- an order is no read
+no_order : (what : Resource) (entry : Option ConsoleOrderEntry) → reading what ≡ ordered_in entry → ⊥
+no_order what (Some entry) is = cc is
+no_order what None is = cc is
 
 -- what is read is what the target names
 read_of : (gate : Option GateEntry) (t : Result Target RequestError) (size : Result ℕ RequestError) (behind : List ℕ) (what : Resource)
@@ -292,6 +316,11 @@ read_of gate (Ok (target.Keying clerk batch)) (Err why) behind what is = absurd 
 read_of None (Ok (target.Page clerk)) size behind what is = absurd (cc is)
 read_of (Some gate) (Ok (target.Page clerk)) size behind what is = absurd (cc is)
 read_of gate (Ok (target.Leave clerk)) size behind what is = absurd (cc is)
+read_of None (Ok (target.Office office.ConsolePage)) size behind what is = absurd (cc is)
+read_of (Some gate) (Ok (target.Office office.ConsolePage)) size behind what is = absurd (cc is)
+read_of gate (Ok (target.Office office.Leave)) size behind what is = absurd (cc is)
+read_of gate (Ok (target.Office office.Orders)) (Ok n) behind what is = absurd (no_order what (option_and_then order_of (body_in n behind)) is)
+read_of gate (Ok (target.Office office.Orders)) (Err why) behind what is = absurd (cc is)
 read_of gate (Ok (target.Resource there)) size behind what is = let same : there ≡ what = cc is in ap Some same
 read_of gate (Err why) size behind what is = absurd (cc is)
 
@@ -306,7 +335,7 @@ pub reads_none : (settings : HttpSettingsEntry) (got : List ℕ) (what : Resourc
 reads_none settings got what none (inl (also, is)) = cc is
 reads_none settings got what none (inr (head, behind, begun, is)) = none head behind begun
 
--- ---- who asks
+-- ---- whose number is asked under
 
 pub knocks_parsed : (settings : HttpSettingsEntry) (got : List ℕ) (head : Head) → IsHeadOf settings got head → IsAuthentication settings got (option_map authentication_entry head.authentication)
 knocks_parsed settings got head is = record {

@@ -13,7 +13,8 @@ use Rattle.matchit.specs.Params.{after_token, part_of, walk, wild_from, wild_sto
 use Rattle.matchit.specs.Rows.{param_token}
 use Rattle.matchit.specs.Seek.{segment}
 use Rattle.wire.proofs.RowLemmas.{BeginsByPart, Fits, HasNoSlash, segment-part}
-use Rattle.wire.specs.Targets.{Taken, is_number, most_digits, number_in}
+use Rattle.wire.specs.Numbers.{is_number, most_digits, number_in}
+use Rattle.wire.specs.Targets.{Taken}
 
 -- ---- what a parameter takes
 
@@ -48,7 +49,7 @@ part-between path before part rest is =
     let there : drop (length before) path ≡ part ++ rest = ap (drop (length before)) is ∙ drop-append_seam before (part ++ rest) in
     rw (low, high, count, there) (take-append_seam part rest)
 
--- a parameter behind some bytes takes what stands before the next slash
+-- a parameter after some bytes is the text up to the next slash
 pub walk-part : (pattern text path : List ℕ) (name : ℕ × ℕ) (names : List (ℕ × ℕ)) (word t before part rest : List ℕ) (token at : ℕ) → at ≡ length before
     → drop token pattern ≡ word ++ (param_token ∷ t) → list_all (λ x. ltb x param_token) word ≡ true → path ≡ before ++ (word ++ (part ++ (47 ∷ rest))) → HasNoSlash part
     → ((from : ℕ) → wild_stop pattern (token + length word) path from ≡ from + length (segment (drop from path)) - 1)
@@ -121,7 +122,7 @@ numeric (b ∷ bs) n is =
 
 -- ---- the path that a pattern fits
 
--- what stands behind the bytes of a pattern
+-- what follows the bytes of a pattern
 behind-word : (word t path : List ℕ) → list_all (λ x. ltb x param_token) word ≡ true → Fits (word ++ t) path → (rest : List ℕ) × (path ≡ word ++ rest) × Fits t rest
 behind-word [] t path bytes fits = (path, refl, fits)
 behind-word (x ∷ word) t path bytes (inl begins) =
@@ -143,7 +144,7 @@ behind-param t path (inl begins) = record { part = param_token ∷ []; rest = be
 behind-param t path (inr (inl (param, begins))) = begins
 behind-param t path (inr (inr catch)) = absurd (omega arith)
 
--- and what stands behind all of a pattern
+-- and what follows all of a pattern
 behind-all : (word path : List ℕ) → list_all (λ x. ltb x param_token) word ≡ true → Fits word path → path ≡ word
 behind-all [] path bytes fits = fits
 behind-all (x ∷ word) path bytes (inl begins) =

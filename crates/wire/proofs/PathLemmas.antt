@@ -1,23 +1,30 @@
 -- A target names just what it is the path of.
 use Rattle.std.proofs.Common.{◌≡◌, ◌∙◌, ◌-◌, ◌+◌, ℕ, Bool, true, false, List, [], ◌∷◌, ◌++◌, Option, Some, None, append_assoc, codes, drop, length, ltb, refl, subst, sym, ap, arith}
-use Rattle.std.specs.Prelude.{IfSome, if◌then◌else◌, option_and_then, option_map}
+use Rattle.std.specs.Prelude.{IfSome, bytes_eq, if◌then◌else◌, option_and_then, option_map}
 use Rattle.std.specs.Char.{is_ascii}
 use Rattle.std.specs.List.{list_all}
 use Rattle.std.proofs.lemmas.Bool.{ne_eqb}
 use Rattle.std.proofs.lemmas.List.{length-append}
 use Rattle.std.proofs.lemmas.List.Folds.{list_all-append}
+use Rattle.std.proofs.lemmas.Slice.Eq.{bytes_eq-Decides}
 use Rattle.matchit.specs.Params.{part_of, walk, wild_stop}
 use Rattle.matchit.specs.Router.{RouteOf}
 use Rattle.matchit.specs.Rows.{RowsOf, param_token}
 use Rattle.matchit.specs.Seek.{first, segment, step}
 use Rattle.matchit.specs.Route.{scan}
+use Rattle.wire.proofs.OfficeTargetLemmas.{read-named, read-own}
 use Rattle.wire.proofs.RowLemmas.{Fits, Gives, GoBySlash, HasNoSlash, seek-end, seek-gives, seek-part, seek-word, steps}
-use Rattle.wire.specs.Targets.{IsTargetOf, NamesItsOwn, named_at, named_by, number_in, office_routes}
+use Rattle.wire.specs.Numbers.{number_in}
+use Rattle.wire.specs.OfficeTargets.{read_by}
+use Rattle.wire.specs.Targets.{IsTargetOf, NamesItsOwn, named_at, named_by, named_in, office_by, office_path, office_routes, read_or_routed, routed_by}
+use Rattle.wire.specs.declared.office_read.OfficeRead.{OfficeRead}
+use Rattle.wire.specs.declared.target.OfficeTarget.{OfficeTarget}
+use Rattle.wire.specs.declared.target.OfficeTarget.TheVariants as office
 use Rattle.wire.specs.declared.target.RouteTarget.{RouteTarget}
 use Rattle.wire.specs.declared.target.RouteTarget.TheVariants as place
-use Rattle.wire.specs.declared.target.Resource.TheVariants.{Candidates, Declaration, Sheet, Work}
+use Rattle.wire.specs.declared.target.Resource.TheVariants.{Candidates, Declaration, Office as Reads, Sheet, Work}
 use Rattle.wire.specs.declared.target.Target.{Target}
-use Rattle.wire.specs.declared.target.Target.TheVariants.{Keying, Leave, Page, Resource}
+use Rattle.wire.specs.declared.target.Target.TheVariants.{Keying, Leave, Office, Page, Resource}
 use Rattle.wire.proofs.PartLemmas.{IsNumeric, numeric, one-part, one-taken, two-parts, walk-part, with_taken}
 
 -- ---- a target of one of the routes names something
@@ -70,11 +77,11 @@ low-path : (word part end : List ℕ) → list_all is_ascii word ≡ true → li
 low-path word part end one two three = list_all-append is_ascii word (part ++ end) ∙ rw (one, list_all-append is_ascii part end, two, three) refl
 
 named-found : (target : List ℕ) (route : RouteOf RouteTarget) → list_all is_ascii target ≡ true → first office_routes target ≡ Some route
-    → named_by target ≡ named_at route.value (walk route.pattern route.text target route.names 0 0)
+    → routed_by target ≡ named_at route.value (walk route.pattern route.text target route.names 0 0)
 named-found target route low found = rw (low, found) refl
 
 one-named : (r : OneRoute) → IsOneRoute r → (part : List ℕ) (n : ℕ) → number_in part ≡ Some n → first office_routes (path_of r part) ≡ Some (route_of_one r)
-    → named_by (path_of r part) ≡ Some (r.kind n)
+    → routed_by (path_of r part) ≡ Some (r.kind n)
 one-named r is part n own found =
     let numbered = numeric part n own in
     named-found (path_of r part) (route_of_one r) (low-path r.word part (47 ∷ r.rest) is.word_low numbered.low is.rest_low) found
@@ -120,7 +127,7 @@ is-declaration = record { word_bytes = refl; rest_bytes = refl; word_low = refl;
 
 -- ---- the routes of a keying and of candidates, with two parameters
 
--- a route with two parameters: what stands behind the slash at its end, its text, where it leads, and what it names by two numbers
+-- a route with two parameters: what follows the slash at its end, its text, where it leads, and what it names by two numbers
 pub record TwoRoute : Type 0 where
   pub end : List ℕ
   pub text : List ℕ
@@ -207,7 +214,7 @@ is-candidates = record {
 }
 
 two-named : (r : TwoRoute) → IsTwoRoute r → (c b : List ℕ) (clerk batch : ℕ) → number_in c ≡ Some clerk → number_in b ≡ Some batch
-    → first office_routes (two_path r c b) ≡ Some (route_of_two r) → named_by (two_path r c b) ≡ Some (r.kind clerk batch)
+    → first office_routes (two_path r c b) ≡ Some (route_of_two r) → routed_by (two_path r c b) ≡ Some (r.kind clerk batch)
 two-named r is c b clerk batch own other found =
     let is_c = numeric c clerk own in
     let is_b = numeric b batch other in
@@ -307,8 +314,8 @@ routes-own target = (
   ),
 )
 
-named-own : (target : List ℕ) (there : Target) → named_by target ≡ Some there → IsTargetOf there target
-named-own target there named = by (list_all is_ascii target) (first office_routes target) (seek-gives (NamesOwn target) 0 office_routes target (routes-own target)) named
+routed-own : (target : List ℕ) (there : Target) → routed_by target ≡ Some there → IsTargetOf there target
+routed-own target there named = by (list_all is_ascii target) (first office_routes target) (seek-gives (NamesOwn target) 0 office_routes target (routes-own target)) named
   where
     by : (low : Bool) (found : Option (RouteOf RouteTarget)) → IfSome found (NamesOwn target)
         → option_and_then (λ (route : RouteOf RouteTarget). named_at route.value (walk route.pattern route.text target route.names 0 0)) (if low then found else None) ≡ Some there
@@ -316,6 +323,50 @@ named-own target there named = by (list_all is_ascii target) (first office_route
     by false found own named = let no : ⊥ = cc in absurd no
     by true None own named = let no : ⊥ = cc in absurd no
     by true (Some route) own named = own there named
+
+-- ---- the console
+
+office-own : (target : List ℕ) (what : OfficeTarget) → office_by target ≡ Some what → target ≡ office_path what
+office-own target what named = console (bytes_eq target (office_path office.ConsolePage)) refl named
+  where
+    orders : (b : Bool) → bytes_eq target (office_path office.Orders) ≡ b → (if b then Some office.Orders else None) ≡ Some what → target ≡ office_path what
+    orders true same named =
+        let one : office.Orders ≡ what = cc in
+        (bytes_eq-Decides target (office_path office.Orders)).0 same ∙ ap office_path one
+    orders false other named = let no : ⊥ = cc in absurd no
+
+    leave : (b : Bool) → bytes_eq target (office_path office.Leave) ≡ b
+        → (if b then Some office.Leave else (if bytes_eq target (office_path office.Orders) then Some office.Orders else None)) ≡ Some what → target ≡ office_path what
+    leave true same named =
+        let one : office.Leave ≡ what = cc in
+        (bytes_eq-Decides target (office_path office.Leave)).0 same ∙ ap office_path one
+    leave false other named = orders (bytes_eq target (office_path office.Orders)) refl named
+
+    console : (b : Bool) → bytes_eq target (office_path office.ConsolePage) ≡ b
+        → (if b then Some office.ConsolePage
+        else (if bytes_eq target (office_path office.Leave) then Some office.Leave else (if bytes_eq target (office_path office.Orders) then Some office.Orders else None))) ≡ Some what
+        → target ≡ office_path what
+    console true same named =
+        let one : office.ConsolePage ≡ what = cc in
+        (bytes_eq-Decides target (office_path office.ConsolePage)).0 same ∙ ap office_path one
+    console false other named = leave (bytes_eq target (office_path office.Leave)) refl named
+
+-- ---- both
+
+named-own : (target : List ℕ) (there : Target) → named_by target ≡ Some there → IsTargetOf there target
+named-own target there named = by (office_by target) refl named
+  where
+    read : (found : Option OfficeRead) → read_by target ≡ found → read_or_routed found target ≡ Some there → IsTargetOf there target
+    read None found named = routed-own target there named
+    read (Some its) found named =
+        let same : Resource (Reads its) ≡ there = cc in
+        subst (λ t. IsTargetOf t target) same (read-own target its found)
+
+    by : (found : Option OfficeTarget) → office_by target ≡ found → named_in found target ≡ Some there → IsTargetOf there target
+    by None found named = read (read_by target) refl named
+    by (Some what) found named =
+        let same : Office what ≡ there = cc in
+        subst (λ t. IsTargetOf t target) same (office-own target what found)
 
 own-named : (target : List ℕ) (there : Target) → IsTargetOf there target → named_by target ≡ Some there
 unfolding work page leaving sheet declaration keyings candidates
@@ -328,6 +379,10 @@ own-named target (Resource (Candidates clerk batch)) (c, b, is, own, other) =
     ap named_by is ∙ two-named candidates is-candidates c b clerk batch own other (candidates-found c b (numeric c clerk own) (numeric b batch other))
 own-named target (Keying clerk batch) (c, b, is, own, other) =
     ap named_by is ∙ two-named keyings is-keyings c b clerk batch own other (keyings-found c b (numeric c clerk own) (numeric b batch other))
+own-named target (Resource (Reads read)) is = read-named target read is
+own-named target (Office office.ConsolePage) is = ap named_by is
+own-named target (Office office.Leave) is = ap named_by is
+own-named target (Office office.Orders) is = ap named_by is
 
 pub NamesItsOwn-all : (target : List ℕ) → NamesItsOwn target
 NamesItsOwn-all target there = (named-own target there, own-named target there)

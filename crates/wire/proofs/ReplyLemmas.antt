@@ -2,7 +2,7 @@
 use Rattle.std.proofs.Common.{◌≡◌, ◌∷◌, false, ℕ, List, [], refl}
 use Rattle.serde_json.specs.Written.{compact_text, has_float}
 use Rattle.serde_json.specs.Data.{Data}
-use Rattle.register.specs.Standings.{BallotPaperEntry, WorkEntry}
+use Rattle.register.specs.Status.{BallotPaperEntry, WorkEntry}
 use Rattle.serde_json.proofs.OnLiterals.{serde_json_on_literals}
 use Rattle.wire.specs.Replies.{candidate_data, clerk_data, fault_body, fault_data, list_data, number_data, paper_data, refusal_body, refusal_data, reply_body, reply_data, work_data}
 
@@ -19,7 +19,7 @@ unfolding serde_json_on_literals
 fault_body-written n = refl
 
 -- a list of values without floats has none
-list-float : {X : Type 0} (value : X → Data) → ((x : X) → has_float (value x) ≡ false) → (xs : List X) → has_float (list_data value xs) ≡ false
+pub list-float : {X : Type 0} (value : X → Data) → ((x : X) → has_float (value x) ≡ false) → (xs : List X) → has_float (list_data value xs) ≡ false
 list-float value each [] = refl
 list-float value each (x ∷ xs) = rw (each x, list-float value each xs) refl
 

@@ -52,7 +52,7 @@ pub Asks-none : (settings : HttpSettingsEntry) (old : Option (List ℕ)) → IfS
 Asks-none settings None none = tt
 Asks-none settings (Some bytes) none = inl (none, refl)
 
--- a head, what was read behind it, and what is left
+-- a head, what was read after it, and what is left
 pub begins : (bytes got left : List ℕ) (headers : List HeaderSpan) (spans : RequestSpans) (head : RequestHead) → IsRequestAt got headers spans head → length got ≤ 8192 → length headers ≡ 32
     → bytes ≡ got ++ left → BeginsWith bytes head (drop spans.len got ++ left)
 begins bytes got left headers spans head is fits places e = record {
@@ -62,7 +62,7 @@ begins bytes got left headers spans head is fits places e = record {
   few = omega (arith, sym (length-map (take spans.headers headers) (header_bytes got)) ∙ ap length is.fields ∙ length-map head.fields name_and_value, length-take spans.headers headers);
 }
 
--- what a head asks, with what is left behind it
+-- what a head asks, with what is left after it
 Asks-entry : (settings : HttpSettingsEntry) (old mid : Option (List ℕ)) (got : List ℕ) (headers : List HeaderSpan) (spans : RequestSpans) → IsRequestOf got headers spans → (asked : HttpRequestEntry)
     → length got ≤ 8192 → length headers ≡ 32 → Consumes old mid got → IfSome mid (λ left. asked ≡ asked_at settings got headers spans left) → IfSome old (λ bytes. Asks settings bytes asked)
 Asks-entry settings None mid got headers spans found asked fits places took is = tt

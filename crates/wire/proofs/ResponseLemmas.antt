@@ -2,11 +2,12 @@
 use Rattle.std.proofs.Common.{◌≡◌, Some, ap, refl, ℕ}
 use Rattle.std.specs.Fmt.{digits}
 use Rattle.wire.specs.Requests.{has_left}
-use Rattle.wire.specs.Responses.{clerk_kept_out, denied_response, fault_response, lines_and_body, response_bytes, shown_response, unauthorized_response, waits_response}
+use Rattle.wire.specs.Responses.{account_kept_out, denied_response, fault_response, lines_and_body, response_bytes, shown_response, unauthorized_response, waits_response}
+use Rattle.wire.specs.declared.account.Account.{Account}
 use Rattle.wire.specs.declared.request_error.RequestError.{RequestError}
 use Rattle.wire.specs.declared.request_error.RequestError.TheVariants.{BadRequest, Forbidden, MethodNotAllowed, NotFound, TooLarge, Unauthorized, WrongCode}
 use Rattle.wire.specs.declared.request_error.Verb.TheVariants.{Get, Post}
-use Rattle.wire.specs.declared.response.TheConstants.{BAD_REQUEST, FORBIDDEN, GONE, LEFT, NOT_FOUND, NO_MEMORY, ONLY_GET, ONLY_POST, TOO_LARGE, WAITS}
+use Rattle.wire.specs.declared.response.TheConstants.{BAD_REQUEST, FORBIDDEN, GONE, LEFT, NOT_FOUND, NO_MEMORY, ONLY_GET, ONLY_POST, OUTPUT_FAILED, TOO_LARGE, WAITS}
 
 pub bad_request-told : BAD_REQUEST.now ≡ response_bytes (denied_response BadRequest)
 unfolding digits lines_and_body
@@ -44,16 +45,20 @@ pub gone-told : GONE.now ≡ response_bytes (fault_response 113)
 unfolding digits lines_and_body
 gone-told = refl
 
+pub output_failed-told : OUTPUT_FAILED.now ≡ response_bytes (fault_response 107)
+unfolding digits lines_and_body
+output_failed-told = refl
+
 pub left-told : LEFT.now ≡ response_bytes (shown_response has_left)
 unfolding digits lines_and_body
 left-told = refl
 
--- a denial by which a clerk's code is asked for
-pub unauthorized-told : (why : RequestError) (clerk : ℕ) → clerk_kept_out why ≡ Some clerk → denied_response why ≡ unauthorized_response clerk
-unauthorized-told (Unauthorized c) clerk is = let same : c ≡ clerk = cc in ap unauthorized_response same
-unauthorized-told (WrongCode c) clerk is = let same : c ≡ clerk = cc in ap unauthorized_response same
-unauthorized-told BadRequest clerk is = let no : ⊥ = cc in absurd no
-unauthorized-told Forbidden clerk is = let no : ⊥ = cc in absurd no
-unauthorized-told NotFound clerk is = let no : ⊥ = cc in absurd no
-unauthorized-told (MethodNotAllowed verb) clerk is = let no : ⊥ = cc in absurd no
-unauthorized-told TooLarge clerk is = let no : ⊥ = cc in absurd no
+-- a denial by which an account's code is asked for
+pub unauthorized-told : (why : RequestError) (account : Account) → account_kept_out why ≡ Some account → denied_response why ≡ unauthorized_response account
+unauthorized-told (Unauthorized a) account is = let same : a ≡ account = cc in ap unauthorized_response same
+unauthorized-told (WrongCode a) account is = let same : a ≡ account = cc in ap unauthorized_response same
+unauthorized-told BadRequest account is = let no : ⊥ = cc in absurd no
+unauthorized-told Forbidden account is = let no : ⊥ = cc in absurd no
+unauthorized-told NotFound account is = let no : ⊥ = cc in absurd no
+unauthorized-told (MethodNotAllowed verb) account is = let no : ⊥ = cc in absurd no
+unauthorized-told TooLarge account is = let no : ⊥ = cc in absurd no

@@ -18,13 +18,13 @@ abbrev pub HasNoSlash : List ℕ → Type 0
 HasNoSlash [] = ⊤
 HasNoSlash (b ∷ bytes) = ((b == 47) ≡ false) × HasNoSlash bytes
 
--- the path begins with this byte, and then goes on so
+-- the path begins with this byte, and continues so
 pub record BeginsBy (b : ℕ) (path : List ℕ) (GoesOn : List ℕ → Type 0) : Type 0 where
   pub rest : List ℕ
   pub is : path ≡ b ∷ rest
   pub goes_on : GoesOn rest
 
--- the path begins with some bytes, none a slash, and then goes on so
+-- the path begins with some bytes, none a slash, and continues so
 pub record BeginsByPart (path : List ℕ) (GoesOn : List ℕ → Type 0) : Type 0 where
   pub part : List ℕ
   pub rest : List ℕ
@@ -177,7 +177,7 @@ slash-cuts part some =
     let less : length (part ++ (47 ∷ [])) - 1 ≡ length part = omega (arith, length-after part) in
     rw (more, less, drop-append_seam part (47 ∷ [])) refl
 
--- each row goes on with a parameter and a slash
+-- each row continues with a parameter and a slash
 pub record GoBySlash {K : Type 0} (rows : RowsOf K) : Type 0 where
   pub misses : (d : ℕ) → d < 256 → step d rows ≡ []
   pub cut : (seg : List ℕ) → cuts seg (47 ∷ []) ≡ true → longest_suffix seg (step param_token rows) ≡ 47 ∷ []

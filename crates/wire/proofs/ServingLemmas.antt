@@ -7,7 +7,7 @@ use Rattle.wire.specs.Requests.{HttpRequestEntry, Asks, ShowEntry}
 use Rattle.office.specs.Answers.{IsOpenAt}
 use Rattle.wire.specs.Gates.{HttpSettingsEntry}
 use Rattle.wire.specs.Responses.{fault_response}
-use Rattle.wire.specs.Serving.{EndsWith, IsDeniedAlike, IsPut, IsServed, IsShownAlike, OnAnswered, OnReadFailed}
+use Rattle.wire.specs.Serving.{EndsWith, IsConsoleAlike, IsDeniedAlike, IsPut, IsServed, IsShownAlike, OnAnswered, OnReadFailed}
 use Rattle.wire.specs.Serving.{OnWriteFailed, Readies, ReadiesClosed, ReadiesFor, Serves, ServesClosed, closed_response}
 use Rattle.wire.specs.Told.{IsTold, IsWritten}
 use Rattle.wire.specs.declared.request_error.RequestError.{RequestError}
@@ -22,6 +22,9 @@ IsDeniedAlike-all why s t next answer is = (is.0, (refl, is.1), is.1)
 -- and so is what is shown
 pub IsShownAlike-all : (show : ShowEntry) → IsShownAlike show
 IsShownAlike-all show clerk s t next answer is = (is.0, (refl, is.1), is.1)
+
+pub IsConsoleAlike-all : (show : ShowEntry) → IsConsoleAlike show
+IsConsoleAlike-all show s t next answer is = (is.0, (refl, is.1), is.1)
 
 -- an answer was put
 pub IsServed-put : (IsReady : Response → Type 0) (old new : Option (List ℕ)) (response : Response) (served : Served) → IsReady response → IsPut old new response served

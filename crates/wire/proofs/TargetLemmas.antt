@@ -12,7 +12,7 @@ use Rattle.matchit.specs.Router.{RouteOf}
 use Rattle.matchit.specs.Rows.{RowsOf, param_token, catch_all_token}
 use Rattle.matchit.specs.Seek.{first, has_slash, longest_suffix, or_else, own, param_step, same_text, seek, segment, step, with_suffix}
 use Rattle.matchit.proofs.OnLiterals.{matchit_on_literals}
-use Rattle.wire.specs.Targets.{named_at, named_by, office_routes}
+use Rattle.wire.specs.Targets.{named_at, routed_by, office_routes}
 use Rattle.wire.specs.declared.target.RouteTarget.{RouteTarget}
 
 -- ---- the route found is one of the rows
@@ -108,17 +108,17 @@ taken-text target route own_target found =
     walk-text route.pattern route.text target route.names 0 0 (IsAscii-told route.text text) own_target
 
 -- what a target names by the route found
-pub named_by-found : (target : List ℕ) (route : RouteOf RouteTarget) → IsAscii target → first office_routes target ≡ Some route
-    → named_by target ≡ named_at route.value (walk route.pattern route.text target route.names 0 0)
-named_by-found target route own_target found = rw (ascii_told target own_target, found) refl
+pub routed_by-found : (target : List ℕ) (route : RouteOf RouteTarget) → IsAscii target → first office_routes target ≡ Some route
+    → routed_by target ≡ named_at route.value (walk route.pattern route.text target route.names 0 0)
+routed_by-found target route own_target found = rw (ascii_told target own_target, found) refl
 
 -- what our routes found: the text of the parameters, and what the target names
 pub route-found : (routes : RowsOf (RouteOf RouteTarget)) (target text path : List ℕ) (route : RouteOf RouteTarget) → IsAscii target → text ≡ target → path ≡ text → routes ≡ office_routes
     → first routes text ≡ Some route
-    → AllText (walk route.pattern route.text path route.names 0 0) × (named_by target ≡ named_at route.value (walk route.pattern route.text path route.names 0 0))
+    → AllText (walk route.pattern route.text path route.names 0 0) × (routed_by target ≡ named_at route.value (walk route.pattern route.text path route.names 0 0))
 route-found routes target text path route own_target same there ours found =
     let own_found : first office_routes target ≡ Some route = ap (λ r. first r target) (sym ours) ∙ ap (first routes) (sym same) ∙ found in
     let own_path : target ≡ path = sym same ∙ sym there in (
       subst (λ p. AllText (walk route.pattern route.text p route.names 0 0)) own_path (taken-text target route own_target own_found),
-      named_by-found target route own_target own_found ∙ ap (λ p. named_at route.value (walk route.pattern route.text p route.names 0 0)) own_path,
+      routed_by-found target route own_target own_found ∙ ap (λ p. named_at route.value (walk route.pattern route.text p route.names 0 0)) own_path,
     )

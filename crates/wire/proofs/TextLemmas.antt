@@ -48,7 +48,7 @@ ReadsOn-all read texts reads = ap (λ (l : List Data). texts_in (items_of l)) (a
     append_back [] = refl
     append_back (d ∷ ds) = ap (λ (l : List Data). d ∷ l) (append_back ds)
 
--- what stands behind the values so far
+-- what follows the values so far
 pub behind : {V : Type 0} (all so_far : List V) (value : V) → map (λ (x : V). x) so_far ≡ take (length so_far) all → (length so_far < length all) × (value ≡ get_or all (length so_far) value)
     → (others : List V) × (all ≡ so_far ++ value ∷ others)
 behind all so_far value first (there, is) = (
@@ -61,7 +61,7 @@ behind all so_far value first (there, is) = (
     same [] = refl
     same (x ∷ xs) = ap (λ t. x ∷ t) (same xs)
 
--- of values that stand behind some others one is no text
+-- of values that follow some others one is no text
 pub texts_in-stop : (all so_far : List Value) (texts : List (List ℕ)) (value : Value) → ReadsOn (map view so_far) texts → map (λ (x : Value). x) so_far ≡ take (length so_far) all
     → (length so_far < length all) × (value ≡ get_or all (length so_far) value) → as_str (view value) ≡ None → None ≡ texts_in (items_view all)
 texts_in-stop all so_far texts value reads first there is =

@@ -22,8 +22,8 @@ texts_in no_items = Some []
 texts_in (item first others) = option_and_then (λ text. option_map (λ texts. text ∷ texts) (texts_in others)) (as_str first)
 
 -- a list of texts
-abbrev pub papers_in : Data → Option (List (List ℕ))
-papers_in value = option_and_then texts_in (as_array value)
+abbrev pub list_in : Data → Option (List (List ℕ))
+list_in value = option_and_then texts_in (as_array value)
 
 -- a number that fits 32 bits
 abbrev pub round_in : Data → Option ℕ
@@ -41,7 +41,7 @@ key_members no_members = None
 -- the keying made of three values
 abbrev pub said_by : Data × Data × Data → Option KeyingEntry
 said_by (id, papers, round) =
-    option_and_then (λ i. option_and_then (λ ps. option_map (λ r. record { id = i; round = r; papers = ps }) (round_in round)) (papers_in papers)) (as_str id)
+    option_and_then (λ i. option_and_then (λ ps. option_map (λ r. record { id = i; round = r; papers = ps }) (round_in round)) (list_in papers)) (as_str id)
 
 -- the keying in a value
 abbrev pub keying_in : Data → Option KeyingEntry

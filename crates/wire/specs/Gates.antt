@@ -1,19 +1,21 @@
 -- Targets under a clerk's number at a gate: what is let in there, and the authentication of a request.
-use Rattle.std.specs.Prelude.{◌≡◌, ◌==◌, ◌∷◌, Bool, List, [], None, Option, Some, codes, drop, false, if◌then◌else◌, map, nat_eq, option_map, slice_index, take, true, ℕ}
+use Rattle.std.specs.Prelude.{◌≡◌, ◌==◌, ◌∷◌, ◌&&◌, Bool, List, [], None, Option, Some, codes, drop, false, if◌then◌else◌, is_some, map, nat_eq, not, option_map, slice_index, take, true, ℕ}
 use Rattle.std.specs.Char.{is_ascii_digit}
 use Rattle.std.specs.List.{prefix_len, starts_with}
 use Rattle.httparse.specs.Grammar.{RequestHead}
 use Rattle.httparse.specs.Spans.{name_and_value}
-use Rattle.codes.specs.Codes.{Holder, holders_of, is_of}
+use Rattle.codes.specs.Codes.{Holder, holders_of, is_of, is_office, office_of}
 use Rattle.wire.specs.Heads.{BeginsWith, HasNoHead}
 use Rattle.wire.specs.Lengths.{NamedValue, values_of}
 use Rattle.wire.specs.Origins.{given_by, is_foreign}
-use Rattle.wire.specs.Targets.{number_in}
+use Rattle.wire.specs.Numbers.{number_in}
 use Rattle.wire.specs.declared.request_error.RequestError.{RequestError}
 use Rattle.wire.specs.declared.request_error.RequestError.TheVariants.{Unauthorized, WrongCode}
 use Rattle.wire.specs.declared.settings.Gate.{Gate}
 use Rattle.wire.specs.declared.settings.HttpSettings.{HttpSettings}
 use Rattle.wire.specs.declared.settings.Page.{Page}
+use Rattle.wire.specs.declared.account.Account.{Account}
+use Rattle.wire.specs.declared.account.Account.TheVariants.{Clerk, Office}
 use Rattle.wire.specs.declared.authentication.Authentication.{Authentication}
 use Rattle.wire.specs.declared.target.Resource.{Resource}
 use Rattle.wire.specs.declared.target.Resource.TheVariants as what
@@ -22,7 +24,7 @@ use Rattle.wire.specs.declared.target.Target.TheVariants as target
 
 -- ---- the settings of HTTP
 
--- the page on which clerks key, and its policy, which says what a browser lets it do
+-- a page, and its policy, which says what a browser lets it do
 pub record PageEntry : Type 0 where
   pub text : List ℕ
   pub policy : List ℕ
@@ -30,13 +32,15 @@ pub record PageEntry : Type 0 where
 abbrev pub page_entry : Page → PageEntry
 page_entry page = record { text = page.text.now; policy = page.policy.now }
 
--- a gate, which requires clerks' codes: their holders, and the page
+-- a gate, which requires codes: the clerks who hold one, and the page on which they key; and the office's credentials, if it has a code, and its console
 pub record GateEntry : Type 0 where
   pub holders : List Holder
   pub page : PageEntry
+  pub office : Option (List ℕ)
+  pub console : PageEntry
 
 abbrev pub gate_entry : Gate → GateEntry
-gate_entry gate = record { holders = holders_of gate.codes.now; page = page_entry gate.page }
+gate_entry gate = record { holders = holders_of gate.codes.now; page = page_entry gate.page; office = office_of gate.codes.now; console = page_entry gate.console }
 
 -- the origin of a proxy in front, and the gate, if any
 pub record HttpSettingsEntry : Type 0 where
@@ -61,76 +65,118 @@ abbrev pub clerk_under : List ℕ → Option ℕ
 clerk_under target =
     if starts_with nat_eq target (codes "/clerks/") then number_before (prefix_len is_ascii_digit (drop 8 target)) (drop 8 target) else None
 
+-- the account whose code a target needs: the office's for all of `/office/`, if the office has a code; and otherwise that of the clerk whose number is in it
+abbrev pub account_under : Option (List ℕ) → List ℕ → Option Account
+account_under office target =
+    if starts_with nat_eq target (codes "/office/") then (if is_some office then Some Office else None) else option_map (λ clerk. Clerk clerk) (clerk_under target)
+
+-- the same at a gate; without one no target needs a code
+abbrev pub account_at : Option GateEntry → List ℕ → Option Account
+account_at None target = None
+account_at (Some gate) target = account_under gate.office target
+
 -- the clerk of a resource, if it is one clerk's
 abbrev pub reader_of : Resource → Option ℕ
 reader_of (what.Work clerk) = Some clerk
 reader_of (what.Candidates clerk batch) = Some clerk
 reader_of (what.Sheet ward) = None
 reader_of (what.Declaration ward) = None
+reader_of (what.Office read) = None
 
--- the candidates of a batch are served only at a gate
+-- the account whose code a read needs, if it needs one: the clerk's, or the office's
+abbrev pub reading_account : Resource → Option Account
+reading_account (what.Work clerk) = Some (Clerk clerk)
+reading_account (what.Candidates clerk batch) = Some (Clerk clerk)
+reading_account (what.Sheet ward) = None
+reading_account (what.Declaration ward) = None
+reading_account (what.Office read) = Some Office
+
+-- the candidates of a batch are served only at a gate, and so are the console's reads
 abbrev pub reading_needs_gate : Resource → Bool
 reading_needs_gate (what.Work clerk) = false
 reading_needs_gate (what.Candidates clerk batch) = true
 reading_needs_gate (what.Sheet ward) = false
 reading_needs_gate (what.Declaration ward) = false
+reading_needs_gate (what.Office read) = true
 
--- so are the page, and signing out
+-- the console's reads are served only if the office has a code
+abbrev pub reading_needs_office : Resource → Bool
+reading_needs_office (what.Work clerk) = false
+reading_needs_office (what.Candidates clerk batch) = false
+reading_needs_office (what.Sheet ward) = false
+reading_needs_office (what.Declaration ward) = false
+reading_needs_office (what.Office read) = true
+
+-- so are the pages, signing out, and the console's orders
 abbrev pub needs_gate : Target → Bool
 needs_gate (target.Keying clerk batch) = false
 needs_gate (target.Page clerk) = true
 needs_gate (target.Leave clerk) = true
 needs_gate (target.Resource reading) = reading_needs_gate reading
+needs_gate (target.Office place) = true
+
+-- the console, with its reads, is served only if the office has a code
+abbrev pub needs_office : Target → Bool
+needs_office (target.Keying clerk batch) = false
+needs_office (target.Page clerk) = false
+needs_office (target.Leave clerk) = false
+needs_office (target.Resource reading) = reading_needs_office reading
+needs_office (target.Office place) = true
 
 -- what is served, at a gate or without one
 abbrev pub served_at : Option GateEntry → Option Target → Option Target
 served_at gate None = None
 served_at None (Some there) = if needs_gate there then None else Some there
-served_at (Some gate) (Some there) = Some there
+served_at (Some gate) (Some there) = if needs_office there && not (is_some gate.office) then None else Some there
 
 -- ---- what is let in
 
--- Why authentication of a clerk failed, by the values of `Authorization`. It succeeds with exactly one value, which is that clerk's.
-abbrev pub kept_out_by : List Holder → ℕ → List (List ℕ) → Option RequestError
-kept_out_by holders clerk [] = Some (Unauthorized clerk)
-kept_out_by holders clerk (value ∷ []) = if is_of holders clerk value then None else Some (WrongCode clerk)
-kept_out_by holders clerk (value ∷ other ∷ more) = Some (WrongCode clerk)
+-- a value of `Authorization` is an account's
+abbrev pub has_code : GateEntry → Account → List ℕ → Bool
+has_code gate (Clerk clerk) value = is_of gate.holders clerk value
+has_code gate Office value = is_office gate.office value
+
+-- Why authentication failed, by the values of `Authorization`. It succeeds with exactly one value, which is the account's.
+abbrev pub kept_out_by : GateEntry → Account → List (List ℕ) → Option RequestError
+kept_out_by gate account [] = Some (Unauthorized account)
+kept_out_by gate account (value ∷ []) = if has_code gate account value then None else Some (WrongCode account)
+kept_out_by gate account (value ∷ other ∷ more) = Some (WrongCode account)
 
 -- the values of `Authorization`
 abbrev pub sent_codes : List NamedValue → List (List ℕ)
 sent_codes fields = values_of (codes "authorization") fields
 
--- why authentication failed, by the clerk whose number is in the target, if one is
-abbrev pub kept_out : Option GateEntry → Option ℕ → List NamedValue → Option RequestError
-kept_out None clerk fields = None
+-- why authentication failed, by the account whose code the target needs, if it needs one
+abbrev pub kept_out : Option GateEntry → Option Account → List NamedValue → Option RequestError
+kept_out None account fields = None
 kept_out (Some gate) None fields = None
-kept_out (Some gate) (Some clerk) fields = kept_out_by gate.holders clerk (sent_codes fields)
+kept_out (Some gate) (Some account) fields = kept_out_by gate account (sent_codes fields)
 
 -- ---- authentication
 
--- the clerk under whose number a request asks, and whether its code is wrong
+-- the account whose code a request needs, and whether its code is wrong
 pub record AuthenticationEntry : Type 0 where
-  pub clerk : ℕ
+  pub account : Account
   pub is_wrong : Bool
 
 abbrev pub authentication_entry : Authentication → AuthenticationEntry
-authentication_entry authentication = record { clerk = authentication.clerk; is_wrong = authentication.is_wrong }
+authentication_entry authentication = record { account = authentication.account; is_wrong = authentication.is_wrong }
 
 -- a code was sent, and is wrong
 abbrev pub is_wrong_code : Option RequestError → Bool
 is_wrong_code None = false
-is_wrong_code (Some (WrongCode clerk)) = true
+is_wrong_code (Some (WrongCode account)) = true
 is_wrong_code (Some other) = false
 
--- the authentication of a request under a clerk's number, at a gate
-abbrev pub authentication_by : Option GateEntry → Option ℕ → List NamedValue → Option AuthenticationEntry
-authentication_by None clerk fields = None
+-- the authentication of a request that needs an account's code, at a gate
+abbrev pub authentication_by : Option GateEntry → Option Account → List NamedValue → Option AuthenticationEntry
+authentication_by None account fields = None
 authentication_by (Some gate) None fields = None
-authentication_by (Some gate) (Some clerk) fields = Some (record { clerk = clerk; is_wrong = is_wrong_code (kept_out_by gate.holders clerk (sent_codes fields)) })
+authentication_by (Some gate) (Some account) fields = Some (record { account = account; is_wrong = is_wrong_code (kept_out_by gate account (sent_codes fields)) })
 
--- the same for a request with these header fields and this target; a foreign one has none
+-- the authentication of a request with these header fields and this target; a request of a foreign page has none
 abbrev pub authentication_at : HttpSettingsEntry → List NamedValue → List ℕ → Option AuthenticationEntry
-authentication_at settings fields target = if is_foreign settings.origin fields then None else authentication_by settings.gate (clerk_under target) fields
+authentication_at settings fields target = if is_foreign settings.origin fields then None else authentication_by settings.gate (account_at settings.gate target) fields
 
 -- the authentication of the bytes that a client sends: that of their head; without a head there is none
 pub record IsAuthentication (settings : HttpSettingsEntry) (bytes : List ℕ) (found : Option AuthenticationEntry) : Type 0 where

@@ -10,7 +10,7 @@ most_head_bytes = 8192
 abbrev pub most_header_fields : ℕ
 most_header_fields = 32
 
--- the bytes begin with a head as `httparse` reads it, which is short enough and has few enough headers; the rest follows it
+-- the bytes begin with a head that `httparse` accepts, within the limits on its bytes and its header fields; the others follow it
 pub record BeginsWith (bytes : List ℕ) (head : RequestHead) (behind : List ℕ) : Type 0 where
   pub is_head : IsRequestHead head
   pub parts : bytes ≡ print_request head ++ behind

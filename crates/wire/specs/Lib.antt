@@ -1,14 +1,19 @@
 -- What requests ask, and the bytes of the responses.
 pub mod Heads
+pub mod Numbers
+pub mod OfficeTargets
 pub mod Targets
 pub mod Lengths
 pub mod Origins
 pub mod Bodies
+pub mod ConsoleOrders
 pub mod Gates
 pub mod Requests
 pub mod Completeness
 pub mod Parsing
 pub mod Replies
+pub mod OfficeReads
+pub mod OfficeReplies
 pub mod Responses
 pub mod Told
 pub mod Serving

@@ -13,14 +13,19 @@ use Rattle.wire.specs.declared.parsed.Parsed.TheVariants as parsed
 use Rattle.wire.specs.declared.target.Resource.{Resource}
 use Rattle.wire.specs.declared.target.Target.{Target}
 use Rattle.wire.specs.declared.target.Target.TheVariants as target
+use Rattle.wire.specs.declared.target.OfficeTarget.TheVariants as office
 
--- how many bytes after a head are needed to know what is asked: only a keying needs any
+-- how many bytes after a head are needed to know what is asked: only a keying and an order need any
 abbrev pub needed : Result Target RequestError → Result ℕ RequestError → ℕ
 needed (Ok (target.Keying clerk batch)) (Ok n) = n
 needed (Ok (target.Keying clerk batch)) (Err why) = 0
 needed (Ok (target.Page clerk)) body = 0
 needed (Ok (target.Leave clerk)) body = 0
 needed (Ok (target.Resource what)) body = 0
+needed (Ok (target.Office office.ConsolePage)) body = 0
+needed (Ok (target.Office office.Leave)) body = 0
+needed (Ok (target.Office office.Orders)) (Ok n) = n
+needed (Ok (target.Office office.Orders)) (Err why) = 0
 needed (Err why) body = 0
 
 -- the resource that is read, if the request is a read
@@ -29,6 +34,7 @@ read_in (Ok (target.Keying clerk batch)) = None
 read_in (Ok (target.Page clerk)) = None
 read_in (Ok (target.Leave clerk)) = None
 read_in (Ok (target.Resource what)) = Some what
+read_in (Ok (target.Office place)) = None
 read_in (Err why) = None
 
 -- A parsed head says what these header fields, this method and this target ask, and its length is n.

@@ -5,7 +5,7 @@ use Rattle.serde_json.specs.Data.{Data, array, boolean, member, no_members, numb
 use Rattle.serde_json.specs.View.{items_of}
 use Rattle.serde_json.specs.Written.{compact_text}
 use Rattle.register.specs.Offices.{CandidateEntry}
-use Rattle.register.specs.Standings.{BallotPaperEntry, WorkEntry}
+use Rattle.register.specs.Status.{BallotPaperEntry, WorkEntry}
 
 -- a reply
 abbrev pub reply_data : List ℕ → Data
@@ -13,6 +13,16 @@ reply_data text = object (member (codes "reply") (string text) no_members)
 
 abbrev pub reply_body : List ℕ → List ℕ
 reply_body text = codes "{\"reply\":" ++ (quoted text ++ codes "}")
+
+-- the outcome of an order: what it printed as errors, what it printed, and its status
+abbrev pub order_data : ℕ → List ℕ → List ℕ → Data
+order_data status output errors = object
+    (member (codes "errors") (string errors)
+    (member (codes "output") (string output)
+    (member (codes "status") (number (unsigned status)) no_members)))
+
+abbrev pub order_body : ℕ → List ℕ → List ℕ → List ℕ
+order_body status output errors = compact_text (order_data status output errors)
 
 -- a refusal
 abbrev pub refusal_data : ℕ → List ℕ → Data

@@ -6,9 +6,8 @@ use Rattle.httparse.specs.Grammar.{RequestHead}
 use Rattle.httparse.specs.Spans.{header_bytes, name_and_value, span_bytes}
 use Rattle.httparse.specs.declared.spans.HeaderSpan.{HeaderSpan}
 use Rattle.httparse.specs.declared.spans.RequestSpans.{RequestSpans}
-use Rattle.codes.specs.Codes.{is_of}
 use Rattle.wire.specs.declared.request.HttpRequest.{HttpRequest}
-use Rattle.wire.specs.declared.request.HttpRequest.TheVariants.{Denied, Keying, Resource as Reads, Shown}
+use Rattle.wire.specs.declared.request.HttpRequest.TheVariants.{ConsolePage, Denied, Keying, Order, Resource as Reads, Shown}
 use Rattle.wire.specs.declared.settings.Show.{Show}
 use Rattle.wire.specs.declared.settings.Show.TheVariants.{Left, Page}
 use Rattle.wire.specs.declared.read_failure.ReadFailure.{ReadFailure}
@@ -20,14 +19,19 @@ use Rattle.wire.specs.declared.request_error.Verb.TheVariants.{Get, Post}
 use Rattle.wire.specs.declared.target.Resource.{Resource}
 use Rattle.wire.specs.declared.target.Target.{Target}
 use Rattle.wire.specs.declared.target.Target.TheVariants as target
+use Rattle.wire.specs.declared.target.OfficeTarget.{OfficeTarget}
+use Rattle.wire.specs.declared.target.OfficeTarget.TheVariants as office
+use Rattle.wire.specs.declared.account.Account.{Account}
+use Rattle.wire.specs.declared.account.Account.TheVariants.{Clerk, Office}
+use Rattle.wire.specs.ConsoleOrders.{ConsoleOrderEntry, console_order_entry, order_of}
 use Rattle.wire.specs.Bodies.{KeyingEntry, body_in, keying_of}
-use Rattle.wire.specs.Gates.{GateEntry, HttpSettingsEntry, PageEntry, clerk_under, kept_out, page_entry, reader_of, sent_codes, served_at}
+use Rattle.wire.specs.Gates.{GateEntry, HttpSettingsEntry, PageEntry, account_at, has_code, kept_out, page_entry, reader_of, reading_account, sent_codes, served_at}
 use Rattle.wire.specs.Heads.{BeginsWith, HasNoHead, IsHeadWanting}
 use Rattle.wire.specs.Lengths.{NamedValue, body_length}
 use Rattle.wire.specs.Origins.{is_foreign}
 use Rattle.wire.specs.Targets.{named_by}
 
--- what is shown to a clerk, independently of the state: the clerk's page; or that the clerk is signed out, and the browser is to forget the code
+-- what is shown, independently of the state: a page; or that somebody is signed out, and the browser is to forget the code
 pub data ShowEntry : Type 0 where
   page : PageEntry → ShowEntry
   has_left : ShowEntry
@@ -36,12 +40,15 @@ abbrev pub show_entry : Show → ShowEntry
 show_entry (Page its) = page (page_entry its)
 show_entry Left = has_left
 
--- what is asked: nothing, since it is rejected; to be shown something for a clerk; to keep a clerk's keying of a batch; or to read
+-- What is asked: nothing, since it is rejected; to be shown something for a clerk, or for the office; to keep a clerk's keying of a batch; to read; or to follow an order of
+-- the office.
 pub data HttpRequestEntry : Type 0 where
   denied : RequestError → HttpRequestEntry
   shown : ℕ → ShowEntry → HttpRequestEntry
   keying : ℕ → ℕ → KeyingEntry → HttpRequestEntry
   reading : Resource → HttpRequestEntry
+  console : ShowEntry → HttpRequestEntry
+  order : ConsoleOrderEntry → HttpRequestEntry
 
 -- what a request asks that was read
 abbrev pub http_request_entry : HttpRequest → HttpRequestEntry
@@ -49,6 +56,8 @@ http_request_entry (Denied why) = denied why
 http_request_entry (Shown clerk show) = shown clerk (show_entry show)
 http_request_entry (Keying k) = keying k.clerk k.batch (record { id = string_bytes k.id; round = k.round; papers = map string_bytes k.papers.items })
 http_request_entry (Reads what) = reading what
+http_request_entry (ConsolePage show) = console (show_entry show)
+http_request_entry (Order its) = order (console_order_entry its)
 
 -- why a request wasn't read, by what the source counts: one failure more, or none if an allocation failed
 abbrev pub IsUnread : ℕ → ℕ → ReadFailure → Type 0
@@ -66,6 +75,9 @@ verb_of (target.Keying clerk batch) = Post
 verb_of (target.Page clerk) = Get
 verb_of (target.Leave clerk) = Get
 verb_of (target.Resource what) = Get
+verb_of (target.Office office.ConsolePage) = Get
+verb_of (target.Office office.Leave) = Get
+verb_of (target.Office office.Orders) = Post
 
 -- a clerk's keying, by its body
 abbrev pub asked_in : ℕ → ℕ → Option KeyingEntry → HttpRequestEntry
@@ -76,6 +88,16 @@ asked_in clerk batch None = denied BadRequest
 abbrev pub asked_with : ℕ → ℕ → Result ℕ RequestError → List ℕ → HttpRequestEntry
 asked_with clerk batch (Ok n) behind = asked_in clerk batch (option_and_then keying_of (body_in n behind))
 asked_with clerk batch (Err why) behind = denied why
+
+-- an order, by its body
+abbrev pub ordered_in : Option ConsoleOrderEntry → HttpRequestEntry
+ordered_in (Some entry) = order entry
+ordered_in None = denied BadRequest
+
+-- an order, by the length of its body and the bytes that follow the head
+abbrev pub ordered_with : Result ℕ RequestError → List ℕ → HttpRequestEntry
+ordered_with (Ok n) behind = ordered_in (option_and_then order_of (body_in n behind))
+ordered_with (Err why) behind = denied why
 
 -- what is asked for there, if the method is the right one
 abbrev pub asked_for : List ℕ → Option Target → Result Target RequestError
@@ -89,7 +111,7 @@ let_in None method there = asked_for method there
 
 -- what is asked for after the gate: nothing if authentication failed there, whatever the target names
 abbrev pub wanted_behind : Option GateEntry → List NamedValue → List ℕ → List ℕ → Result Target RequestError
-wanted_behind gate fields method target = let_in (kept_out gate (clerk_under target) fields) method (served_at gate (named_by target))
+wanted_behind gate fields method target = let_in (kept_out gate (account_at gate target) fields) method (served_at gate (named_by target))
 
 -- what is asked for by a request with these header fields: nothing by a foreign one
 abbrev pub wanted_by : Bool → Option GateEntry → List NamedValue → List ℕ → List ℕ → Result Target RequestError
@@ -104,12 +126,20 @@ abbrev pub page_at : Option GateEntry → ℕ → HttpRequestEntry
 page_at None clerk = denied NotFound
 page_at (Some gate) clerk = shown clerk (page gate.page)
 
--- what is asked of a target; except for a keying, neither the length of a body nor any byte after the head counts
+-- the console, at a gate
+abbrev pub console_at : Option GateEntry → HttpRequestEntry
+console_at None = denied NotFound
+console_at (Some gate) = console (page gate.console)
+
+-- what is asked of a target; except for a keying and an order, neither the length of a body nor any byte after the head counts
 abbrev pub asked_of : Option GateEntry → Result Target RequestError → Result ℕ RequestError → List ℕ → HttpRequestEntry
 asked_of gate (Ok (target.Keying clerk batch)) size behind = asked_with clerk batch size behind
 asked_of gate (Ok (target.Page clerk)) size behind = page_at gate clerk
 asked_of gate (Ok (target.Leave clerk)) size behind = shown clerk has_left
 asked_of gate (Ok (target.Resource what)) size behind = reading what
+asked_of gate (Ok (target.Office office.ConsolePage)) size behind = console_at gate
+asked_of gate (Ok (target.Office office.Leave)) size behind = console has_left
+asked_of gate (Ok (target.Office office.Orders)) size behind = ordered_with size behind
 asked_of gate (Err why) size behind = denied why
 
 -- what a head and the bytes that follow it ask, by these settings
@@ -151,18 +181,30 @@ clerk_asked (denied why) = None
 clerk_asked (shown clerk show) = Some clerk
 clerk_asked (keying clerk batch entry) = Some clerk
 clerk_asked (reading what) = reader_of what
+clerk_asked (console show) = None
+clerk_asked (order entry) = None
 
--- A request has a clerk's code: it has one `Authorization`, and that is this clerk's.
-pub record HoldsCode (gate : GateEntry) (clerk : ℕ) (fields : List NamedValue) : Type 0 where
+-- the account whose code is needed for what is asked, if one is
+abbrev pub account_asked : HttpRequestEntry → Option Account
+account_asked (denied why) = None
+account_asked (shown clerk show) = Some (Clerk clerk)
+account_asked (keying clerk batch entry) = Some (Clerk clerk)
+account_asked (reading what) = reading_account what
+account_asked (console show) = Some Office
+account_asked (order entry) = Some Office
+
+-- A request has an account's code: it has one `Authorization`, and that is this account's.
+pub record HoldsCode (gate : GateEntry) (account : Account) (fields : List NamedValue) : Type 0 where
   pub value : List ℕ
   pub once : sent_codes fields ≡ value ∷ []
-  pub is_his : is_of gate.holders clerk value ≡ true
+  pub is_its : has_code gate account value ≡ true
 
--- At a gate, what is asked under a clerk's number is asked only by the holder of that clerk's code. Anyone else who asks for it asks nothing but to be rejected.
+-- At a gate, what is asked under a clerk's number, or of the console, is asked only by the holder of that clerk's, or the office's, code. Anyone else who asks for it asks
+-- nothing but to be rejected.
 abbrev pub AsksByHolder : HttpSettingsEntry → List ℕ → Type 0
 AsksByHolder settings bytes =
     (head : RequestHead) (behind : List ℕ) → BeginsWith bytes head behind → (asked : HttpRequestEntry) → Asks settings bytes asked
-    → (clerk : ℕ) → clerk_asked asked ≡ Some clerk → (gate : GateEntry) → settings.gate ≡ Some gate → HoldsCode gate clerk (map name_and_value head.fields)
+    → (account : Account) → account_asked asked ≡ Some account → (gate : GateEntry) → settings.gate ≡ Some gate → HoldsCode gate account (map name_and_value head.fields)
 
 -- ---- requests that aren't complete
 
@@ -171,12 +213,15 @@ abbrev pub MissesBody : Result ℕ RequestError → List ℕ → Type 0
 MissesBody (Ok n) behind = length behind < n
 MissesBody (Err why) behind = ⊥
 
--- what is asked for needs more than the bytes that follow the head: only a keying does, until its body is complete
+-- what is asked for needs more than the bytes that follow the head: only a keying or an order does, until its body is complete
 abbrev pub MissesBytes : Result Target RequestError → Result ℕ RequestError → List ℕ → Type 0
 MissesBytes (Ok (target.Keying clerk batch)) size behind = MissesBody size behind
 MissesBytes (Ok (target.Page clerk)) size behind = ⊥
 MissesBytes (Ok (target.Leave clerk)) size behind = ⊥
 MissesBytes (Ok (target.Resource what)) size behind = ⊥
+MissesBytes (Ok (target.Office office.ConsolePage)) size behind = ⊥
+MissesBytes (Ok (target.Office office.Leave)) size behind = ⊥
+MissesBytes (Ok (target.Office office.Orders)) size behind = MissesBody size behind
 MissesBytes (Err why) size behind = ⊥
 
 -- the same for a head and the bytes that follow it
@@ -193,7 +238,7 @@ MissesFound settings got headers spans behind =
 abbrev pub MissesAt : HttpSettingsEntry → List ℕ → List HeaderSpan → RequestSpans → List ℕ → Type 0
 MissesAt settings got headers spans more = MissesFound settings got headers spans (drop spans.len got ++ more)
 
--- What was read doesn't say yet what is asked: it has no complete head yet, or the head of a keying whose body isn't complete.
+-- What was read doesn't say yet what is asked: it has no complete head yet, or the head of a keying or an order whose body isn't complete.
 abbrev pub IsWanting : HttpSettingsEntry → List ℕ → Type 0
 IsWanting settings got = IsHeadWanting got ⊎ ((head : RequestHead) × (behind : List ℕ) × BeginsWith got head behind × MissesBehind settings head behind)
 

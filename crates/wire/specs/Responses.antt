@@ -2,19 +2,21 @@
 use Rattle.std.specs.Prelude.{◌∷◌, List, [], ◌++◌, Option, Some, None, codes, decimal, length, unwrap_or, ℕ}
 use Rattle.http.specs.StatusCode.{reason_phrase}
 use Rattle.wire.specs.Requests.{ShowEntry, has_left, page, verb_text}
-use Rattle.wire.specs.Replies.{fault_body, refusal_body, reply_body}
+use Rattle.wire.specs.Replies.{fault_body, order_body, refusal_body, reply_body}
+use Rattle.wire.specs.declared.account.Account.{Account}
+use Rattle.wire.specs.declared.account.Account.TheVariants.{Clerk, Office}
 use Rattle.wire.specs.declared.request_error.RequestError.{RequestError}
 use Rattle.wire.specs.declared.request_error.RequestError.TheVariants.{BadRequest, Forbidden, MethodNotAllowed, NotFound, TooLarge, Unauthorized, WrongCode}
 use Rattle.wire.specs.declared.request_error.Verb.{Verb}
 use Rattle.wire.specs.declared.response.Content.{Content}
 use Rattle.wire.specs.declared.response.Content.TheVariants.{Html, Json, Text}
 
--- What the further header lines of a response say: nothing; the verb that is served; that a clerk's code is asked for; or that the client must wait a minute. Or they say
+-- What the further header lines of a response say: nothing; the verb that is served; that an account's code is asked for; or that the client must wait a minute. Or they say
 -- what a browser may do with a page, by its policy; or that it is to forget a code.
 pub data More : Type 0 where
   nothing : More
   allows : Verb → More
-  asks_code : ℕ → More
+  asks_code : Account → More
   waits : More
   guards : List ℕ → More
   forgets : More
@@ -42,9 +44,14 @@ media_type Text = codes "text/plain; charset=utf-8"
 media_type Json = codes "application/json"
 media_type Html = codes "text/html; charset=utf-8"
 
--- the line that asks for a clerk's code; its realm names the clerk, so that no browser sends another clerk's
-unfoldable pub code_line : ℕ → List ℕ
-code_line clerk = codes "WWW-Authenticate: Basic realm=\"clerk " ++ (decimal clerk ++ (codes "\", charset=\"UTF-8\"" ++ line_end))
+-- what names an account in a realm
+abbrev pub realm_of : Account → List ℕ
+realm_of (Clerk clerk) = codes "clerk " ++ decimal clerk
+realm_of Office = codes "office"
+
+-- the line that asks for an account's code; its realm names the account, so that no browser sends another's
+unfoldable pub code_line : List ℕ → List ℕ
+code_line realm = codes "WWW-Authenticate: Basic realm=\"" ++ (realm ++ (codes "\", charset=\"UTF-8\"" ++ line_end))
 
 -- the lines that guard a page: its policy; in no frame; no other media type; separate from windows and pages of other servers; not stored
 unfoldable pub guard_lines : List ℕ → List ℕ
@@ -61,7 +68,7 @@ guard_lines policy =
 abbrev pub more_lines : More → List ℕ
 more_lines nothing = []
 more_lines (allows verb) = codes "Allow: " ++ (verb_text verb ++ line_end)
-more_lines (asks_code clerk) = code_line clerk
+more_lines (asks_code account) = code_line (realm_of account)
 more_lines waits = codes "Retry-After: 60" ++ line_end
 more_lines (guards policy) = guard_lines policy
 more_lines forgets = codes "Clear-Site-Data: \"cookies\"" ++ (line_end ++ (codes "Cache-Control: no-store" ++ line_end))
@@ -91,21 +98,21 @@ json_response status body = record { status = status; more = nothing; content = 
 abbrev pub text_response : List ℕ → ResponseEntry
 text_response text = record { status = 200; more = nothing; content = Text; body = text }
 
--- a clerk's code is required
-abbrev pub unauthorized_response : ℕ → ResponseEntry
-unauthorized_response clerk = record { status = 401; more = asks_code clerk; content = Json; body = codes "{\"error\":\"unauthorized\"}" }
+-- an account's code is required
+abbrev pub unauthorized_response : Account → ResponseEntry
+unauthorized_response account = record { status = 401; more = asks_code account; content = Json; body = codes "{\"error\":\"unauthorized\"}" }
 
--- the clerk whose code is missing or wrong, if that is the error
-abbrev pub clerk_kept_out : RequestError → Option ℕ
-clerk_kept_out (Unauthorized clerk) = Some clerk
-clerk_kept_out (WrongCode clerk) = Some clerk
-clerk_kept_out other = None
+-- the account whose code is missing or wrong, if that is the error
+abbrev pub account_kept_out : RequestError → Option Account
+account_kept_out (Unauthorized account) = Some account
+account_kept_out (WrongCode account) = Some account
+account_kept_out other = None
 
 -- the client must wait
 abbrev pub waits_response : ResponseEntry
 waits_response = record { status = 429; more = waits; content = Json; body = codes "{\"error\":\"too many wrong codes\"}" }
 
--- what is shown to a clerk, independently of the state
+-- what is shown, independently of the state
 abbrev pub shown_response : ShowEntry → ResponseEntry
 shown_response (page its) = record { status = 200; more = guards its.policy; content = Html; body = its.text }
 shown_response has_left = record { status = 200; more = forgets; content = Json; body = codes "{\"left\":true}" }
@@ -117,12 +124,16 @@ denied_response Forbidden = json_response 403 (codes "{\"error\":\"forbidden\"}"
 denied_response NotFound = json_response 404 (codes "{\"error\":\"not found\"}")
 denied_response (MethodNotAllowed verb) = record { status = 405; more = allows verb; content = Json; body = codes "{\"error\":\"method not allowed\"}" }
 denied_response TooLarge = json_response 413 (codes "{\"error\":\"too large\"}")
-denied_response (Unauthorized clerk) = unauthorized_response clerk
-denied_response (WrongCode clerk) = unauthorized_response clerk
+denied_response (Unauthorized account) = unauthorized_response account
+denied_response (WrongCode account) = unauthorized_response account
 
 -- the reply to a keying
 abbrev pub reply_response : List ℕ → ResponseEntry
 reply_response text = json_response 200 (reply_body text)
+
+-- the outcome of an order: its status, and what it printed
+abbrev pub order_response : ℕ → List ℕ → List ℕ → ResponseEntry
+order_response status output errors = json_response 200 (order_body status output errors)
 
 -- a refusal
 abbrev pub refusal_response : ℕ → List ℕ → ResponseEntry

@@ -1,8 +1,10 @@
 -- The response at a state of the office, and what a connection leaves.
-use Rattle.std.specs.Prelude.{◌≡◌, ◌⊎◌, ◌∷◌, ⊤, Bool, List, [], Option, Result, Ok, Err, IfSome, map, string_bytes, ℕ}
+use Rattle.std.specs.Prelude.{◌≡◌, ◌==◌, ◌⊎◌, ◌∷◌, ⊤, Bool, List, [], Option, Some, None, Result, Ok, Err, IfSome, find, map, string_bytes, ℕ}
 use Rattle.std.specs.Io.KnownBytes.{Appends}
 use Rattle.sqlite.specs.State.{State}
 use Rattle.streams.specs.Streams.{AppendsBeginning}
+use Rattle.serde_json.specs.Data.{Data}
+use Rattle.serde_json.specs.Written.{compact_text}
 use Rattle.register.specs.Machine.{Outcome, state_after, step_of}
 use Rattle.register.specs.Offices.{OfficeState}
 use Rattle.register.specs.Reasons.{reason_number, reason_text}
@@ -10,28 +12,36 @@ use Rattle.register.specs.declared.command.Command.TheVariants as command
 use Rattle.register.specs.declared.command.Request.{Request}
 use Rattle.register.specs.declared.keyings.KeyingCommand.{KeyingCommand}
 use Rattle.register.specs.declared.refusal.Reason.{Reason}
-use Rattle.register.specs.Standings.{BallotPaperEntry, WorkEntry}
+use Rattle.register.specs.declared.refusal.Reason.TheVariants.{NoSuchWard}
+use Rattle.register.specs.Status.{BallotPaperEntry, WorkEntry}
 use Rattle.tables.specs.Faults.{fault_number}
 use Rattle.tables.specs.declared.fault.Fault.{Fault}
 use Rattle.tables.specs.declared.fault.Fault.TheVariants.{Closed, Store}
 use Rattle.office.specs.Answers.{IsClosedIn, IsKeptOpen, IsOpenAt, Told, again, done, no, told_of}
+use Rattle.store.specs.Overviews.{WardView}
+use Rattle.office.specs.Overviews.{batches_told, differences_told, doubtful_told, papers_told, receipts_told}
 use Rattle.office.specs.Reads.{IsClosedReading, paper_told, work_told}
 use Rattle.office.specs.Sheets.{text_told}
 use Rattle.office.specs.declared.answers.Stop.{Stop}
 use Rattle.office.specs.declared.answers.Stop.TheVariants.{Refused, Fault as Failed}
 use Rattle.office.specs.declared.sheets.Text.TheVariants as text
-use Rattle.wire.specs.Requests.{HttpRequestEntry, Asks, ShowEntry, denied, keying, reading, shown}
+use Rattle.wire.specs.Requests.{HttpRequestEntry, Asks, ShowEntry, console, denied, keying, order, reading, shown}
 use Rattle.wire.specs.Bodies.{KeyingEntry}
 use Rattle.wire.specs.Gates.{HttpSettingsEntry}
+use Rattle.wire.specs.OfficeReads.{WardReadView, ward_read_told, wards_read_told}
+use Rattle.wire.specs.OfficeReplies.{batches_data, differences_data, doubtful_papers_data, papers_data, receipts_data, ward_read_data, wards_data}
 use Rattle.wire.specs.Replies.{paper_body, work_body}
 use Rattle.wire.specs.Responses.{ResponseEntry, denied_response, fault_response, json_response, refusal_response, reply_response, shown_response, text_response}
 use Rattle.wire.specs.Told.{IsTold, IsWritten, told_bytes}
+use Rattle.wire.specs.declared.office_read.OfficeRead.{OfficeRead}
+use Rattle.wire.specs.declared.office_read.OfficeRead.TheVariants as read
 use Rattle.wire.specs.declared.request_error.RequestError.{RequestError}
+use Rattle.wire.specs.declared.request_error.RequestError.TheVariants.{NotFound}
 use Rattle.wire.specs.declared.response.Response.{Response}
 use Rattle.wire.specs.declared.serving.Served.{Served}
 use Rattle.wire.specs.declared.serving.Served.TheVariants.{Answered, ReadFailed, WriteFailed}
 use Rattle.wire.specs.declared.target.Resource.{Resource}
-use Rattle.wire.specs.declared.target.Resource.TheVariants.{Candidates, Declaration, Sheet, Work}
+use Rattle.wire.specs.declared.target.Resource.TheVariants.{Candidates, Declaration, Office, Sheet, Work}
 
 -- the refusal for a reason
 abbrev pub refused_for : Reason → ResponseEntry
@@ -56,12 +66,35 @@ work_response clerk work = json_response 200 (work_body clerk work)
 abbrev pub paper_response : ℕ → BallotPaperEntry → ResponseEntry
 paper_response batch paper = json_response 200 (paper_body batch paper)
 
+-- the JSON of a value
+abbrev pub data_response : Data → ResponseEntry
+data_response value = json_response 200 (compact_text value)
+
+-- a ward with its next step and its papers, if it is among the wards that were read
+abbrev pub found_response : WardReadView → Option WardView → ResponseEntry
+found_response v (Some ward) = data_response (ward_read_data ward v.progress.next v.papers)
+found_response v None = refused_for NoSuchWard
+
+abbrev pub ward_response : ℕ → WardReadView → ResponseEntry
+ward_response ward v = found_response v (find (λ (w : WardView). w.ward.number == ward) v.progress.wards)
+
+-- the response to a read of the console at a state
+abbrev pub office_response : OfficeState → OfficeRead → ResponseEntry
+office_response s read.Wards = read_response (λ wards. data_response (wards_data wards)) (wards_read_told s)
+office_response s (read.Ward ward) = read_response (ward_response ward) (ward_read_told s ward)
+office_response s (read.Batches ward) = read_response (λ batches. data_response (batches_data ward batches)) (batches_told s ward)
+office_response s (read.Doubtful ward) = read_response (λ papers. data_response (doubtful_papers_data ward papers)) (doubtful_told s ward)
+office_response s (read.Differences batch) = read_response (λ differences. data_response (differences_data batch differences)) (differences_told s batch)
+office_response s (read.Papers batch) = read_response (λ papers. data_response (papers_data batch papers)) (papers_told s batch)
+office_response s (read.Receipts actor) = read_response (λ receipts. data_response (receipts_data receipts)) (receipts_told s actor)
+
 -- the response to a read at a state
 abbrev pub reading_response : OfficeState → Resource → ResponseEntry
 reading_response s (Work clerk) = read_response (work_response clerk) (work_told s clerk)
 reading_response s (Candidates clerk batch) = read_response (paper_response batch) (paper_told s clerk batch)
 reading_response s (Sheet ward) = read_response text_response (text_told text.Sheet s ward)
 reading_response s (Declaration ward) = read_response text_response (text_told text.Declaration s ward)
+reading_response s (Office its) = office_response s its
 
 -- the request as which a clerk's keying of a batch is sent to the office
 pub record IsHandedOn (clerk batch : ℕ) (entry : KeyingEntry) (request : Request) : Type 0 where
@@ -79,11 +112,13 @@ pub record IsOutcome (s : OfficeState) (clerk batch : ℕ) (entry : KeyingEntry)
   pub is : IsHandedOn clerk batch entry request
   pub each : (other : Request) → IsHandedOn clerk batch entry other → outcome ≡ step_of s other
 
--- the response to what is asked at a state, and the state after it
+-- The response to what is asked at a state, and the state after it. An order is followed by the server, and not here: here nothing is found at its target.
 abbrev pub IsAnswer : OfficeState → HttpRequestEntry → OfficeState → ResponseEntry → Type 0
 IsAnswer s (denied why) next answer = (next ≡ s) × (answer ≡ denied_response why)
 IsAnswer s (shown clerk show) next answer = (next ≡ s) × (answer ≡ shown_response show)
 IsAnswer s (reading what) next answer = (next ≡ s) × (answer ≡ reading_response s what)
+IsAnswer s (console show) next answer = (next ≡ s) × (answer ≡ shown_response show)
+IsAnswer s (order entry) next answer = (next ≡ s) × (answer ≡ denied_response NotFound)
 IsAnswer s (keying clerk batch entry) next answer =
     (outcome : Outcome) × IsOutcome s clerk batch entry outcome × (next ≡ state_after s outcome) × (answer ≡ told_response (told_of outcome))
 
@@ -99,6 +134,8 @@ pub record IsAnswered (s : OfficeState) (asked : HttpRequestEntry) (answer : Res
 abbrev pub FaultLeaves : OfficeState → HttpRequestEntry → Fault → Bool → State → Type 0
 FaultLeaves s (denied why) f closed st = ⊥
 FaultLeaves s (shown clerk show) f closed st = ⊥
+FaultLeaves s (console show) f closed st = ⊥
+FaultLeaves s (order entry) f closed st = ⊥
 FaultLeaves s (reading what) f closed st = IsKeptOpen s f closed st ⊎ IsClosedReading s f closed st
 FaultLeaves s (keying clerk batch entry) f closed st =
     (outcome : Outcome) × IsOutcome s clerk batch entry outcome × (IsKeptOpen s f closed st ⊎ IsClosedIn s outcome f closed st)
@@ -125,6 +162,8 @@ abbrev pub TellsAsked : OfficeState → HttpRequestEntry → Response → List R
 TellsAsked s (denied why) response sent = IsTold (denied_response why) response × (sent ≡ [])
 TellsAsked s (shown clerk show) response sent = IsTold (shown_response show) response × (sent ≡ [])
 TellsAsked s (reading what) response sent = IsTold (reading_response s what) response × (sent ≡ [])
+TellsAsked s (console show) response sent = IsTold (shown_response show) response × (sent ≡ [])
+TellsAsked s (order entry) response sent = IsTold (denied_response NotFound) response × (sent ≡ [])
 TellsAsked s (keying clerk batch entry) response sent =
     (request : Request) × IsHandedOn clerk batch entry request × IsTold (told_response (told_of (step_of s request))) response × (sent ≡ request ∷ [])
 
@@ -143,6 +182,8 @@ TellsFor settings bytes s sent response = ((asked : HttpRequestEntry) × IfSome 
 abbrev pub closed_response : HttpRequestEntry → ResponseEntry
 closed_response (denied why) = denied_response why
 closed_response (shown clerk show) = shown_response show
+closed_response (console show) = shown_response show
+closed_response (order entry) = denied_response NotFound
 closed_response (reading what) = fault_response (fault_number Closed)
 closed_response (keying clerk batch entry) = fault_response (fault_number Closed)
 
@@ -156,6 +197,11 @@ abbrev pub IsShownAlike : ShowEntry → Type 0
 IsShownAlike show =
     (clerk : ℕ) (s t next : OfficeState) (answer : ResponseEntry) → IsAnswer s (shown clerk show) next answer
     → (next ≡ s) × IsAnswer t (shown clerk show) t answer × (answer ≡ closed_response (shown clerk show))
+
+-- and for what is shown to the office
+abbrev pub IsConsoleAlike : ShowEntry → Type 0
+IsConsoleAlike show =
+    (s t next : OfficeState) (answer : ResponseEntry) → IsAnswer s (console show) next answer → (next ≡ s) × IsAnswer t (console show) t answer × (answer ≡ closed_response (console show))
 
 -- this response is ready to be written, and if the client's bytes are known, they ask exactly that
 pub record TellsClosed (settings : HttpSettingsEntry) (bytes : Option (List ℕ)) (response : Response) : Type 0 where

@@ -1,8 +1,7 @@
 -- What the targets of requests name: seven routes, as `matchit` finds them for the whole target, with numbers in them.
-use Rattle.std.specs.Prelude.{◌≡◌, ◌↔◌, ◌++◌, ◌&&◌, ◌∷◌, ◌==◌, Bool, List, [], Option, Some, None, Result, Ok, Err, codes, false, if◌then◌else◌, length, nat_le, not, option_and_then, option_map, ℕ}
-use Rattle.std.specs.Char.{is_ascii, is_ascii_digit}
+use Rattle.std.specs.Prelude.{◌≡◌, ◌↔◌, ◌++◌, List, [], Option, Some, None, Result, Ok, Err, bytes_eq, codes, if◌then◌else◌, option_and_then, option_map, ℕ}
+use Rattle.std.specs.Char.{is_ascii}
 use Rattle.std.specs.List.{list_all}
-use Rattle.std.specs.Str.Parse.{digits_value}
 use Rattle.matchit.specs.Order.{placed}
 use Rattle.matchit.specs.Params.{named, walk}
 use Rattle.matchit.specs.Route.{Scan, parse_route}
@@ -11,24 +10,16 @@ use Rattle.matchit.specs.Rows.{RowsOf}
 use Rattle.matchit.specs.Seek.{first}
 use Rattle.matchit.specs.declared.error.InsertError.{InsertError}
 use Rattle.matchit.specs.declared.params.Params.{Params}
+use Rattle.wire.specs.Numbers.{number_in}
+use Rattle.wire.specs.OfficeTargets.{IsReadTarget, read_by}
+use Rattle.wire.specs.declared.office_read.OfficeRead.{OfficeRead}
+use Rattle.wire.specs.declared.target.OfficeTarget.{OfficeTarget}
+use Rattle.wire.specs.declared.target.OfficeTarget.TheVariants as office
 use Rattle.wire.specs.declared.target.RouteTarget.{RouteTarget}
 use Rattle.wire.specs.declared.target.RouteTarget.TheVariants as place
-use Rattle.wire.specs.declared.target.Resource.TheVariants.{Candidates, Declaration, Sheet, Work}
+use Rattle.wire.specs.declared.target.Resource.TheVariants.{Candidates, Declaration, Office as Reads, Sheet, Work}
 use Rattle.wire.specs.declared.target.Target.{Target}
-use Rattle.wire.specs.declared.target.Target.TheVariants.{Keying, Leave, Page, Resource}
-
--- the most digits of a number
-abbrev pub most_digits : ℕ
-most_digits = 5
-
--- 1 to 5 digits, the first not 0
-abbrev pub is_number : List ℕ → Bool
-is_number [] = false
-is_number (b ∷ bs) = not (b == 48) && (nat_le (length (b ∷ bs)) most_digits && list_all is_ascii_digit (b ∷ bs))
-
--- the number in a parameter, if it has one
-abbrev pub number_in : List ℕ → Option ℕ
-number_in text = if is_number text then Some (digits_value 10 text) else None
+use Rattle.wire.specs.declared.target.Target.TheVariants.{Keying, Leave, Office, Page, Resource}
 
 -- the routes with one more
 abbrev pub with_scanned : Result Scan InsertError → RouteTarget → RowsOf (RouteOf RouteTarget) → RowsOf (RouteOf RouteTarget)
@@ -76,9 +67,35 @@ named_at place.Declaration taken = option_map (λ ward. Resource (Declaration wa
 abbrev pub route_of : List ℕ → Option (RouteOf RouteTarget)
 route_of target = if list_all is_ascii target then first office_routes target else None
 
+-- what a target names by its route
+abbrev pub routed_by : List ℕ → Option Target
+routed_by target = option_and_then (λ (route : RouteOf RouteTarget). named_at route.value (walk route.pattern route.text target route.names 0 0)) (route_of target)
+
+-- the targets of the officer's console
+abbrev pub office_path : OfficeTarget → List ℕ
+office_path office.ConsolePage = codes "/office/"
+office_path office.Leave = codes "/office/leave"
+office_path office.Orders = codes "/office/orders"
+
+-- what of the console a target is
+abbrev pub office_by : List ℕ → Option OfficeTarget
+office_by target =
+    if bytes_eq target (office_path office.ConsolePage) then Some office.ConsolePage
+    else (if bytes_eq target (office_path office.Leave) then Some office.Leave
+    else (if bytes_eq target (office_path office.Orders) then Some office.Orders else None))
+
+-- what a target names that isn't of the console itself: what the console reads, or what its route leads to
+abbrev pub read_or_routed : Option OfficeRead → List ℕ → Option Target
+read_or_routed (Some read) target = Some (Resource (Reads read))
+read_or_routed None target = routed_by target
+
 -- what a target names
+abbrev pub named_in : Option OfficeTarget → List ℕ → Option Target
+named_in (Some place) target = Some (Office place)
+named_in None target = read_or_routed (read_by target) target
+
 abbrev pub named_by : List ℕ → Option Target
-named_by target = option_and_then (λ (route : RouteOf RouteTarget). named_at route.value (walk route.pattern route.text target route.names 0 0)) (route_of target)
+named_by target = named_in (office_by target) target
 
 -- ---- the same in plain words
 
@@ -92,6 +109,8 @@ IsTargetOf (Page clerk) target = (c : List ℕ) × (target ≡ codes "/clerks/" 
 IsTargetOf (Leave clerk) target = (c : List ℕ) × (target ≡ codes "/clerks/" ++ (c ++ codes "/leave")) × (number_in c ≡ Some clerk)
 IsTargetOf (Resource (Work clerk)) target = (c : List ℕ) × (target ≡ codes "/clerks/" ++ (c ++ codes "/work")) × (number_in c ≡ Some clerk)
 IsTargetOf (Resource (Sheet ward)) target = (w : List ℕ) × (target ≡ codes "/wards/" ++ (w ++ codes "/sheet")) × (number_in w ≡ Some ward)
+IsTargetOf (Office place) target = target ≡ office_path place
+IsTargetOf (Resource (Reads read)) target = IsReadTarget read target
 IsTargetOf (Resource (Declaration ward)) target = (w : List ℕ) × (target ≡ codes "/wards/" ++ (w ++ codes "/result")) × (number_in w ≡ Some ward)
 
 -- a target names exactly what it is the path of, and so no other target names that

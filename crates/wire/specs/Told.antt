@@ -1,4 +1,4 @@
--- What a response says that is ready to be written.
+-- The status and the body of a response that is ready to be written.
 use Rattle.std.specs.Prelude.{◌≡◌, ◌⊎◌, List, string_bytes, ℕ}
 use Rattle.wire.specs.Responses.{ResponseEntry, fault_response, response_bytes}
 use Rattle.wire.specs.declared.response.Bytes.{Bytes}

@@ -1,58 +1,32 @@
 //! What the office is asked for a request, and the response.
 
 ghost use Rattle.std.specs.Prelude.{◌≡◌, false, map, true, string_bytes};
-ghost use Rattle.register.specs.Standings.{paper_entry, work_entry};
+ghost use Rattle.register.specs.Status.{paper_entry, work_entry};
 ghost use Rattle.sqlite.specs.State.{HasCleanDisk};
 ghost use Rattle.sqlite.specs.Held.{state};
 ghost use Rattle.register.specs.Offices.{OfficeState};
-ghost use Rattle.store.specs.Offices.{IsAt};
+ghost use Rattle.store.specs.StateTables.{IsAt};
 ghost use Rattle.tables.specs.Faults.{fault_number};
 ghost use Rattle.office.specs.Answers.{told};
 ghost use Rattle.wire.specs.Requests.{http_request_entry, reading};
-ghost use Rattle.wire.specs.Responses.{fault_response, reply_response, text_response};
-ghost use Rattle.wire.specs.Serving.{IsReadTold, Readies, closed_response, paper_response, refused_for, told_response, work_response};
+ghost use Rattle.wire.specs.Responses.{fault_response, text_response};
+ghost use Rattle.wire.specs.Serving.{IsReadTold, Readies, closed_response, paper_response, told_response, work_response};
 ghost use Rattle.wire.specs.Told.{IsTold};
 
-use crate::bodies::{fault_body, refusal_body, reply_body};
 use crate::candidates::paper_body;
+use crate::office_responses::{faulted, refused, replied};
+use crate::read_responses::answer_office;
 use crate::request::{HttpRequest, Keying};
+use crate::request_error::RequestError;
 use crate::response::{Content, Response};
 use crate::target::Resource;
 use crate::work::work_body;
 use http::StatusCode;
 use office::{Answer, Office, Stop};
-use register::{BallotPaper, Command, KeyingCommand, Refusal, Work};
+use register::{BallotPaper, Command, KeyingCommand, Work};
 use sqlite::Alter;
-use std::alloc::{AllocError, Global};
+use std::alloc::Global;
 use store::Fault;
-
-/// Returns the response with a reply.
-fn replied(alloc: Global, text: &str) -> Response
-    ensures { IsTold (reply_response text.now) result }
-{
-    Response::made(
-        alloc,
-        StatusCode::OK,
-        Content::Json,
-        reply_body(alloc, text),
-    )
-}
-
-/// Returns the response with a refusal.
-fn refused(alloc: Global, why: &Refusal) -> Response
-    ensures { IsTold (refused_for why.now) result }
-{
-    let body = refusal_body(alloc, why.number(), why.text());
-    Response::made(alloc, StatusCode::CONFLICT, Content::Json, body)
-}
-
-/// Returns the response with a fault.
-fn faulted(alloc: Global, fault: Fault) -> Response
-    ensures { IsTold (fault_response (fault_number fault)) result }
-{
-    let body = fault_body(alloc, fault.number());
-    Response::made(alloc, StatusCode::SERVICE_UNAVAILABLE, Content::Json, body)
-}
 
 /// Returns the response with the office's answer to a keying.
 fn answered(alloc: Global, answer: &Answer) -> Response
@@ -145,10 +119,11 @@ fn answer_reading<S: Alter>(alloc: Global, office: &mut Office<S>, what: Resourc
         }
         Resource::Sheet { ward } => answer_text(alloc, office.sheet(ward)),
         Resource::Declaration { ward } => answer_text(alloc, office.result(ward)),
+        Resource::Office(read) => answer_office(alloc, office, read),
     }
 }
 
-/// Processes a request in the office, and returns the response.
+/// Processes a request in the office, and returns the response. An order isn't followed here: nothing is found at its target.
 pub(crate) fn answer<S: Alter>(
     alloc: Global,
     office: &mut Office<S>,
@@ -165,5 +140,7 @@ pub(crate) fn answer<S: Alter>(
         HttpRequest::Shown(_, show) => Response::shown(alloc, show),
         HttpRequest::Keying(keying) => answer_keying(alloc, office, keying),
         HttpRequest::Resource(what) => answer_reading(alloc, office, what),
+        HttpRequest::ConsolePage(show) => Response::shown(alloc, show),
+        HttpRequest::Order(_) => Response::denied(alloc, RequestError::NotFound),
     }
 }

@@ -2,7 +2,7 @@
 
 ghost use Rattle.std.specs.Prelude.{◌≡◌, IfOk, string_bytes};
 ghost use Rattle.serde_json.specs.View.{view};
-ghost use Rattle.wire.specs.Replies.{fault_body, fault_data, refusal_body, refusal_data, reply_body, reply_data};
+ghost use Rattle.wire.specs.Replies.{fault_body, fault_data, order_body, order_data, refusal_body, refusal_data, reply_body, reply_data};
 
 use serde_json::{Value, json};
 use std::alloc::{AllocError, Global};
@@ -19,6 +19,25 @@ pub(crate) fn reply_body(alloc: Global, text: &str) -> Result<String, AllocError
     ensures { IfOk result (λ body. string_bytes body ≡ reply_body text.now) }
 {
     reply_value(alloc, text)?.to_string(alloc)
+}
+
+/// Returns the body with the outcome of an order, as a value.
+fn order_value(alloc: Global, status: u8, output: &str, errors: &str) -> Result<Value, AllocError>
+    ensures { IfOk result (λ value. view value ≡ order_data status output.now errors.now) }
+{
+    json!(in alloc; {"errors": errors, "output": output, "status": status})
+}
+
+/// Returns the body with the outcome of an order.
+pub(crate) fn order_body(
+    alloc: Global,
+    status: u8,
+    output: &str,
+    errors: &str,
+) -> Result<String, AllocError>
+    ensures { IfOk result (λ body. string_bytes body ≡ order_body status output.now errors.now) }
+{
+    order_value(alloc, status, output, errors)?.to_string(alloc)
 }
 
 /// Returns the body with a refusal, as a value.

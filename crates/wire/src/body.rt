@@ -6,7 +6,7 @@ ghost use Rattle.std.specs.Io.KnownBytes.{Consumes};
 ghost use Rattle.serde_json.specs.View.{view, items_view, members_view};
 ghost use Rattle.serde_json.specs.Find.{as_object, as_str};
 ghost use Rattle.wire.specs.Requests.{FailsAfter, HasRead, IsUnread};
-ghost use Rattle.wire.specs.Bodies.{body_entry, body_in, json_in, key_members, keying_of, papers_in, round_in, said_by, texts_in};
+ghost use Rattle.wire.specs.Bodies.{body_entry, body_in, json_in, key_members, keying_of, list_in, round_in, said_by, texts_in};
 
 use crate::read_failure::ReadFailure;
 use serde_json::{Category, Map, Value};
@@ -78,7 +78,7 @@ pub(crate) fn read_body<R: Source>(
 }
 
 /// Returns the text of a value, if the value is a text.
-fn text_in(value: Value) -> Option<String>
+pub(crate) fn text_in(value: Value) -> Option<String>
     ensures { option_map string_bytes result ≡ as_str (view value) }
 {
     match value {
@@ -109,9 +109,9 @@ fn texts_in(alloc: Global, values: Vec<Value>) -> Result<Option<Vec<String>>, Al
     Ok(Some(texts))
 }
 
-/// Returns the papers in a value, if the value is a list of texts.
-fn papers_in(alloc: Global, value: Value) -> Result<Option<Vec<String>>, AllocError>
-    ensures { IfOk result (λ found. option_map (λ texts. map string_bytes texts.items) found ≡ papers_in (view value)) }
+/// Returns the texts in a value, if the value is a list of texts.
+pub(crate) fn list_in(alloc: Global, value: Value) -> Result<Option<Vec<String>>, AllocError>
+    ensures { IfOk result (λ found. option_map (λ texts. map string_bytes texts.items) found ≡ list_in (view value)) }
 {
     match value {
         Value::Array(values) => texts_in(alloc, values),
@@ -148,7 +148,7 @@ fn said_by(
     let Some(id) = text_in(id) else {
         return Ok(None);
     };
-    let Some(papers) = papers_in(alloc, papers)? else {
+    let Some(papers) = list_in(alloc, papers)? else {
         return Ok(None);
     };
     let Some(round) = round_in(&round) else {
@@ -158,7 +158,7 @@ fn said_by(
 }
 
 /// Parses the JSON of a text. The only error is a failed allocation.
-fn json_in(alloc: Global, text: &[u8]) -> Result<Option<Value>, AllocError>
+pub(crate) fn json_in(alloc: Global, text: &[u8]) -> Result<Option<Value>, AllocError>
     ensures { IfOk result (λ found. option_map view found ≡ json_in text.now) }
 {
     match Value::from_slice(alloc, text) {
@@ -171,7 +171,7 @@ fn json_in(alloc: Global, text: &[u8]) -> Result<Option<Value>, AllocError>
 }
 
 /// Returns the members of a value, if it is an object.
-fn members_in(value: Value) -> Option<Map<String, Value>>
+pub(crate) fn members_in(value: Value) -> Option<Map<String, Value>>
     ensures { option_map (λ members. members_view members.entries) result ≡ as_object (view value) }
 {
     match value {

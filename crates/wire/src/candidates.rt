@@ -3,7 +3,7 @@
 ghost use Rattle.std.specs.Prelude.{◌≡◌, IfOk, map, string_bytes};
 ghost use Rattle.serde_json.specs.View.{view};
 ghost use Rattle.register.specs.Offices.{candidate_entry};
-ghost use Rattle.register.specs.Standings.{paper_entry};
+ghost use Rattle.register.specs.Status.{paper_entry};
 ghost use Rattle.wire.specs.Replies.{candidate_data, list_data, paper_body, paper_data};
 
 use register::{BallotPaper, Candidate};
@@ -18,7 +18,7 @@ fn candidate_value(alloc: Global, candidate: &Candidate) -> Result<Value, AllocE
 }
 
 /// Returns the candidates, as a list of values.
-fn candidates_value(alloc: Global, candidates: &[Candidate]) -> Result<Value, AllocError>
+pub(crate) fn candidates_value(alloc: Global, candidates: &[Candidate]) -> Result<Value, AllocError>
     ensures { IfOk result (λ value. view value ≡ list_data candidate_data (map candidate_entry candidates.now)) }
 {
     let mut values = Vec::with_capacity(alloc, candidates.len())?;

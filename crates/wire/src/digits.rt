@@ -1,10 +1,12 @@
 //! Decimal numbers.
 
-ghost use Rattle.std.specs.Prelude.{◌≡◌, ◌+◌, ◌<◌, true, length, min};
+ghost use Rattle.std.specs.Prelude.{◌≡◌, ◌≤◌, ◌+◌, ◌<◌, true, length, min};
 ghost use Rattle.std.specs.Char.{is_ascii_digit};
-ghost use Rattle.std.specs.List.{list_all};
+ghost use Rattle.std.specs.List.{list_all, prefix_len};
 ghost use Rattle.std.specs.Str.Parse.{digits_value};
-ghost use Rattle.wire.specs.Targets.{number_in};
+ghost use Rattle.wire.specs.Numbers.{number_in};
+
+use std::str;
 
 /// The most digits of a number in a target.
 const MOST_DIGITS: usize = 5;
@@ -14,6 +16,21 @@ pub(crate) fn all_digits(text: &[u8]) -> bool
     ensures { result ≡ list_all is_ascii_digit text.now }
 {
     text.iter().all(|b| b.is_ascii_digit())
+}
+
+/// Returns how many digits a text begins with.
+pub(crate) fn digits_length(text: &[u8]) -> usize
+    ensures bound { result ≤ length text.now }
+    ensures is { result ≡ prefix_len is_ascii_digit text.now }
+{
+    let mut length = 0;
+    for byte in text {
+        if !byte.is_ascii_digit() {
+            return length;
+        }
+        length += 1;
+    }
+    length
 }
 
 /// Parses a number of 1 to 5 digits, the first not 0.
@@ -26,6 +43,19 @@ pub(crate) fn number_in(text: &str) -> Option<u32>
         return None;
     }
     text.parse().ok()
+}
+
+/// Parses such a number in bytes.
+pub(crate) fn number_of(text: &[u8]) -> Option<u32>
+    ensures { result ≡ number_in text.now }
+{
+    if !all_digits(text) {
+        return None;
+    }
+    match str::from_utf8(text) {
+        Ok(text) => number_in(text),
+        Err(_) => None,
+    }
 }
 
 /// Returns the value of some digits, or `most` if the value is greater.

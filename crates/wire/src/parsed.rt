@@ -2,22 +2,23 @@
 
 ghost use Rattle.std.specs.Prelude.{◌≡◌, ◌≤◌, ◌++◌, IfOk, IfSome, List, Some, ℕ, length, map, option_map, take};
 ghost use Rattle.httparse.specs.Spans.{IsRequestWithin, header_bytes, span_bytes};
-ghost use Rattle.wire.specs.Requests.{Asks, http_request_entry, asked_of, asked_with, reading};
+ghost use Rattle.wire.specs.Requests.{Asks, http_request_entry, asked_of, asked_with, ordered_with, reading};
 ghost use Rattle.wire.specs.Gates.{HttpSettingsEntry, IsAuthentication, settings_entry, authentication_entry};
 ghost use Rattle.wire.specs.Completeness.{IsCompletenessOf};
 ghost use Rattle.wire.specs.Parsing.{IsParsed, Says, needed, read_in};
 ghost use Rattle.wire.specs.declared.target.Resource.{Resource};
 
-use crate::authentication::{Authentication, authentication_by, clerk_under, kept_out};
+use crate::authentication::{Authentication, account_at, authentication_by, kept_out};
 use crate::body::{KeyingBody, keying_of};
 use crate::completeness::Completeness;
+use crate::console_order::order_of;
 use crate::head::{MAX_HEAD_BYTES, MAX_HEADERS};
 use crate::length::{MAX_BODY_BYTES, body_length};
 use crate::origin::is_foreign;
-use crate::request::{HttpRequest, Keying, asked_for, page_at, served_at};
+use crate::request::{HttpRequest, Keying, asked_for, console_at, page_at, served_at};
 use crate::request_error::RequestError;
 use crate::settings::{HttpSettings, Show};
-use crate::target::{Resource, Routes, Target};
+use crate::target::{OfficeTarget, Resource, Routes, Target};
 use httparse::Status;
 use httparse::spans::{EMPTY_HEADER_SPAN, HeaderSpan, RequestSpans, parse_request};
 use std::alloc::{AllocError, Global};
@@ -75,6 +76,27 @@ fn keying_in<'a>(
     }
 }
 
+/// Parses an order of the office, by the length of its body and the bytes that follow the head.
+fn order_in<'a>(
+    alloc: Global,
+    body: Result<usize, RequestError>,
+    behind: &[u8],
+) -> Result<HttpRequest<'a>, AllocError>
+    ensures { IfOk result (λ asked. http_request_entry asked ≡ ordered_with body behind.now) }
+{
+    let size = match body {
+        Ok(size) => size,
+        Err(why) => return Ok(HttpRequest::Denied(why)),
+    };
+    if behind.len() < size {
+        return Ok(HttpRequest::Denied(RequestError::BadRequest));
+    }
+    match order_of(alloc, &behind[..size])? {
+        Some(order) => Ok(HttpRequest::Order(order)),
+        None => Ok(HttpRequest::Denied(RequestError::BadRequest)),
+    }
+}
+
 impl Head {
     /// Returns what the head in a buffer says, by the spans of its parts there.
     pub(crate) fn found(
@@ -99,9 +121,9 @@ impl Head {
             };
         }
         let target = spans.path.of(read);
-        let clerk = clerk_under(target);
-        let why = kept_out(settings.gate, clerk, read, headers);
-        let authentication = authentication_by(settings.gate, clerk, why);
+        let account = account_at(settings.gate, target);
+        let why = kept_out(settings.gate, account, read, headers);
+        let authentication = authentication_by(settings.gate, account, why);
         let wanted = match why {
             Some(why) => Err(why),
             None => asked_for(
@@ -133,6 +155,9 @@ impl Head {
             Ok(Target::Page { clerk }) => Ok(page_at(settings.gate, clerk)),
             Ok(Target::Leave { clerk }) => Ok(HttpRequest::Shown(clerk, Show::Left)),
             Ok(Target::Resource(what)) => Ok(HttpRequest::Resource(what)),
+            Ok(Target::Office(OfficeTarget::ConsolePage)) => Ok(console_at(settings.gate)),
+            Ok(Target::Office(OfficeTarget::Leave)) => Ok(HttpRequest::ConsolePage(Show::Left)),
+            Ok(Target::Office(OfficeTarget::Orders)) => order_in(alloc, self.body, behind),
             Err(why) => Ok(HttpRequest::Denied(why)),
         }
     }
@@ -147,12 +172,12 @@ impl Head {
         }
     }
 
-    /// Returns how many bytes after the head are needed to know what is asked: the body of a keying, and otherwise none.
+    /// Returns how many bytes after the head are needed to know what is asked: the body of a keying or an order, and otherwise none.
     fn needed(&self) -> usize
         ensures { result ≡ needed self.now.wanted self.now.body }
     {
         match self.wanted {
-            Ok(Target::Keying { .. }) => match self.body {
+            Ok(Target::Keying { .. } | Target::Office(OfficeTarget::Orders)) => match self.body {
                 Ok(size) => size,
                 Err(_) => 0,
             },
@@ -201,8 +226,8 @@ impl Parsed {
         }
     }
 
-    /// Returns the authentication of the request: the clerk under whose number it asks, and whether its code is wrong. `None` if
-    /// it needs no code, comes from elsewhere, or has no complete head.
+    /// Returns the authentication of the request: the account whose code it needs, and whether its code is wrong. `None` if it needs
+    /// no code, comes from elsewhere, or has no complete head.
     pub fn authentication(&self) -> Option<Authentication>
         ensures { (its : HttpSettingsEntry) (got : List ℕ) → IsParsed its got self.now → IsAuthentication its got (option_map authentication_entry result) }
     {

@@ -2,19 +2,20 @@
 
 ghost use Rattle.std.specs.Prelude.{◌≡◌, ◌≢◌, ◌-◌, ◌^◌, ◌<◌, ◌++◌, IfErr, IfOk, IfSome, List, Ok, OnOk, option_map, ℕ};
 ghost use Rattle.wire.specs.Requests.{Asks, AsksByHolder, AsksOneThing, ShowEntry, DeniesForeign, FailsAfter, IsUnread, IsWanting};
-ghost use Rattle.wire.specs.Requests.{MissesBytes, TakesOwn, http_request_entry, asked_for, asked_of, page_at, verb_of, verb_text};
-ghost use Rattle.wire.specs.Gates.{GateEntry, HttpSettingsEntry, gate_entry, settings_entry, needs_gate, reading_needs_gate, served_at};
+ghost use Rattle.wire.specs.Requests.{MissesBytes, TakesOwn, http_request_entry, asked_for, asked_of, console_at, page_at, verb_of, verb_text};
+ghost use Rattle.wire.specs.Gates.{GateEntry, HttpSettingsEntry, gate_entry, settings_entry, needs_gate, needs_office, reading_needs_gate, reading_needs_office, served_at};
 ghost use Rattle.wire.specs.Targets.{NamesItsOwn, named_by};
-ghost use Rattle.wire.specs.Serving.{IsDeniedAlike, IsShownAlike};
+ghost use Rattle.wire.specs.Serving.{IsConsoleAlike, IsDeniedAlike, IsShownAlike};
 ghost use Rattle.wire.specs.declared.request_error.RequestError.{RequestError};
 
 use crate::body::read_body;
+use crate::console_order::ConsoleOrder;
 use crate::head::{MAX_HEAD_BYTES, MAX_HEADERS, read_head};
 use crate::parsed::Head;
 use crate::read_failure::ReadFailure;
 use crate::request_error::{RequestError, Verb};
 use crate::settings::{Gate, HttpSettings, Show};
-use crate::target::{Resource, Routes, Target};
+use crate::target::{OfficeTarget, Resource, Routes, Target};
 use httparse::spans::EMPTY_HEADER_SPAN;
 use std::alloc::Global;
 use streams::Source;
@@ -41,6 +42,10 @@ pub enum HttpRequest<'a> {
     Keying(Keying),
     /// To read a resource.
     Resource(Resource),
+    /// To show the office its console, or that it is signed out.
+    ConsolePage(Show<'a>),
+    /// To follow an order of the office.
+    Order(ConsoleOrder),
 }
 
 impl Verb {
@@ -65,7 +70,15 @@ impl Resource {
             Resource::Candidates { .. } => true,
             Resource::Sheet { .. } => false,
             Resource::Declaration { .. } => false,
+            Resource::Office(_) => true,
         }
+    }
+
+    /// Returns whether it is served only if the office has a code.
+    fn needs_office(&self) -> bool
+        ensures { result ≡ reading_needs_office self.now }
+    {
+        matches!(self, Resource::Office(_))
     }
 }
 
@@ -75,8 +88,9 @@ impl Target {
         ensures { result ≡ verb_of self.now }
     {
         match self {
-            Target::Keying { .. } => Verb::Post,
+            Target::Keying { .. } | Target::Office(OfficeTarget::Orders) => Verb::Post,
             Target::Page { .. } | Target::Leave { .. } | Target::Resource(_) => Verb::Get,
+            Target::Office(OfficeTarget::ConsolePage | OfficeTarget::Leave) => Verb::Get,
         }
     }
 
@@ -89,6 +103,20 @@ impl Target {
             Target::Page { .. } => true,
             Target::Leave { .. } => true,
             Target::Resource(what) => what.needs_gate(),
+            Target::Office(_) => true,
+        }
+    }
+
+    /// Returns whether it is served only if the office has a code.
+    fn needs_office(&self) -> bool
+        ensures { result ≡ needs_office self.now }
+    {
+        match self {
+            Target::Keying { .. } => false,
+            Target::Page { .. } => false,
+            Target::Leave { .. } => false,
+            Target::Resource(what) => what.needs_office(),
+            Target::Office(_) => true,
         }
     }
 }
@@ -98,10 +126,11 @@ pub(crate) fn served_at(gate: Option<Gate<'_>>, routes: &Routes, target: &[u8]) 
     ensures { result ≡ served_at (option_map gate_entry gate.entry) (named_by target.now) }
 {
     let there = routes.named_by(target)?;
-    if gate.is_none() && there.needs_gate() {
-        return None;
-    }
-    Some(there)
+    let is_served = match gate {
+        Some(gate) => !there.needs_office() || gate.codes.has_office(),
+        None => !there.needs_gate(),
+    };
+    if is_served { Some(there) } else { None }
 }
 
 /// Returns what is asked for, if the method is the target's own; and otherwise why the request is rejected.
@@ -129,6 +158,16 @@ pub(crate) fn page_at<'a>(gate: Option<Gate<'a>>, clerk: u32) -> HttpRequest<'a>
     }
 }
 
+/// Returns the console of a gate; without a gate the request is rejected.
+pub(crate) fn console_at<'a>(gate: Option<Gate<'a>>) -> HttpRequest<'a>
+    ensures { http_request_entry result ≡ console_at (option_map gate_entry gate.entry) }
+{
+    match gate {
+        Some(gate) => HttpRequest::ConsolePage(Show::Page(gate.console)),
+        None => HttpRequest::Denied(RequestError::NotFound),
+    }
+}
+
 /// Reads the rest of a request whose head was parsed and is followed by these bytes, and returns what the request asks.
 fn read_behind<'a, R: Source>(
     alloc: Global,
@@ -143,9 +182,12 @@ fn read_behind<'a, R: Source>(
     ensures ok { OnOk result (R.failed reader.new ≡ R.failed reader.old) }
     ensures err { IfErr result (IsUnread (R.failed reader.old) (R.failed reader.new)) }
     ensures wanting { IfErr result (FailsAfter (R.held reader.old) (R.held reader.new) (λ got. MissesBytes head.now.wanted head.now.body (behind.now ++ got))) }
-    ensures untouched { ((clerk batch : ℕ) → head.now.wanted ≢ Ok (Target.Keying clerk batch)) → reader.new ≡ reader.old }
+    ensures untouched { ((clerk batch : ℕ) → head.now.wanted ≢ Ok (Target.Keying clerk batch)) → head.now.wanted ≢ Ok (Target.Office OfficeTarget.Orders) → reader.new ≡ reader.old }
 {
-    let (Ok(Target::Keying { .. }), Ok(size)) = (head.wanted, head.body) else {
+    let (Ok(Target::Keying { .. } | Target::Office(OfficeTarget::Orders)), Ok(size)) = (
+        head.wanted,
+        head.body,
+    ) else {
         return Ok(head.asked_with(alloc, settings, behind)?);
     };
     match read_body(alloc, reader, behind, size)? {
@@ -182,16 +224,18 @@ fn read_from_head<'a, R: Source>(
 ///
 /// A request with a header which shows that a page from elsewhere sent it, or that it came by a foreign name, is `Forbidden`,
 /// whatever else it asks. At a gate a request whose target begins with a clerk's number, such as `/clerks/4/`, is let in only
-/// with that clerk's code. Otherwise it is `Unauthorized`, or a `WrongCode`, whatever else it asks. So what is asked under a
-/// clerk's number is asked by the holder of that clerk's code. Every other request needs no such check. The response to a
-/// rejected request is the same at every state of the office, and so is what is `Shown`.
+/// with that clerk's code; and one whose target begins with `/office/` only with the office's, if the office has one. Otherwise it
+/// is `Unauthorized`, or a `WrongCode`, whatever else it asks. So what is asked under a clerk's number is asked by the holder of
+/// that clerk's code, and what is asked of the console by the holder of the office's. Every other request needs no such check.
+/// The response to a rejected request is the same at every state of the office, and so is what is `Shown`, and the `ConsolePage`.
 ///
 /// `Broken` comes only from the source, which then counts one failure more. It comes only while what was read doesn't say yet
 /// what is asked. Once it does, nothing more is read, because the client may wait for its response. Some of the bytes that follow
 /// the request may have been read.
 ///
 /// What is asked for depends only on the target, which names exactly what it is the path of. That is one of the seven routes of
-/// this crate, with numbers of 1 to 5 digits in it, the first not 0. Any other target names nothing.
+/// this crate, with numbers of 1 to 5 digits in it, the first not 0; or `/office/`, `/office/leave`, `/office/orders` or the path of
+/// a read of the console. Any other target names nothing.
 pub fn read_request<'a, R: Source>(
     alloc: Global,
     settings: HttpSettings<'a>,
@@ -208,6 +252,7 @@ pub fn read_request<'a, R: Source>(
     ensures held { (its : HttpSettingsEntry) (bytes : List ℕ) → AsksByHolder its bytes }
     ensures alike { (why : RequestError) → IsDeniedAlike why }
     ensures shown { (show : ShowEntry) → IsShownAlike show }
+    ensures console { (show : ShowEntry) → IsConsoleAlike show }
     ensures targets { (target : List ℕ) → NamesItsOwn target }
 {
     read_from_head(alloc, settings, reader)

@@ -1,5 +1,7 @@
 //! Why a request is rejected before the office is asked.
 
+use crate::account::Account;
+
 /// The methods that are served.
 #[derive(Clone, Copy, Debug, PartialEq, Eq)]
 pub enum Verb {
@@ -10,7 +12,7 @@ pub enum Verb {
 /// Why a request is rejected before the office is asked.
 #[derive(Clone, Copy, Debug, PartialEq, Eq)]
 pub enum RequestError {
-    /// Its head can't be read, the length of its body isn't known, or the body isn't a keying.
+    /// Its head can't be read, the length of its body isn't known, or the body isn't a keying or an order.
     BadRequest,
     /// A page from elsewhere sent it, or it came by a foreign name.
     Forbidden,
@@ -20,8 +22,8 @@ pub enum RequestError {
     MethodNotAllowed { allowed: Verb },
     /// Its body is longer than the limit.
     TooLarge,
-    /// It asks under a clerk's number, without a code.
-    Unauthorized { clerk: u32 },
-    /// It asks under a clerk's number, and its code isn't that clerk's, or it has several.
-    WrongCode { clerk: u32 },
+    /// It needs this account's code, and has none.
+    Unauthorized(Account),
+    /// It needs this account's code, and has another, or several.
+    WrongCode(Account),
 }

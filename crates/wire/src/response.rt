@@ -4,9 +4,11 @@ ghost use Rattle.std.specs.Prelude.{◌≡◌, IfOk, None, OnErr, length, string
 ghost use Rattle.wire.specs.Told.{IsTold, IsWritten, told_bytes};
 ghost use Rattle.wire.specs.Requests.{has_left, show_entry};
 ghost use Rattle.wire.specs.Gates.{page_entry};
-ghost use Rattle.wire.specs.Responses.{clerk_kept_out, code_line, denied_response, fault_response, guard_lines, lines_and_body};
-ghost use Rattle.wire.specs.Responses.{media_type, nothing, phrase, response_bytes, shown_response, unauthorized_response, waits_response};
+ghost use Rattle.wire.specs.Responses.{account_kept_out, code_line, denied_response, fault_response, guard_lines, lines_and_body};
+ghost use Rattle.wire.specs.Responses.{media_type, nothing, order_response, phrase, realm_of, response_bytes, shown_response, unauthorized_response, waits_response};
 
+use crate::account::Account;
+use crate::bodies::order_body;
 use crate::request_error::{RequestError, Verb};
 use crate::settings::{Page, Show};
 use http::StatusCode;
@@ -73,7 +75,11 @@ const WAITS: &str =
 const GONE: &str =
     "HTTP/1.1 503 Service Unavailable\r\nContent-Type: application/json\r\nContent-Length: 13\r\nConnection: close\r\n\r\n{\"fault\":113}";
 
-/// The response to a clerk who signs out.
+/// The response to an order whose output isn't UTF-8.
+const OUTPUT_FAILED: &str =
+    "HTTP/1.1 503 Service Unavailable\r\nContent-Type: application/json\r\nContent-Length: 13\r\nConnection: close\r\n\r\n{\"fault\":107}";
+
+/// The response to signing out.
 const LEFT: &str =
     "HTTP/1.1 200 OK\r\nContent-Type: application/json\r\nContent-Length: 13\r\nClear-Site-Data: \"cookies\"\r\nCache-Control: no-store\r\nConnection: close\r\n\r\n{\"left\":true}";
 
@@ -94,20 +100,20 @@ fn only_text(allowed: Verb) -> &'static str
     }
 }
 
-/// Returns the clerk whose code is missing or wrong, if that is the error.
-fn clerk_kept_out(why: RequestError) -> Option<u32>
-    ensures { result ≡ clerk_kept_out why }
+/// Returns the account whose code is missing or wrong, if that is the error.
+fn account_kept_out(why: RequestError) -> Option<Account>
+    ensures { result ≡ account_kept_out why }
 {
     match why {
-        RequestError::Unauthorized { clerk } => Some(clerk),
-        RequestError::WrongCode { clerk } => Some(clerk),
+        RequestError::Unauthorized(account) => Some(account),
+        RequestError::WrongCode(account) => Some(account),
         _ => None,
     }
 }
 
-/// Returns the response to a rejected request, which is constant unless a clerk's code is required.
+/// Returns the response to a rejected request, which is constant unless a code is required.
 pub(crate) fn denied_text(why: RequestError) -> &'static str
-    requires { clerk_kept_out why ≡ None }
+    requires { account_kept_out why ≡ None }
     ensures { result.now ≡ response_bytes (denied_response why) }
 {
     match why {
@@ -116,8 +122,8 @@ pub(crate) fn denied_text(why: RequestError) -> &'static str
         RequestError::NotFound => NOT_FOUND,
         RequestError::MethodNotAllowed { allowed } => only_text(allowed),
         RequestError::TooLarge => TOO_LARGE,
-        RequestError::Unauthorized { .. } => "",
-        RequestError::WrongCode { .. } => "",
+        RequestError::Unauthorized(_) => "",
+        RequestError::WrongCode(_) => "",
     }
 }
 
@@ -127,7 +133,7 @@ fn denied_status(why: RequestError) -> u16
 {
     match why {
         RequestError::BadRequest => 400,
-        RequestError::Unauthorized { .. } | RequestError::WrongCode { .. } => 401,
+        RequestError::Unauthorized(_) | RequestError::WrongCode(_) => 401,
         RequestError::Forbidden => 403,
         RequestError::NotFound => 404,
         RequestError::MethodNotAllowed { .. } => 405,
@@ -156,12 +162,22 @@ fn phrase(status: StatusCode) -> &'static str
     }
 }
 
-#[tactic(auto, unfolding(crate::specs::Responses::code_line))]
-/// Returns the header line that asks for a clerk's code.
-fn code_line(alloc: Global, clerk: u32) -> Result<String, AllocError>
-    ensures { IfOk result (λ text. string_bytes text ≡ code_line clerk) }
+/// Returns what names an account in a realm.
+fn realm_of(alloc: Global, account: Account) -> Result<String, AllocError>
+    ensures { IfOk result (λ text. string_bytes text ≡ realm_of account) }
 {
-    format!(in alloc; "WWW-Authenticate: Basic realm=\"clerk {clerk}\", charset=\"UTF-8\"\r\n")
+    match account {
+        Account::Clerk(clerk) => format!(in alloc; "clerk {clerk}"),
+        Account::Office => String::from_str(alloc, "office"),
+    }
+}
+
+#[tactic(auto, unfolding(crate::specs::Responses::code_line))]
+/// Returns the header line that asks for the code of a realm.
+fn code_line(alloc: Global, realm: &str) -> Result<String, AllocError>
+    ensures { IfOk result (λ text. string_bytes text ≡ code_line realm.now) }
+{
+    format!(in alloc; "WWW-Authenticate: Basic realm=\"{realm}\", charset=\"UTF-8\"\r\n")
 }
 
 #[tactic(auto, unfolding(crate::specs::Responses::guard_lines))]
@@ -207,11 +223,12 @@ pub(crate) fn response_text(
     response_with(alloc, status, content, "", body)
 }
 
-/// Returns the response that asks for a clerk's code.
-fn unauthorized_text(alloc: Global, clerk: u32) -> Result<String, AllocError>
-    ensures { IfOk result (λ text. string_bytes text ≡ response_bytes (unauthorized_response clerk)) }
+/// Returns the response that asks for an account's code.
+fn unauthorized_text(alloc: Global, account: Account) -> Result<String, AllocError>
+    ensures { IfOk result (λ text. string_bytes text ≡ response_bytes (unauthorized_response account)) }
 {
-    let beside = code_line(alloc, clerk)?;
+    let realm = realm_of(alloc, account)?;
+    let beside = code_line(alloc, realm.as_str())?;
     response_with(
         alloc,
         StatusCode::UNAUTHORIZED,
@@ -250,13 +267,12 @@ impl Response {
         }
     }
 
-    /// Returns the response to a rejected request, or the out-of-memory response if a clerk's code is required and the allocation
-    /// fails.
+    /// Returns the response to a rejected request, or the out-of-memory response if a code is required and the allocation fails.
     pub(crate) fn denied(alloc: Global, why: RequestError) -> Response
         ensures { IsTold (denied_response why) result }
     {
-        match clerk_kept_out(why) {
-            Some(clerk) => Response::of_text(401, unauthorized_text(alloc, clerk)),
+        match account_kept_out(why) {
+            Some(account) => Response::of_text(401, unauthorized_text(alloc, account)),
             None => Response {
                 status: denied_status(why),
                 bytes: Bytes::Fixed(denied_text(why)),
@@ -264,7 +280,7 @@ impl Response {
         }
     }
 
-    /// Returns the response to a clerk who signs out.
+    /// Returns the response to signing out.
     fn left() -> Response
         ensures { IsWritten (shown_response has_left) result }
     {
@@ -274,7 +290,7 @@ impl Response {
         }
     }
 
-    /// Returns the response that shows something to a clerk, or the out-of-memory response if the allocation fails.
+    /// Returns the response that shows a page, or that somebody is signed out; or the out-of-memory response if the allocation fails.
     pub(crate) fn shown(alloc: Global, show: Show<'_>) -> Response
         ensures { IsTold (shown_response (show_entry show.entry)) result }
     {
@@ -304,6 +320,16 @@ impl Response {
         }
     }
 
+    /// Returns the response to an order whose output isn't UTF-8, so that it can't be sent (107).
+    pub fn output_failed() -> Response
+        ensures { IsWritten (fault_response 107) result }
+    {
+        Response {
+            status: 503,
+            bytes: Bytes::Fixed(OUTPUT_FAILED),
+        }
+    }
+
     /// Returns the out-of-memory response.
     pub(crate) fn no_memory() -> Response
         ensures { IsWritten (fault_response 101) result }
@@ -312,6 +338,15 @@ impl Response {
             status: 503,
             bytes: Bytes::Fixed(NO_MEMORY),
         }
+    }
+
+    /// Returns the response with the outcome of an order: its status, and what it printed. Or the out-of-memory response, if an
+    /// allocation failed.
+    pub fn of_order(alloc: Global, status: u8, output: &str, errors: &str) -> Response
+        ensures { IsTold (order_response status output.now errors.now) result }
+    {
+        let body = order_body(alloc, status, output, errors);
+        Response::made(alloc, StatusCode::OK, Content::Json, body)
     }
 
     /// Returns a response with a status and a body, or the out-of-memory response if an allocation failed.

@@ -3,18 +3,20 @@
 use codes::Codes;
 use origins::Origin;
 
-/// The page on which clerks key, and its policy, which says what a browser lets it do.
+/// A page, and its policy, which says what a browser lets it do.
 #[derive(Clone, Copy)]
 pub struct Page<'a> {
     pub text: &'a str,
     pub policy: &'a str,
 }
 
-/// The gate, which requires clerks' codes: the codes, and the page.
+/// The gate, which requires codes: the codes of clerks and of the office, the page on which clerks key, and the officer's console,
+/// which is served only if the office has a code.
 #[derive(Clone, Copy)]
 pub struct Gate<'a> {
     pub codes: &'a Codes,
     pub page: Page<'a>,
+    pub console: Page<'a>,
 }
 
 /// The origin of pages that come through a proxy, and the gate, if any.
@@ -24,11 +26,11 @@ pub struct HttpSettings<'a> {
     pub gate: Option<Gate<'a>>,
 }
 
-/// What is shown to a clerk, independently of the office's state.
+/// What is shown to a clerk or to the office, independently of the office's state.
 #[derive(Clone, Copy)]
 pub enum Show<'a> {
-    /// The page on which the clerk keys.
+    /// The page on which the clerk keys, or the console.
     Page(Page<'a>),
-    /// That the clerk is signed out. The browser is to forget the code.
+    /// That the clerk or the office is signed out. The browser is to forget the code.
     Left,
 }

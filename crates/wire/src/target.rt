@@ -2,9 +2,11 @@
 
 ghost use Rattle.std.specs.Prelude.{◌≡◌, IfOk};
 ghost use Rattle.matchit.specs.Params.{AllText};
-ghost use Rattle.wire.specs.Targets.{named_at, named_by, office_routes, parameter, taken_by};
+ghost use Rattle.wire.specs.OfficeTargets.{read_by};
+ghost use Rattle.wire.specs.Targets.{named_at, named_by, office_by, office_routes, parameter, read_or_routed, routed_by, taken_by};
 
 use crate::digits::number_in;
+use crate::office_read::{OfficeRead, read_by};
 use matchit::{InsertError, Params, Router};
 use std::alloc::{AllocError, Global};
 use std::str;
@@ -20,6 +22,19 @@ pub enum Resource {
     Sheet { ward: u32 },
     /// The declaration of a ward.
     Declaration { ward: u32 },
+    /// What the officer's console reads.
+    Office(OfficeRead),
+}
+
+/// What a target of the officer's console names.
+#[derive(Clone, Copy, Debug, PartialEq, Eq)]
+pub(crate) enum OfficeTarget {
+    /// The console.
+    ConsolePage,
+    /// The signing out of the office.
+    Leave,
+    /// The orders, to be sent.
+    Orders,
 }
 
 /// What a target names.
@@ -33,6 +48,8 @@ pub(crate) enum Target {
     Leave { clerk: u32 },
     /// A resource that can be read.
     Resource(Resource),
+    /// Something of the officer's console.
+    Office(OfficeTarget),
 }
 
 /// Where a route leads.
@@ -112,6 +129,22 @@ fn named_at(place: RouteTarget, params: &Params<'_, '_>) -> Option<Target>
     }
 }
 
+/// Returns what of the officer's console a target names, if it names anything there.
+fn office_by(target: &[u8]) -> Option<OfficeTarget>
+    ensures { result ≡ office_by target.now }
+{
+    if target == "/office/".as_bytes() {
+        return Some(OfficeTarget::ConsolePage);
+    }
+    if target == "/office/leave".as_bytes() {
+        return Some(OfficeTarget::Leave);
+    }
+    if target == "/office/orders".as_bytes() {
+        return Some(OfficeTarget::Orders);
+    }
+    None
+}
+
 /// The seven routes. A server makes them once.
 #[derive(Drop)]
 pub struct Routes {
@@ -128,9 +161,9 @@ impl Routes {
         }
     }
 
-    /// Returns what a target names, if anything is served there. Allocates nothing.
-    pub(crate) fn named_by(&self, target: &[u8]) -> Option<Target>
-        ensures { result ≡ named_by target.now }
+    /// Returns what a target names by its route, if it has one. Allocates nothing.
+    fn routed_by(&self, target: &[u8]) -> Option<Target>
+        ensures { result ≡ routed_by target.now }
     {
         if !target.is_ascii() {
             return None;
@@ -141,6 +174,26 @@ impl Routes {
         match self.router.at(text) {
             Ok(found) => named_at(*found.value, &found.params),
             Err(_) => None,
+        }
+    }
+
+    /// Returns what a target names that isn't of the console itself: what the console reads, or what its route leads to.
+    fn read_or_routed(&self, target: &[u8]) -> Option<Target>
+        ensures { result ≡ read_or_routed (read_by target.now) target.now }
+    {
+        match read_by(target) {
+            Some(read) => Some(Target::Resource(Resource::Office(read))),
+            None => self.routed_by(target),
+        }
+    }
+
+    /// Returns what a target names, if anything is served there. Allocates nothing.
+    pub(crate) fn named_by(&self, target: &[u8]) -> Option<Target>
+        ensures { result ≡ named_by target.now }
+    {
+        match office_by(target) {
+            Some(place) => Some(Target::Office(place)),
+            None => self.read_or_routed(target),
         }
     }
 }

@@ -2,7 +2,7 @@
 
 ghost use Rattle.std.specs.Prelude.{◌≡◌, IfOk, map, string_bytes};
 ghost use Rattle.serde_json.specs.View.{view};
-ghost use Rattle.register.specs.Standings.{work_entry};
+ghost use Rattle.register.specs.Status.{work_entry};
 ghost use Rattle.wire.specs.Replies.{clerk_data, list_data, number_data, work_body, work_data};
 
 use paper::Columns;

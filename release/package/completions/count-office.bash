@@ -9,7 +9,9 @@ _count_office() {
     fi
     if [[ ${COMP_WORDS[1]} == - ]]; then
         if ((COMP_CWORD == 2)); then
-            mapfile -t COMPREPLY < <(compgen -W check -- "$word")
+            mapfile -t COMPREPLY < <(compgen -W 'check count' -- "$word")
+        elif [[ ${COMP_WORDS[2]} == count && $word == -* ]]; then
+            mapfile -t COMPREPLY < <(compgen -W 'COUNT_OPTIONS' -- "$word")
         else
             compopt -o filenames
             mapfile -t COMPREPLY < <(compgen -f -- "$word")

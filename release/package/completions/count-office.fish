@@ -12,5 +12,11 @@ function __count_office_gives -d 'Whether this order is given'
 end
 complete -c count-office -n '__count_office_words 1' -l help -d 'Print help'
 complete -c count-office -n '__count_office_words 1' -l version -d 'Print the version'
+function __count_office_counts -d 'Whether ballots are counted'
+    set -l words (commandline -opc)
+    test (count $words) -ge 3; and test "$words[2]" = -; and test "$words[3]" = count
+end
 complete -c count-office -n '__count_office_words 2; and __count_office_checks' -f -a check -d 'Check a sheet against its ballots'
+complete -c count-office -n '__count_office_words 2; and __count_office_checks' -f -a count -d 'Count ballots'
+# COUNT_OPTIONS
 # ORDERS

@@ -8,7 +8,13 @@ _count_office() {
     if ((CURRENT == 2)); then
         if [[ $PREFIX == -* ]]; then compadd -- --help --version; else _files; fi
     elif [[ $words[2] == - ]]; then
-        if ((CURRENT == 3)); then compadd check; else _files; fi
+        if ((CURRENT == 3)); then
+            compadd check count
+        elif [[ $words[3] == count && $PREFIX == -* ]]; then
+            compadd -- COUNT_OPTIONS
+        else
+            _files
+        fi
     elif ((CURRENT == 3)); then
         _describe order orders
     elif [[ $PREFIX == -* ]]; then

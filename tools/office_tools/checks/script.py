@@ -2,21 +2,27 @@
 
 A clerk is denied, lists batches, keys papers and sends them, and the office accepts the keying, refuses it, fails or doesn't answer. Then
 faults are planted in the page, one at a time: the test has to notice each. It needs `node` and Debian's `node-jsdom`. FILE is a page as a
-program serves it; without one it is the page of crates/keying_page.
+program serves it; without one it is the page of crates/keying_page. The script of the officer's console is only parsed:
+`tools/try console-evening` runs it.
 """
 import os
 import subprocess
 from pathlib import Path
 
-from office_tools.checks.page import page_of_sources
+from office_tools.checks.page import CONSOLE, inner, page_of_sources
 from office_tools.office import ROOT, Wrong, needs
 
 MODULES = Path("/usr/share/nodejs")
+
+
+def run(*words, text):
+    """Runs `node` with words and a text to read."""
+    return subprocess.run(["node", *words], env=os.environ | {"NODE_PATH": str(MODULES)}, input=text, text=True, check=False).returncode
 
 
 def main(file: Path = None):
     needs("node")
     if not (MODULES / "jsdom").exists():
         raise Wrong("jsdom is missing; on Debian: apt-get install node-jsdom")
-    page, words = file.read_text(encoding="utf-8") if file else page_of_sources()[0], ["node", ROOT / "tools/office_tools/page_script.js"]
-    return subprocess.run(words, env=os.environ | {"NODE_PATH": str(MODULES)}, input=page, text=True, check=False).returncode
+    parsed = run("--check", "-", text=inner(page_of_sources(CONSOLE)[0], "script"))
+    return run(ROOT / "tools/office_tools/page_script.js", text=file.read_text(encoding="utf-8") if file else page_of_sources()[0]) or parsed

@@ -5,8 +5,8 @@ import subprocess
 
 from office_tools.releasing.facts import fail, filled
 
-PAGES = ["INSTALLING", "ELECTION", "TELLERS", "AGENTS", "FORMATS", "ORDERS", "REFUSALS", "IMPORTS", "SHEETS", "BALLOTS", "RULES", "HTTP",
-         "DATABASE", "GLOSSARY"]
+PAGES = ["INSTALLING", "ELECTION", "CONSOLE", "TELLERS", "AGENTS", "FORMATS", "ORDERS", "REFUSALS", "IMPORTS", "SHEETS", "BALLOTS", "RULES",
+         "HTTP", "DATABASE", "GLOSSARY"]
 
 
 def slug(text):
@@ -44,7 +44,8 @@ def book(docs, version):
     text, contents = "", ""
     for name in PAGES:
         read = subprocess.run(["cmark-gfm", "--extension", "table", f"{docs}/{name}.md"], check=True, stdout=subprocess.PIPE, text=True)
-        page, headings = with_names(name, read.stdout)
+        # Pictures are files of their own, and the book is one file.
+        page, headings = with_names(name, re.sub(r"<p><img [^>]*></p>\n", "", read.stdout))
         text += with_links(name, page)
         contents += "".join('<li class="l{}"><a href="#{}">{}</a></li>\n'.format(*found) for found in headings if found[0] in "12")
     text = filled("book.html", VERSION=version, CONTENTS=contents, PAGES=text)

@@ -21,16 +21,17 @@ def quoted(text):
     return "'" + text.replace("\\", "\\\\").replace("'", "'\\''") + "'"
 
 
-def bash(orders):
+def bash(orders, counts):
     cases = (f'        {order.name}) options="{names_of(order.options)}" files={"yes" * order.takes_file()} ;;\n' for order in orders)
-    return filled("completions/count-office.bash", CASES="".join(cases), ORDERS=" ".join(order.name for order in orders))
+    return filled("completions/count-office.bash", CASES="".join(cases), ORDERS=" ".join(order.name for order in orders),
+                  COUNT_OPTIONS=names_of(counts))
 
 
-def zsh(orders):
+def zsh(orders, counts):
     names = "".join(f"        {quoted(order.name + ':' + order.about.replace(':', chr(92) + ':'))}\n" for order in orders)
     options = "".join(f"            ({order.name}) compadd -- {names_of(order.options)} ;;\n" for order in orders)
     with_files = "|".join(order.name for order in orders if order.takes_file())
-    return filled("completions/count-office.zsh", ORDERS=names, OPTIONS=options, FILES=with_files)
+    return filled("completions/count-office.zsh", ORDERS=names, OPTIONS=options, FILES=with_files, COUNT_OPTIONS=names_of(counts))
 
 
 def fish_options(command, options):
@@ -39,20 +40,22 @@ def fish_options(command, options):
                    for option in options)
 
 
-def fish(orders):
+def fish(orders, counts):
     offered = "complete -c count-office -n '__count_office_words 2; and not __count_office_checks' -f -a"
     lines = "".join(f"{offered} {order.name} -d {quoted(order.about)}\n" for order in orders)
     for order in orders:
         given = f"count-office -n '__count_office_gives {order.name}'"
         lines += "" if order.takes_file() else f"complete -c {given} -f\n"
         lines += fish_options(given, order.options[-1:] + order.long_options())
-    return filled("completions/count-office.fish", ORDERS=lines)
+    counting = fish_options("count-office -n __count_office_counts", counts)
+    return filled("completions/count-office.fish", ORDERS=lines, COUNT_OPTIONS=counting)
 
 
-def completions(orders, script):
+def completions(orders, check, script):
     """Returns {path: text} of the completions of both. Of the script, the options alone are offered."""
     options = items(sections(said(script, "--help"))["Options"])
-    own = {"bash": bash(orders), "zsh": zsh(orders), "fish": fish(orders)}
+    counts = items(sections(said(check, "--count", "--help"))["Options"])
+    own = {"bash": bash(orders, counts), "zsh": zsh(orders, counts), "fish": fish(orders, counts)}
     lan = {"bash": f"# What bash offers behind `{LAN}`.\ncomplete -W '{names_of(options)}' {LAN}\n",
            "zsh": f"#compdef {LAN}\n# What zsh offers behind `{LAN}`.\ncompadd -- {names_of(options)}\n",
            "fish": f"# What fish offers behind `{LAN}`.\n" + fish_options(f"{LAN} -f", options)}

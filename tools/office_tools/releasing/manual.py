@@ -22,14 +22,18 @@ def described(order):
 
 
 def pages(office, orders, check, script, **fields):
-    """Returns {path: text} of the manual pages of the program, the checker and the script, with the version and the date."""
+    """Returns {path: text} of the manual pages of the program, checks, counts and the script, with version and date."""
     told, found, lan = (sections(said(program, "--help")) for program in (office, check, script))
+    counted = sections(said(check, "--count", "--help"))
     words, statuses = found["Arguments"].split("\n\n")
+    count_options, count_statuses = counted["Options"].split("\n\n")
     about, sample = lan[""].replace(":", ".").split("\n")
     options, does, lan_statuses = lan["Options"].split("\n\n")
     made = {
         "count-office": {"ABOUT": escaped(told[""].partition("\n\n")[2]), "LISTED": "\n".join(map(described, orders))},
         "count-office-check": {"ABOUT": escaped(found[""]), "LISTED": listed(items(words)).rstrip(), "STATUSES": escaped(statuses)},
+        "count-office-count": {"ABOUT": escaped(counted[""]), "LISTED": listed(items(counted["Arguments"]) + items(count_options)).rstrip(),
+                               "STATUSES": escaped(count_statuses)},
         "count-office-lan": {"ABOUT": escaped(f"{about}\n{does}"), "LISTED": listed(items(lan["Arguments"]) + items(options)).rstrip(),
                              "SAMPLE": escaped(sample), "STATUSES": escaped(lan_statuses)},
     }

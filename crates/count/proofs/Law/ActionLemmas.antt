@@ -1,4 +1,4 @@
--- What an action is on, and how many there can be.
+-- The candidates of actions, and the maximum number of actions.
 use Rattle.std.proofs.Common.{◌≡◌, ℕ, ◌+◌, ◌-◌, ◌*◌, ◌<◌, ◌≤◌, ◌||◌, ◌&&◌, ◌⊎◌, inl, inr, Bool, true, false, not, cond, eqb, nat_eq, nat_lt, List, [], ◌∷◌, length, map, Option, Some, None}
 use Rattle.std.proofs.Common.{refl, sym, ap, ◌∙◌, arith, slice_index}
 use Rattle.std.specs.List.{list_any, filter, sum_by}
@@ -6,7 +6,7 @@ use Rattle.std.proofs.lemmas.Bool.{eq-eqb, eqb-true, ltb-true}
 use Rattle.std.proofs.lemmas.List.{get_or_default}
 use Rattle.std.proofs.lemmas.Map.Views.{Contains-from_any}
 use Rattle.std.proofs.lemmas.List.FromFn.{get_or-map-range_with_len}
-use Rattle.paper.specs.Columns.{IsColumnSet, IsColumn}
+use Rattle.paper.specs.Columns.{IsCandidateSet, IsColumn}
 use Rattle.count.specs.Law.Contest.{Contest, History, IsContest, In, newest_votes, numbers}
 use Rattle.count.specs.Law.Right.{IsRight, IsRightBy, IsNext, Tells}
 use Rattle.count.specs.Law.Due.{due_after, due_for, drawn, among, with_surplus, highest, lowest, action_on, lot_for, is_above}
@@ -30,12 +30,12 @@ in_choice c x p xs true false e same ih h = ih (ap (λ t. t || list_any (nat_eq 
 in_choice c x p xs false true e same ih h = ((ih h).0, refl)
 in_choice c x p xs false false e same ih h = ih h
 
--- what is in a filter passes the test, and is in the list
+-- a member of a filtered list passes the test, and is in the list
 pub in-filter : (c : ℕ) (p : ℕ → Bool) (xs : List ℕ) → In c (filter p xs) → (p c ≡ true) × In c xs
 in-filter c p [] h = cc
 in-filter c p (x ∷ xs) h = in_choice c x p xs (p x) (eqb c x) refl refl (in-filter c p xs) h
 
--- an action that is drawn is on one of the group
+-- an action that is drawn is on a member of the group
 pub record IsOn (contest : Contest) (stages : History) (kind : TiedFor) (group : List ℕ) (action : Action) : Type 0 where
   pub candidate : ℕ
   pub in_group : In candidate group
@@ -54,7 +54,7 @@ drawn-among contest stages lot kind (c ∷ []) action h = record { candidate = c
 drawn-among contest stages None kind (c ∷ d ∷ tied) action h = cc
 drawn-among contest stages (Some x) kind (c ∷ d ∷ tied) action h = drawn_lot contest stages kind (c ∷ d ∷ tied) x _ action refl h
 
--- the action is a surplus of one who has it, or an exclusion of one who continues
+-- the action is a surplus of a candidate who has one, or an exclusion of one who continues
 drawn-due_for : (contest : Contest) (stages : History) (lot : Option ℕ) (group : List ℕ) (action : Action) →
     drawn contest stages lot (due_for contest stages group) ≡ Some action →
     IsOn contest stages of_surplus group action ⊎ IsOn contest stages of_exclusion (continuing_after contest stages) action
@@ -81,7 +81,7 @@ pub drawn-due : (contest : Contest) (s : Stage) (before : History) (lot : Option
     IsOn contest (s ∷ before) of_surplus (with_surplus contest (s ∷ before)) action ⊎ IsOn contest (s ∷ before) of_exclusion (continuing_after contest (s ∷ before)) action
 drawn-due contest s before lot action h = drawn_choice contest (s ∷ before) lot _ (with_surplus contest (s ∷ before)) action h
 
--- one more passes a weaker test
+-- one more element passes a weaker test
 count_choice : (p q : ℕ → Bool) (x : ℕ) (xs : List ℕ) (a b : Bool) → (a ≡ true → b ≡ true) →
     (n m : ℕ) → n ≤ m → length (cond a (x ∷ []) []) + n ≤ length (cond b (x ∷ []) []) + m
 count_choice p q x xs true true h n m le = omega (arith, le)
@@ -115,19 +115,19 @@ pub filter-more : (p q : ℕ → Bool) (c : ℕ) (xs : List ℕ) → ((y : ℕ) 
 filter-more p q c [] weaker fails passes h = cc
 filter-more p q c (x ∷ xs) weaker fails passes h = more_choice p q c x xs (eqb c x) weaker fails passes refl (filter-more p q c xs weaker fails passes) h
 
--- a member of a set of columns is one
-pub column-in : (c : ℕ) (xs : List ℕ) → IsColumnSet xs → In c xs → IsColumn c
+-- a member of a set of columns is a column
+pub column-in : (c : ℕ) (xs : List ℕ) → IsCandidateSet xs → In c xs → IsColumn c
 column-in c xs set h =
     let at = Contains-from_any {eq = eqb} eqb-true c xs h in
     let same : slice_index xs at.0 ≡ c = get_or_default xs at.0 0 c at.1 ∙ at.2 in
     let column = set.within at.0 at.1 in
     (omega (arith, column.0, same), omega (arith, column.1, same))
 
--- what a list made over the numbers has for a number
+-- the element for a number in a list made over the numbers
 pub at_number : (f : ℕ → ℕ) (c : ℕ) → IsColumn c → slice_index (map f numbers) (c - 1) ≡ f c
 at_number f c column = get_or-map-range_with_len f 1 30 (c - 1) c 0 (omega (arith, column.0, column.1)) (omega (arith, column.0))
 
--- a candidate whose surplus has gone has just the quota
+-- a candidate whose surplus is transferred has exactly the quota
 not_twice : (contest : Contest) (s : Stage) (before : History) (c : ℕ) (b : Bool) →
     Tells contest before s → IsColumn c → is_transferred (s ∷ before) c ≡ b →
     nat_lt contest.quota (newest_votes (s ∷ before) c) ≡ true → b ≡ false
@@ -137,7 +137,7 @@ not_twice contest s before c true tells column gone more =
     absurd (omega (arith, ltb-true _ _ more, told, quota_left))
 not_twice contest s before c false tells column gone more = refl
 
--- how many candidates have been transferred, and how many excluded
+-- the number of candidates transferred, plus the number excluded
 unfoldable pub acted : Contest → History → ℕ
 acted contest stages = length (filter (is_transferred stages) contest.candidates) + length (filter (is_excluded stages) contest.candidates)
 
@@ -185,7 +185,7 @@ length-acted contest handed (s ∷ []) fair right = omega arith
 length-acted contest handed (s ∷ s' ∷ before) fair right =
     omega (arith, length-acted contest handed (s' ∷ before) fair right.0, acted-more contest s s' before (handed (s' ∷ before) s) fair right.0.1.tells right.1)
 
--- a right history has at most two stages for each candidate, and one
+-- a right history has at most two stages for each candidate, plus one
 pub stages-bound : (contest : Contest) (handed : History → Stage → Option ℕ) (stages : History) → IsContest contest → IsRightBy contest handed stages →
     length stages ≤ 2 * length contest.candidates + 1
 unfolding acted
@@ -195,7 +195,7 @@ stages-bound contest handed stages fair right =
 pub length-right : (contest : Contest) (lots : List (ℕ × ℕ)) (stages : History) → IsContest contest → IsRight contest lots stages → length stages ≤ 2 * length contest.candidates + 1
 length-right contest lots stages fair right = stages-bound contest (λ before s. lot_for lots (length before + 1)) stages fair right
 
--- each stage that is added brings the end nearer, by whichever name the contest goes
+-- each added stage comes closer to the end, under any name of the contest
 pub steps-smaller : (contest contest' contest'' : Contest) (lots : List (ℕ × ℕ)) (old new : History) →
     contest' ≡ contest → contest'' ≡ contest → IsContest contest → IsRight contest lots old → AdvancesBy contest lots old new →
     2 * length contest''.candidates + 2 - length new < 2 * length contest'.candidates + 2 - length old

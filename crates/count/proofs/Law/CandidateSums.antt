@@ -1,11 +1,11 @@
--- Sums over candidates who differ.
+-- Sums over distinct candidates.
 use Rattle.std.proofs.Common.{◌≡◌, ℕ, ◌+◌, ◌*◌, ◌≤◌, ◌||◌, Bool, true, false, cond, eqb, nat_eq, List, [], ◌∷◌, length, refl, sym, ap, ◌∙◌, arith, subst}
 use Rattle.std.specs.List.{sum_by, list_any, filter, IsDistinct, AllByRecursion}
 use Rattle.std.proofs.lemmas.List.Sums.{sum_by-cons, sum_by-le-sum_by}
 use Rattle.std.proofs.lemmas.List.Kept.{AllPairs-from_increasing}
 use Rattle.std.proofs.lemmas.Map.Keys.{IsDistinct-from_apart, IsDistinct-head, IsDistinct-tail}
 use Rattle.std.proofs.lemmas.Bool.{eqb-true, ne_eqb, eq-eqb}
-use Rattle.paper.specs.Columns.{IsColumnSet}
+use Rattle.paper.specs.Columns.{IsCandidateSet}
 use Rattle.count.specs.Law.Contest.{Contest, History}
 use Rattle.count.specs.Law.Places.{place}
 use Rattle.count.specs.Law.Figures.{value_with}
@@ -13,8 +13,8 @@ use Rattle.count.proofs.SumLemmas.{sum_by-same, sum_by-add, sum_by-none}
 use Rattle.count.proofs.Law.ValueLemmas.{all_values, held}
 use Rattle.count.proofs.ChoiceLemmas.{within_value}
 
--- the members of a set of columns differ
-pub columns-distinct : (cs : List ℕ) → IsColumnSet cs → IsDistinct eqb cs
+-- the members of a set of columns are distinct
+pub columns-distinct : (cs : List ℕ) → IsCandidateSet cs → IsDistinct eqb cs
 columns-distinct cs set = IsDistinct-from_apart eqb cs (λ i j d up within.
     ne_eqb _ _ (λ same. let less = AllPairs-from_increasing cs set.ascending i j d up within in omega (arith, less, same)))
 
@@ -26,7 +26,7 @@ at_choice : (d c v n : ℕ) (cs : List ℕ) (b t : Bool) → eqb d c ≡ b → (
 at_choice d c v n cs true t same none rest = omega (arith, none (eqb-true d c same))
 at_choice d c v n cs false t same none rest = omega (arith, rest)
 
--- among numbers that differ, one is counted once, or not at all
+-- among distinct numbers, one is counted once, or not at all
 pub sum-one : (d v : ℕ) (cs : List ℕ) → IsDistinct eqb cs → sum_by (λ c. cond (eqb d c) v 0) cs ≡ cond (list_any (nat_eq d) cs) v 0
 sum-one d v [] h = refl
 sum-one d v (c ∷ cs) h =
@@ -35,7 +35,7 @@ sum-one d v (c ∷ cs) h =
     (λ same. at_none d v cs (subst (λ k. AllByRecursion (λ y. eqb k y ≡ false) cs) (sym same) (IsDistinct-head eqb c cs h)))
     (sum-one d v cs (IsDistinct-tail eqb c cs h))
 
--- a sum of sums, the other way round
+-- a double sum in the other order
 pub sum-swap : {X : Type 0} (f : ℕ → X → ℕ) (cs : List ℕ) (xs : List X) → sum_by (λ c. sum_by (f c) xs) cs ≡ sum_by (λ x. sum_by (λ c. f c x) cs) xs
 sum-swap f [] xs = sym (sum_by-none (λ x. 0) xs (λ x. refl))
 sum-swap f (c ∷ cs) xs =
@@ -44,7 +44,7 @@ sum-swap f (c ∷ cs) xs =
     ∙ sym (sum_by-add (f c) (λ x. sum_by (λ d. f d x) cs) xs)
     ∙ sum_by-same _ _ xs (λ x. sym (sum_by-cons (λ d. f d x) c cs))
 
--- what numbers that differ hold is within the values of all
+-- what distinct numbers hold is at most the values of all papers
 pub held-within : (contest : Contest) (stages : History) (cs : List ℕ) → IsDistinct eqb cs → sum_by (held contest stages) cs ≤ all_values contest stages
 held-within contest stages cs differ =
     let swapped = sum-swap (λ c p. value_with c (place contest stages p)) cs contest.papers in
@@ -52,13 +52,13 @@ held-within contest stages cs differ =
     (λ p. let at = place contest stages p in let one = sum-one at.holder at.value cs differ in omega (arith, one, within_value (list_any (nat_eq at.holder) cs) at.value)) in
     omega (arith, swapped, each)
 
--- what one number holds is within the values of all
+-- what one number holds is at most the values of all papers
 pub one-within : (contest : Contest) (stages : History) (c : ℕ) → held contest stages c ≤ all_values contest stages
 one-within contest stages c =
     sum_by-le-sum_by (λ p. value_with c (place contest stages p)) (λ p. (place contest stages p).value) contest.papers
     (λ p. let at = place contest stages p in within_value (eqb at.holder c) at.value)
 
--- smaller at each member, smaller in sum
+-- a function that is smaller on each member has a smaller sum
 pub sum-le : (f g : ℕ → ℕ) (xs : List ℕ) → ((c : ℕ) → list_any (nat_eq c) xs ≡ true → f c ≤ g c) → sum_by f xs ≤ sum_by g xs
 sum-le f g [] h = omega arith
 sum-le f g (x ∷ xs) h =
@@ -75,7 +75,7 @@ filter_choice true x n l = omega (arith, mul_more (length l) n)
     mul_more k m = grind arith
 filter_choice false x n l = omega arith
 
--- as many times a number as pass a test
+-- a number, times how many members pass a test
 pub sum-filter : (p : ℕ → Bool) (n : ℕ) (xs : List ℕ) → length (filter p xs) * n ≡ sum_by (λ c. cond (p c) n 0) xs
 sum-filter p n [] = omega arith
 sum-filter p n (x ∷ xs) =

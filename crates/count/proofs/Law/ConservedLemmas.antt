@@ -1,4 +1,4 @@
--- After each stage figures, non-transferable and lost make up a vote for each paper.
+-- After each stage the figures, the non-transferable and the loss add up to one vote for each paper.
 use Rattle.std.proofs.Common.{◌≡◌, ℕ, ◌+◌, ◌*◌, ◌<◌, ◌≤◌, ◌&&◌, ◌⊎◌, inl, inr, Bool, true, false, not, cond, eqb, nat_eq, List, [], ◌∷◌, length, Option, refl, ap, ◌∙◌, arith}
 use Rattle.std.specs.List.{list_any, sum_by, AllByRecursion}
 use Rattle.std.proofs.lemmas.Bool.{cases_order}
@@ -59,7 +59,7 @@ moved_holder contest before (Surplus d) p at of h = passed_holder contest before
 moved_holder contest before (Exclude d) p at of h = passed_holder contest before d p at _ (eqb at.holder d) h
 moved_holder contest before (ExcludeLast d) p at of h = h
 
--- whoever holds a paper is a candidate
+-- the holder of a paper is a candidate
 pub holder-known : (contest : Contest) (stages : History) (p : List ℕ) → AllByRecursion (λ c. In c contest.candidates) p → IsHolder contest.candidates (place contest stages p).holder
 holder-known contest [] p of = inl refl
 holder-known contest (s ∷ before) p of = moved_holder contest before s.action p (place contest before p) of (holder-known contest before p of)
@@ -72,7 +72,7 @@ one_holder candidates at true e some h =
 one_holder candidates at false e some (inl is_zero) = omega (arith, at_equal at.holder 0 at.value 0 is_zero)
 one_holder candidates at false e some (inr found) = cc
 
--- equal at each paper for candidates, equal in sum
+-- functions that are equal on papers for candidates have equal sums
 pub sum-of : (candidates : List ℕ) (papers : List (List ℕ)) → AreForCandidates candidates papers → (f g : List ℕ → ℕ) → ((p : List ℕ) → AllByRecursion (λ c. In c candidates) p → f p ≡ g p) →
     sum_by f papers ≡ sum_by g papers
 sum-of candidates [] of f g h = refl
@@ -97,7 +97,7 @@ action_passed (Surplus d) c h = h
 action_passed (Exclude d) c h = cc
 action_passed (ExcludeLast d) c h = cc
 
--- one whose surplus has gone has passed his papers on
+-- a candidate whose surplus is transferred has passed all papers on
 pub transferred-passed : (stages : History) (c : ℕ) → is_transferred stages c ≡ true → has_passed stages c ≡ true
 transferred-passed [] c h = cc
 transferred-passed (s ∷ before) c h =
@@ -108,7 +108,7 @@ votes_split : (contest : Contest) (stages : History) (c : ℕ) (b : Bool) → (b
 votes_split contest stages c true h = omega (arith, h refl)
 votes_split contest stages c false h = omega arith
 
--- The votes of the candidates, what no one holds and what is lost make up a vote for each paper.
+-- The votes of the candidates, what no one holds and the loss add up to one vote for each paper.
 pub votes-conserved : (contest : Contest) (handed : History → Stage → Option ℕ) (s : Stage) (before : History) → IsContest contest → IsRightBy contest handed (s ∷ before) →
     AreRankings contest.papers →
     sum_by (votes_after contest (s ∷ before)) contest.candidates + non_transferable_after contest (s ∷ before) + lost_after contest (s ∷ before) ≡ one_vote * length contest.papers
@@ -123,7 +123,7 @@ votes-conserved contest handed s before fair right rankings =
     let split = sum_by-add (λ c. cond (is_transferred stages c) contest.quota 0) (held contest stages) contest.candidates in
     omega (arith, below, above, split, held-all contest stages fair, values-conserved contest handed s before fair right)
 
--- After each stage the figures of the candidates, the non-transferable and the lost make up a vote for each paper.
+-- After each stage the figures of the candidates, the non-transferable and the loss add up to one vote for each paper.
 pub figures-conserved : (contest : Contest) (handed : History → Stage → Option ℕ) (s : Stage) (before : History) → IsContest contest → IsRightBy contest handed (s ∷ before) →
     AreRankings contest.papers →
     sum_by (votes_at s) contest.candidates + s.non_transferable + s.lost ≡ one_vote * length contest.papers
@@ -134,7 +134,7 @@ figures-conserved contest handed s before fair right rankings =
     let above = sum-le (votes_after contest (s ∷ before)) (votes_at s) contest.candidates (λ c k. omega (arith, told c k)) in
     omega (arith, below, above, right.1.tells.non_transferable_told, right.1.tells.lost_told, votes-conserved contest handed s before fair right rankings)
 
--- The same after each stage.
+-- The same for every stage.
 pub all-conserved : (contest : Contest) (handed : History → Stage → Option ℕ) (stages : History) → IsContest contest → IsRightBy contest handed stages → AreRankings contest.papers →
     IsConserved contest stages
 all-conserved contest handed [] fair right rankings = tt

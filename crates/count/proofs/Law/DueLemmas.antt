@@ -28,13 +28,13 @@ stage-choice : (contest : Contest) (stages : History) (b : Bool) (group : List �
 stage-choice contest stages true group n k tied h = cc
 stage-choice contest stages false group n k tied h = stage-due_for contest stages group n k tied h
 
--- a lot is for the stage after those that are done
+-- a lot is for the stage after those done
 pub stage-due : (contest : Contest) (stages : History) (n : ℕ) (k : TiedFor) (tied : List ℕ) →
     due_after contest stages ≡ Lot n k tied → n ≡ length stages + 1
 stage-due contest [] n k tied h = cc
 stage-due contest (s ∷ before) n k tied h = stage-choice contest (s ∷ before) _ _ n k tied h
 
--- a lot makes no difference where none is needed
+-- a lot makes no difference if none is needed
 pub any_lot : (contest : Contest) (old new : History) (action : Action) (lot lot' : Option ℕ) →
     due_after contest old ≡ Act action → Advances contest old lot new → Advances contest old lot' new
 any_lot contest old new action lot lot' is_act h =
@@ -49,7 +49,7 @@ any_lot contest old new action lot lot' is_act h =
 
 pub ruleset due_lot = (stage-due, any_lot)
 
--- what is done with a group, by its size
+-- the action on a group, by its size
 pub among-one : (contest : Contest) (stages : History) (kind : TiedFor) (group : List ℕ) → length group ≡ 1 →
     Act (action_on contest stages kind (slice_index group 0)) ≡ among contest stages kind group
 among-one contest stages kind [] h = absurd (omega (arith, h))
@@ -74,7 +74,7 @@ due-some contest stages (c ∷ rest) h = refl
 
 pub ruleset due_sizes = (due-none, due-some)
 
--- what is due after a newest stage, by whether a vacancy is left
+-- what is due after a newest stage, by whether a vacancy remains
 pub due-ended : (contest : Contest) (stages before : History) (s : Stage) → stages ≡ s ∷ before → vacancies_after contest stages ≡ 0 → Finished ≡ due_after contest stages
 due-ended contest stages before s is none =
     subst (λ x. vacancies_after contest x ≡ 0 → Finished ≡ due_after contest x) (sym is)

@@ -1,4 +1,4 @@
--- A finished count has filled all seats, and until then somebody continues.
+-- A finished count has filled all seats, and until then some candidate continues.
 use Rattle.std.proofs.Common.{◌≡◌, ℕ, ◌+◌, ◌<◌, ◌≤◌, ◌==◌, ◌||◌, ◌&&◌, ◌⊎◌, inl, inr, Bool, true, false, not, cond, eqb, nat_eq, nat_le, List, [], ◌∷◌, length, Option, Some, None, refl, sym}
 use Rattle.std.proofs.Common.{ap, ◌∙◌, arith, subst}
 use Rattle.std.specs.List.{list_any, filter}
@@ -7,7 +7,7 @@ use Rattle.std.proofs.lemmas.List.Sums.{sum_by-le-sum_by}
 use Rattle.count.specs.Law.Contest.{Contest, History, IsContest, votes_at}
 use Rattle.count.specs.Advance.{end_of, end_after}
 use Rattle.count.specs.Law.Laws.{FillsSeats, IsAmongSeveral}
-use Rattle.count.specs.declared.run.CountEnd.TheVariants.{Finished as has_finished, LotNotAmong as misses_lot}
+use Rattle.count.specs.declared.count_to_end.CountEnd.TheVariants.{Finished as has_finished, LotNotAmong as misses_lot}
 use Rattle.count.specs.Law.Right.{IsRightBy}
 use Rattle.count.specs.Law.Due.{lot_for, due_after, due_for, among, with_surplus, highest, lowest}
 use Rattle.count.specs.Law.Elected.{continuing_after, elected_after, vacancies_after, is_excluded, has_reached, undecided_fill, with_quota, undecided, excludes}
@@ -30,7 +30,7 @@ split_choice true e x n w u l a b h = omega (arith, h)
 split_choice false true x n w u l a b h = h
 split_choice false false x n w u l a b h = omega (arith, h)
 
--- those who pass a test or not another are those who pass the first, and those who pass neither
+-- the members that pass a test or fail another are those that pass the first, and those that pass neither
 split-length : (r e : ℕ → Bool) (xs : List ℕ) → length (filter (λ c. r c || not (e c)) xs) ≡ length (filter r xs) + length (filter (λ c. not (r c) && not (e c)) xs)
 split-length r e [] = omega arith
 split-length r e (x ∷ xs) = split_choice (r x) (e x) x 0 0 0 _ (filter r xs) (filter (λ c. not (r c) && not (e c)) xs) (split-length r e xs)
@@ -69,7 +69,7 @@ unfilled_choice : (contest : Contest) (stages : History) (b : Bool) → undecide
 unfilled_choice contest stages true full left = absurd (eqb-false _ _ left (omega (arith, elected_filled contest stages full)))
 unfilled_choice contest stages false full left = refl
 
--- where a vacancy is left, the undecided don't fill the seats
+-- if a vacancy remains, the undecided don't fill the seats
 pub vacant-unfilled : (contest : Contest) (stages : History) → (vacancies_after contest stages == 0) ≡ false → undecided_fill contest stages ≡ false
 vacant-unfilled contest stages left = unfilled_choice contest stages _ refl left
 
@@ -138,7 +138,7 @@ all_race : (contest : Contest) (cs : List ℕ) → length (filter (λ c. has_rea
 all_race contest [] = refl
 all_race contest (c ∷ cs) = omega (arith, all_race contest cs)
 
--- Those with the quota and the undecided are always enough for the seats.
+-- The candidates with the quota and the undecided are always enough for the seats.
 pub race-enough : (contest : Contest) (handed : History → Stage → Option ℕ) (stages : History) → IsContest contest → IsRightBy contest handed stages → contest.seats ≤ length (in_race contest stages)
 unfolding in_race
 race-enough contest handed [] fair right = omega (arith, all_race contest contest.candidates, fair.contested)
@@ -163,7 +163,7 @@ finished_choice : (contest : Contest) (s : Stage) (before : History) (b : Bool) 
 finished_choice contest s before true full few h = omega (arith, eqb-true _ _ full, few_elected contest (s ∷ before) _ refl few)
 finished_choice contest s before false left few h = absurd (never_due contest (s ∷ before) (with_surplus contest (s ∷ before)) h)
 
--- A count is finished where exactly as many are elected as there are seats.
+-- If a count is finished, exactly as many are elected as there are seats.
 pub finished-elected : (contest : Contest) (handed : History → Stage → Option ℕ) (stages : History) → IsContest contest → IsRightBy contest handed stages →
     due_after contest stages ≡ Finished → length (elected_after contest stages) ≡ contest.seats
 finished-elected contest handed [] fair right h = cc
@@ -193,7 +193,7 @@ several_choice contest s before false left enough =
     let others : length (continuing_after contest stages) ≡ length (undecided contest stages) = ap length (continuing_unfilled contest stages open_) in
     due_several contest stages (with_surplus contest stages) (omega (arith, seats_left, chosen, others, enough, race-parts contest stages))
 
--- While a vacancy is left somebody continues; so where a lot is due, two or more are tied.
+-- While a vacancy remains some candidate continues; so if a lot is due, two or more are tied.
 pub lots-several : (contest : Contest) (handed : History → Stage → Option ℕ) (stages : History) → IsContest contest → IsRightBy contest handed stages → IsAmongSeveral (due_after contest stages)
 lots-several contest handed [] fair right = tt
 lots-several contest handed (s ∷ before) fair right = several_choice contest s before _ refl (race-enough contest handed (s ∷ before) fair right)
@@ -208,7 +208,7 @@ end_finished (Some c) (Lot n kind tied) h = not_finished (list_any (nat_eq c) ti
     not_finished true n h = cc
     not_finished false n h = cc
 
--- so is a count that ended because it was finished
+-- the same for a count that ended because it was finished
 pub finished-filled : (contest : Contest) (handed : History → Stage → Option ℕ) (lots : List (ℕ × ℕ)) (stages : History) → IsContest contest → IsRightBy contest handed stages →
     end_after contest lots stages ≡ Some has_finished → FillsSeats contest stages
 finished-filled contest handed lots stages fair right h = finished-elected contest handed stages fair right (end_finished (lot_for lots (length stages + 1)) (due_after contest stages) h)

@@ -1,4 +1,4 @@
--- Who was named as elected is elected, and the marks of a stage tell who is.
+-- A candidate named as elected is elected, and the marks of a stage show who is elected.
 use Rattle.std.proofs.Common.{◌≡◌, ℕ, ◌-◌, ◌<◌, ◌≤◌, ◌==◌, ◌||◌, ◌&&◌, ◌⊎◌, inl, inr, Bool, true, false, not, cond, eqb, nat_eq, nat_le, List, [], ◌∷◌, length, refl, sym, ap, ◌∙◌, arith, Option}
 use Rattle.std.specs.List.{list_any, filter, sum_by}
 use Rattle.std.proofs.lemmas.Bool.{eqb-true, leb-false, lt-leb, ne_eqb}
@@ -20,7 +20,7 @@ use Rattle.count.proofs.Law.StepLemmas.{IsSurplus, IsExclusion, step-is, step-fi
 use Rattle.count.proofs.Law.ValueLemmas.{held}
 use Rattle.count.proofs.Law.LengthLemmas.{not_reached, transferred-reached}
 
--- ---- who is elected stays elected
+-- ---- the elected stay elected
 
 all-pass : (xs : List ℕ) → length (filter (λ c. true && true) xs) ≡ length xs
 all-pass [] = refl
@@ -30,7 +30,7 @@ none-pass : (xs : List ℕ) → length (filter (λ c. false) xs) ≡ 0
 none-pass [] = refl
 none-pass (x ∷ xs) = none-pass xs
 
--- before the first stage nobody is elected: there are more candidates than seats
+-- before the first stage no candidate is elected, because there are more candidates than seats
 unfilled-first : (contest : Contest) → IsContest contest → undecided_fill contest [] ≡ false
 unfilled-first contest fair =
     ne_eqb _ _ (λ same. omega (arith, same, all-pass contest.candidates, none-pass contest.candidates, fair.contested))
@@ -38,7 +38,7 @@ unfilled-first contest fair =
 pub none-elected : (contest : Contest) (c : ℕ) → IsContest contest → is_elected contest [] c ≡ false
 none-elected contest c fair = ap (λ b. false || (b && not (is_excluded [] c))) (unfilled-first contest fair)
 
--- where a stage follows, only those who have reached the quota are elected
+-- if another stage follows, only those who have reached the quota are elected
 open-elected : (contest : Contest) (stages : History) (c : ℕ) → undecided_fill contest stages ≡ false → is_elected contest stages c ≡ has_reached contest stages c
 open-elected contest stages c open_ = ap (λ b. has_reached contest stages c || (b && not (is_excluded stages c))) open_ ∙ or_none (has_reached contest stages c)
   where
@@ -57,7 +57,7 @@ elected-stays contest handed s before c fair right h =
     let reached : has_reached contest before c ≡ true = sym (open-elected contest before c (before-open contest handed s before fair right)) ∙ h in
     reached-elected contest (s ∷ before) c (or_later (nat_le contest.quota (votes_at s c)) (has_reached contest before c) reached)
 
--- ---- who is named
+-- ---- candidates named as elected
 
 -- a member of a list is in the filter of a filter exactly if it passes both
 filtered_choice : (c : ℕ) (p q : ℕ → Bool) (xs : List ℕ) (b t : Bool) → q c ≡ b → list_any (nat_eq c) (filter p (filter q xs)) ≡ t → In c xs → t ≡ (b && p c)
@@ -80,9 +80,9 @@ named-elected contest handed (s ∷ before) c fair right known =
     ∙ ap (λ b. (is_elected contest (s ∷ before) c && not (is_elected contest before c)) || b) (named-elected contest handed before c fair right.0 known)
     ∙ named_choice (is_elected contest (s ∷ before) c) (is_elected contest before c) (elected-stays contest handed s before c fair right)
 
--- ---- who is acted on
+-- ---- candidates acted on
 
--- an exclusion gives nothing to the excluded
+-- an exclusion transfers nothing to the excluded candidate
 still_at : (d next : ℕ) (at : Place) (b : Bool) → eqb at.holder d ≡ b →
     value_with d (let new : Place = cond b (record { holder = next; value = at.value }) at in new) ≤ value_with d at
 still_at d next at true e =
@@ -114,7 +114,7 @@ not_gone : (contest : Contest) (handed : History → Stage → Option ℕ) (stag
 not_gone contest handed stages d true gone right out = let k = reached-elected contest stages d (transferred-reached contest handed stages d right gone) in cc
 not_gone contest handed stages d false gone right out = refl
 
--- whoever is excluded isn't elected then: his votes are no more than before, and those were below the quota
+-- an excluded candidate isn't elected then: the votes are no more than before, and those were below the quota
 excluded_step : (contest : Contest) (handed : History → Stage → Option ℕ) (s s' : Stage) (before : History) (d : ℕ) → IsContest contest → IsRightBy contest handed (s ∷ s' ∷ before) →
     IsSurplus contest (s' ∷ before) s.action ⊎ IsExclusion contest (s' ∷ before) s.action → excludes s.action d ≡ true → is_elected contest (s ∷ s' ∷ before) d ≡ false
 excluded_step contest handed s s' before d fair right (inl on) h = let none : false ≡ true = ap (λ a. excludes a d) (sym on.is) ∙ h in cc
@@ -153,7 +153,7 @@ excluded-unelected contest handed s [] d fair right h = let none : false ≡ tru
 excluded-unelected contest handed s (s' ∷ before) d fair right h =
     excluded_step contest handed s s' before d fair right (step-is contest s' before (handed (s' ∷ before) s) s.action right.1.was_due) h
 
--- whoever's surplus is transferred is elected
+-- a candidate whose surplus is transferred is elected
 surplus_step : (contest : Contest) (handed : History → Stage → Option ℕ) (s s' : Stage) (before : History) (d : ℕ) → IsContest contest → IsRightBy contest handed (s ∷ s' ∷ before) →
     IsSurplus contest (s' ∷ before) s.action ⊎ IsExclusion contest (s' ∷ before) s.action → transfers s.action d ≡ true → is_elected contest (s ∷ s' ∷ before) d ≡ true
 surplus_step contest handed s s' before d fair right (inl on) h =

@@ -1,4 +1,4 @@
--- Whoever has passed his papers on holds none.
+-- A candidate who has passed all papers on holds none.
 use Rattle.std.proofs.Common.{◌≡◌, ℕ, ◌<◌, ◌≤◌, ◌==◌, ◌||◌, ◌&&◌, ◌⊎◌, inl, inr, Bool, true, false, not, cond, eqb, nat_le, List, [], ◌∷◌, drop, Option, refl, sym, ap, ◌∙◌, arith}
 use Rattle.std.specs.List.{list_any}
 use Rattle.std.proofs.lemmas.Bool.{eqb-true, eqb-false, eq-eqb, le-leb}
@@ -24,7 +24,7 @@ use Rattle.count.proofs.ChoiceLemmas.{or_later}
 abbrev pub has_passed : History → ℕ → Bool
 has_passed stages c = list_any (λ s. passes_on s.action c) stages
 
--- what comes first of those that pass a test passes it, and is of the list
+-- the first element that passes a test passes it, and is in the list
 first_choice : (test : ℕ → Bool) (x c : ℕ) (xs : List ℕ) (b : Bool) → test x ≡ b → first_of (cond b (x ∷ xs) (from_first test xs)) ≡ c →
     (first_of (from_first test xs) ≡ c → (test c ≡ true) × (list_any (λ d. d == c) xs ≡ true)) → (test c ≡ true) × ((eqb x c || list_any (λ d. d == c) xs) ≡ true)
 first_choice test x c xs true e same later = (ap test (sym same) ∙ e, ap (λ b. b || list_any (λ d. d == c) xs) (eq-eqb x c same))
@@ -39,12 +39,12 @@ after_choice : (x c : ℕ) (xs : List ℕ) (b : Bool) → eqb x c ≡ b → list
 after_choice x c xs true e apart later = ap (λ y. list_any (λ d. d == y) xs) (sym (eqb-true x c e)) ∙ apart
 after_choice x c xs false e apart later = later
 
--- in a ranking nobody stands after himself
+-- in a ranking no candidate follows itself
 after-apart : (c : ℕ) (p : List ℕ) → IsRanking p → list_any (λ d. d == c) (after c p) ≡ false
 after-apart c [] r = refl
 after-apart c (x ∷ xs) r = after_choice x c xs (eqb x c) refl r.2 (after-apart c xs r.3)
 
--- why one who passed his papers on before gets none: he holds none, and doesn't continue
+-- the reason why a candidate who passed all papers on before receives none: the candidate holds none, and doesn't continue
 abbrev IsApart : Contest → History → Place → ℕ → Type 0
 IsApart contest before at c = (at.holder ≡ c → ⊥) × (is_continuing contest before c ≡ false)
 
@@ -83,7 +83,7 @@ moved_gone contest s' before action c p at (inl on) r some old h held_by =
     (ap (λ a. (moved contest (s' ∷ before) a p at).holder) (sym on.is) ∙ held_by)
 moved_gone contest s' before action c p at (inr on) r some old h held_by = excluded_gone contest (s' ∷ before) action on.c c p at _ on.is r some old h held_by
 
--- one who has passed his papers on has reached the quota or is excluded
+-- a candidate who has passed all papers on has reached the quota or is excluded
 IsOut : Contest → History → ℕ → Type 0
 IsOut contest stages c = (has_reached contest stages c ≡ true) ⊎ (is_excluded stages c ≡ true)
 
@@ -96,7 +96,7 @@ exclusion_both : (b : Bool) (d c : ℕ) → passes_on (cond b (ExcludeLast d) (E
 exclusion_both true d c h = cc
 exclusion_both false d c h = h
 
--- who has more than the quota has reached it
+-- a candidate with more than the quota has reached it
 pub above-reached : (contest : Contest) (s : Stage) (before : History) (c : ℕ) → contest.quota < newest_votes (s ∷ before) c → has_reached contest (s ∷ before) c ≡ true
 above-reached contest s before c above = ap (λ b. b || has_reached contest before c) (le-leb contest.quota (votes_at s c) (omega (arith, above)))
 
@@ -140,7 +140,7 @@ out_continuing contest stages c true e (inr h) =
     never false h = cc
 out_continuing contest stages c false e out = refl
 
--- One who has passed his papers on holds none afterwards.
+-- A candidate who has passed all papers on holds none afterwards.
 pub passed-gone : (contest : Contest) (handed : History → Stage → Option ℕ) (stages : History) → IsRightBy contest handed stages → (p : List ℕ) → IsRanking p → (c : ℕ) → 1 ≤ c →
     has_passed stages c ≡ true →
     (place contest stages p).holder ≡ c → ⊥
@@ -152,7 +152,7 @@ passed-gone contest handed (s ∷ s' ∷ before) right p r c some h held_by =
     moved_gone contest s' before s.action c p (place contest (s' ∷ before) p) (step-is contest s' before (handed (s' ∷ before) s) s.action right.1.was_due) r some
     (λ k. (passed-gone contest handed (s' ∷ before) right.0 p r c some k, out_continuing contest (s' ∷ before) c _ refl (passed-out contest handed (s' ∷ before) right.0 c k))) h held_by
 
--- so the values that he holds are none
+-- so the values that the candidate holds are none
 pub passed-held : (contest : Contest) (handed : History → Stage → Option ℕ) (stages : History) → IsRightBy contest handed stages → AreRankings contest.papers → (c : ℕ) → 1 ≤ c →
     has_passed stages c ≡ true →
     held contest stages c ≡ 0

@@ -1,4 +1,4 @@
--- No more candidates than seats reach the quota, and who has reached it keeps it.
+-- No more candidates than seats reach the quota, and those who have reached it keep it.
 use Rattle.std.proofs.Common.{◌≡◌, ℕ, ◌+◌, ◌*◌, ◌/◌, ◌<◌, ◌≤◌, ◌||◌, ◌⊎◌, inl, inr, Bool, true, false, cond, eqb, nat_le, List, [], ◌∷◌, length, Option, refl, sym, ap, ◌∙◌, arith}
 use Rattle.std.specs.List.{filter, sum_by}
 use Rattle.std.proofs.lemmas.Bool.{leb-true, eqb-true, cases_order}
@@ -29,7 +29,7 @@ differs : (contest : Contest) (stages : History) (d c : ℕ) (b : Bool) → eqb 
 differs contest stages d c true same out in_ = let e = ap (is_elected contest stages) (eqb-true d c same) in cc
 differs contest stages d c false same out in_ = refl
 
--- nothing is taken from one who has reached the quota, but a surplus
+-- nothing but a surplus is taken from a candidate who has reached the quota
 pub takes-not : (contest : Contest) (s : Stage) (before : History) (action : Action) (c : ℕ) → IsSurplus contest (s ∷ before) action ⊎ IsExclusion contest (s ∷ before) action →
     has_reached contest (s ∷ before) c ≡ true → transfers action c ≡ false → takes action c ≡ false
 takes-not contest s before action c (inl on) reached stays = ap (λ a. takes a c) on.is ∙ (ap (λ a. transfers a c) (sym on.is) ∙ stays)
@@ -61,7 +61,7 @@ kept_choice : (contest : Contest) (s : Stage) (before : History) (c : ℕ) (b : 
 kept_choice contest s before c true e later h = leb-true contest.quota (votes_at s c) e
 kept_choice contest s before c false e later h = later h
 
--- The votes of one who has reached the quota never fall below it.
+-- The votes of a candidate who has reached the quota never fall below it.
 pub reached-kept : (contest : Contest) (handed : History → Stage → Option ℕ) (stages : History) → IsContest contest → IsRightBy contest handed stages →
     (c : ℕ) → In c contest.candidates → has_reached contest stages c ≡ true → contest.quota ≤ newest_votes stages c
 reached-kept contest handed [] fair right c is_candidate reached = cc
@@ -69,7 +69,7 @@ reached-kept contest handed (s ∷ before) fair right c is_candidate reached =
     kept_choice contest s before c (nat_le contest.quota (votes_at s c)) refl
     (kept_later contest handed s before fair right c is_candidate (reached-kept contest handed before fair right.0 c is_candidate)) reached
 
--- the quotas that stay with those whose surplus has gone
+-- the quotas that remain with those whose surplus is transferred
 abbrev pub quotas_left : Contest → History → ℕ
 quotas_left contest stages = sum_by (λ c. cond (is_transferred stages c) contest.quota 0) contest.candidates
 
@@ -77,7 +77,7 @@ left_choice : (a t : Bool) (q : ℕ) → (a ≡ true → t ≡ false) → cond (
 left_choice true t q h = let e = ap (λ b. cond b q 0) (h refl) in omega (arith, e)
 left_choice false t q h = omega arith
 
--- a surplus leaves a quota more
+-- a surplus leaves one more quota
 pub quotas_more : (contest : Contest) (s : Stage) (before : History) (d : ℕ) → IsContest contest → s.action ≡ Surplus d → In d contest.candidates → is_transferred before d ≡ false →
     quotas_left contest (s ∷ before) ≡ contest.quota + quotas_left contest before
 quotas_more contest s before d fair is is_candidate fresh =
@@ -117,7 +117,7 @@ step_values contest s s' before fair tells (inl on) =
     omega (arith, conserved, more)
 step_values contest s s' before fair tells (inr on) = excluded_same contest s (s' ∷ before) on.c _ on.is
 
--- The values of all papers, the quotas that stay and what is lost make up a vote for each paper.
+-- The values of all papers, the quotas that remain and the loss add up to one vote for each paper.
 pub values-conserved : (contest : Contest) (handed : History → Stage → Option ℕ) (s : Stage) (before : History) → IsContest contest → IsRightBy contest handed (s ∷ before) →
     all_values contest (s ∷ before) + quotas_left contest (s ∷ before) + lost_after contest (s ∷ before) ≡ one_vote * length contest.papers
 values-conserved contest handed s [] fair right = first_values contest s (step-first contest (handed [] s) s.action right.1.was_due)
@@ -129,7 +129,7 @@ values-conserved contest handed s (s' ∷ before) fair right =
           (step-is contest s' before (handed (s' ∷ before) s) s.action right.1.was_due),
     )
 
--- the same where the newest stage has its action alone
+-- the same if the newest stage has only its action
 pub values-conserved-next : (contest : Contest) (handed : History → Stage → Option ℕ) (s : Stage) (before : History) → IsContest contest → IsRightBy contest handed before →
     IsDue contest before s.action →
     all_values contest (s ∷ before) + quotas_left contest (s ∷ before) + lost_after contest (s ∷ before) ≡ one_vote * length contest.papers
@@ -141,7 +141,7 @@ votes_parts : (contest : Contest) (stages : History) (c : ℕ) (b : Bool) → co
 votes_parts contest stages c true = omega arith
 votes_parts contest stages c false = omega arith
 
--- the votes of all candidates are within a vote for each paper
+-- the votes of all candidates are at most one vote for each paper
 pub votes-within : (contest : Contest) (handed : History → Stage → Option ℕ) (s : Stage) (before : History) → IsContest contest → IsRightBy contest handed (s ∷ before) →
     sum_by (votes_after contest (s ∷ before)) contest.candidates ≤ one_vote * length contest.papers
 votes-within contest handed s before fair right =
@@ -171,7 +171,7 @@ few_order w n seats q (inr (inr h)) all is =
 few_enough : (w n seats q : ℕ) → w * q ≤ one_vote * n → q ≡ one_vote * (n / (seats + 1) + 1) → w ≤ seats
 few_enough w n seats q all is = few_order w n seats q (cases_order w seats) all is
 
--- Not more candidates than seats reach the quota.
+-- No more candidates than seats reach the quota.
 pub few-reach : (contest : Contest) (handed : History → Stage → Option ℕ) (stages : History) → IsContest contest → IsRightBy contest handed stages →
     length (with_quota contest stages) ≤ contest.seats
 few-reach contest handed [] fair right = omega (arith, none contest.candidates)

@@ -1,4 +1,4 @@
--- Of two right lists of stages one is a beginning of the other, and a count is the only one.
+-- Of two right lists of stages one is a prefix of the other, and there is only one count.
 use Rattle.std.proofs.Common.{◌≡◌, ℕ, ◌+◌, ◌-◌, Bool, true, false, not, cond, ◌≤◌, inl, inr, drop, eqb, nat_eq, List, [], ◌∷◌, length, map, Option, Some, None, refl, sym, ap, ◌∙◌, arith}
 use Rattle.std.proofs.Common.{subst, suc, zero, length-drop}
 use Rattle.std.specs.List.{sum_by, filter, list_any}
@@ -12,8 +12,8 @@ use Rattle.count.specs.Law.Elected.{elected_after, is_elected, is_transferred}
 use Rattle.count.specs.Law.Right.{Tells, IsRight, IsCount, reordered, IsBeginning, BeginsEachRight, EqualsEachCount, IsWholeCount, OneBeginsOther}
 use Rattle.count.specs.Law.Count.{stage_of}
 use Rattle.count.specs.Advance.{AdvancesBy, end_of, end_after}
-use Rattle.count.specs.declared.run.CountEnd.{CountEnd}
-use Rattle.count.specs.declared.run.CountEnd.TheVariants.{LotNotAmong}
+use Rattle.count.specs.declared.count_to_end.CountEnd.{CountEnd}
+use Rattle.count.specs.declared.count_to_end.CountEnd.TheVariants.{LotNotAmong}
 use Rattle.std.proofs.Math.Nat.{eq-or-lt_of_le}
 use Rattle.std.proofs.lemmas.Bool.{cases_order}
 use Rattle.count.specs.declared.stages.Due.{Due}
@@ -23,7 +23,7 @@ use Rattle.count.specs.declared.stages.Action.{Action}
 use Rattle.count.specs.declared.stages.Action.TheVariants.{First, Surplus, Exclude, ExcludeLast}
 use Rattle.count.proofs.SumLemmas.{sum_by-same}
 
--- what a stage tells is made of its action and the stages before it
+-- a stage is determined by its action and the earlier stages
 pub is_told : (contest : Contest) (before : History) (s : Stage) → Tells contest before s → s ≡ stage_of contest before s.action
 is_told contest before s tells =
     let bare : Stage = record { action = s.action; votes = []; elected = []; non_transferable = 0; lost = 0 } in
@@ -57,7 +57,7 @@ is_told contest before s tells =
 some_same : (a b : Action) (o : Option Action) → o ≡ Some a → o ≡ Some b → a ≡ b
 some_same a b o h k = cc
 
--- Of two right histories of one length each is the other.
+-- Two right histories of the same length are equal.
 pub right_same : (contest : Contest) (lots : List (ℕ × ℕ)) (xs ys : History) → IsRight contest lots xs → IsRight contest lots ys → length xs ≡ length ys → xs ≡ ys
 right_same contest lots [] [] h k e = refl
 right_same contest lots [] (y ∷ ys) h k e = absurd (omega (arith, e))
@@ -77,7 +77,7 @@ pub same_place : (contest : Contest) (papers : List (List ℕ)) (stages : Histor
 same_place contest papers [] p = refl
 same_place contest papers (s ∷ before) p = same_moved contest papers before s.action p _ _ (same_place contest papers before p)
 
--- what is added up over the papers at their places is the same in any order
+-- a sum over the papers at their places is the same in any order
 same_sum : (contest : Contest) (papers : List (List ℕ)) (stages : History) (f : List ℕ → Place → ℕ) → IsPermutation contest.papers papers →
     sum_by (λ p. f p (place (reordered contest papers) stages p)) papers ≡ sum_by (λ p. f p (place contest stages p)) contest.papers
 same_sum contest papers stages f order =
@@ -120,7 +120,7 @@ same_tells contest papers before s order tells = record {
   lost_told = tells.lost_told ∙ same_lost contest papers (s ∷ before) order;
 }
 
--- A history that is right for the papers in one order is right for them in another.
+-- A history that is right for the papers in one order is right for them in any other.
 pub right_reordered : (contest : Contest) (lots : List (ℕ × ℕ)) (papers : List (List ℕ)) (stages : History) → IsPermutation contest.papers papers →
     IsRight (reordered contest papers) lots stages → IsRight contest lots stages
 right_reordered contest lots papers [] order right = tt
@@ -132,7 +132,7 @@ right_drop contest lots zero stages right = right
 right_drop contest lots (suc k) [] right = tt
 right_drop contest lots (suc k) (s ∷ before) right = right_drop contest lots k before right.0
 
--- where nothing comes next, no right history is longer
+-- if nothing comes next, no right history is longer
 longest : (contest : Contest) (lots : List (ℕ × ℕ)) (whole stages : History) → IsRight contest lots whole → next_action contest lots whole ≡ None →
     IsRight contest lots stages → length stages ≤ length whole
 longest contest lots whole [] right_whole ended right = omega arith
@@ -155,7 +155,7 @@ ended-next contest stages lot Finished end h = refl
 ended-next contest stages None (Lot n k tied) end h = refl
 ended-next contest stages (Some c) (Lot n k tied) end h = ended_among (list_any (nat_eq c) tied) (LotNotAmong n) (action_on contest stages k c) end h
 
--- Where a count ends, each right history of its papers, in any order, is a beginning of it.
+-- If a count has ended, each right history of its papers, in any order, is a prefix of it.
 begins_each_right : (contest : Contest) (lots : List (ℕ × ℕ)) (whole : History) (end : CountEnd) → IsRight contest lots whole → end_after contest lots whole ≡ Some end →
     BeginsEachRight contest lots whole
 begins_each_right contest lots whole end right ended papers stages order right_stages =
@@ -172,7 +172,7 @@ beginning contest lots stages whole right right_whole within = record {
   is = right_same contest lots _ stages (right_drop contest lots (length whole - length stages) whole right_whole) right (length-drop (length whole - length stages) whole ∙ omega (arith, within));
 }
 
--- Of two right histories one is a beginning of the other.
+-- Of two right histories one is a prefix of the other.
 pub one_begins : (contest : Contest) (lots : List (ℕ × ℕ)) → OneBeginsOther contest lots
 one_begins contest lots papers one other order right_one right_other =
     let here = right_reordered contest lots papers other order right_other in
@@ -182,7 +182,7 @@ one_begins contest lots papers one other order right_one right_other =
       | inr (inr more) ↦ inr (beginning contest lots other one here right_one (omega (arith, more)))
     ]
 
--- Where a count ends, each count of its papers, in any order, is it.
+-- If a count has ended, each count of its papers, in any order, equals it.
 equals_each : (contest : Contest) (lots : List (ℕ × ℕ)) (whole : History) → IsCount contest lots whole → EqualsEachCount contest lots whole
 equals_each contest lots whole count papers stages order other =
     let here = right_reordered contest lots papers stages order other.0 in
@@ -190,13 +190,13 @@ equals_each contest lots whole count papers stages order other =
     let above = longest contest lots stages whole here other.1 count.0 in
     right_same contest lots stages whole here count.0 (omega (arith, within, above))
 
--- Where a count ends, it is whole.
+-- If a count has ended, it is whole.
 pub whole_count : (contest : Contest) (lots : List (ℕ × ℕ)) (whole : History) (end : CountEnd) → IsRight contest lots whole → end_after contest lots whole ≡ Some end → IsWholeCount contest lots whole
 whole_count contest lots whole end right ended =
     let count : IsCount contest lots whole = (right, ended-next contest whole (lot_for lots (length whole + 1)) (due_after contest whole) end ended) in
     record { ended = count; begins_each = begins_each_right contest lots whole end right ended; equals_each = equals_each contest lots whole count }
 
--- a history is a beginning of itself, and stays one where a stage is added
+-- a history is a prefix of itself, and remains one if a stage is added
 pub begins_itself : (stages : History) → IsBeginning stages stages
 begins_itself stages =
     let none : length stages - length stages ≡ 0 = omega arith in

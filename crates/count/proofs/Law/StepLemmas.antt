@@ -1,4 +1,4 @@
--- What each stage comes after, and what it tells.
+-- What precedes each stage, and what it records.
 use Rattle.std.proofs.Common.{◌≡◌, ℕ, ◌-◌, ◌<◌, ◌==◌, ◌||◌, ◌&&◌, ◌⊎◌, inl, inr, Bool, true, false, not, cond, nat_lt, List, [], ◌∷◌, Option, Some, refl, sym, ap, ◌∙◌, arith, slice_index}
 use Rattle.std.proofs.lemmas.Bool.{ltb-true}
 use Rattle.count.specs.Law.Contest.{Contest, History, newest_votes, In}
@@ -15,7 +15,7 @@ use Rattle.count.proofs.Law.ValueLemmas.{held}
 use Rattle.paper.specs.Columns.{IsColumn}
 use Rattle.count.proofs.ChoiceLemmas.{and_true, not_true}
 
--- an action on one of the elected, who has more than the quota
+-- an action on an elected candidate with more than the quota
 pub record IsSurplus (contest : Contest) (stages : History) (action : Action) : Type 0 where
   pub c : ℕ
   pub is_candidate : In c contest.candidates
@@ -23,7 +23,7 @@ pub record IsSurplus (contest : Contest) (stages : History) (action : Action) : 
   pub elected : is_elected contest stages c ≡ true
   pub above : contest.quota < newest_votes stages c
 
--- an action on one who continues
+-- an action on a continuing candidate
 pub record IsExclusion (contest : Contest) (stages : History) (action : Action) : Type 0 where
   pub c : ℕ
   pub is_candidate : In c contest.candidates
@@ -31,7 +31,7 @@ pub record IsExclusion (contest : Contest) (stages : History) (action : Action) 
   pub not_elected : is_elected contest stages c ≡ false
   pub not_excluded : is_excluded stages c ≡ false
 
--- what comes after a stage is the surplus of one of the elected or the exclusion of one who continues
+-- what follows a stage is the surplus of an elected candidate or the exclusion of a continuing one
 pub step-is : (contest : Contest) (s : Stage) (before : History) (lot : Option ℕ) (action : Action) →
     drawn contest (s ∷ before) lot (due_after contest (s ∷ before)) ≡ Some action → IsSurplus contest (s ∷ before) action ⊎ IsExclusion contest (s ∷ before) action
 step-is contest s before lot action h =
@@ -52,7 +52,7 @@ vacant_choice : (contest : Contest) (stages : History) (lot : Option ℕ) (group
 vacant_choice contest stages lot group action true h = cc
 vacant_choice contest stages lot group action false h = refl
 
--- an action comes only where a vacancy is left
+-- an action follows only if a vacancy remains
 pub step-vacant : (contest : Contest) (s : Stage) (before : History) (lot : Option ℕ) (action : Action) →
     drawn contest (s ∷ before) lot (due_after contest (s ∷ before)) ≡ Some action → (vacancies_after contest (s ∷ before) == 0) ≡ false
 step-vacant contest s before lot action h = vacant_choice contest (s ∷ before) lot (with_surplus contest (s ∷ before)) action _ h
@@ -61,15 +61,15 @@ step-vacant contest s before lot action h = vacant_choice contest (s ∷ before)
 pub step-first : (contest : Contest) (lot : Option ℕ) (action : Action) → drawn contest [] lot (due_after contest []) ≡ Some action → action ≡ First
 step-first contest lot action h = cc
 
--- what a stage tells of a candidate
+-- what a stage records of a candidate
 pub told-votes : (contest : Contest) (s : Stage) (before : History) (c : ℕ) → Tells contest before s → IsColumn c → newest_votes (s ∷ before) c ≡ votes_after contest (s ∷ before) c
 told-votes contest s before c tells column = ap (λ vs. slice_index vs (c - 1)) tells.votes_told ∙ at_number (votes_after contest (s ∷ before)) c column
 
--- who has reached the quota is elected
+-- a candidate who has reached the quota is elected
 pub reached-elected : (contest : Contest) (stages : History) (c : ℕ) → has_reached contest stages c ≡ true → is_elected contest stages c ≡ true
 reached-elected contest stages c h = ap (λ b. b || (undecided_fill contest stages && not (is_excluded stages c))) h
 
--- the votes of one whose surplus has gone, and of another
+-- the votes of a candidate whose surplus is transferred, and of another
 pub votes-transferred : (contest : Contest) (stages : History) (c : ℕ) → is_transferred stages c ≡ true → votes_after contest stages c ≡ contest.quota
 votes-transferred contest stages c h = ap (λ b. cond b contest.quota (held contest stages c)) h
 
@@ -82,7 +82,7 @@ fresh_choice contest s before c true tells column gone more =
     absurd (omega (arith, more, told-votes contest s before c tells column, votes-transferred contest (s ∷ before) c gone))
 fresh_choice contest s before c false tells column gone more = refl
 
--- one who has more than the quota has not been transferred, and holds what was told
+-- a candidate with more than the quota has not been transferred, and holds what was recorded
 pub surplus-fresh : (contest : Contest) (s : Stage) (before : History) (c : ℕ) → Tells contest before s → IsColumn c → contest.quota < newest_votes (s ∷ before) c →
     is_transferred (s ∷ before) c ≡ false
 surplus-fresh contest s before c tells column more = fresh_choice contest s before c _ tells column refl more

@@ -1,4 +1,4 @@
--- In a group that is not empty somebody is highest, and somebody lowest.
+-- In a nonempty group some member is highest, and some member is lowest.
 use Rattle.std.proofs.Common.{◌≡◌, ℕ, ◌||◌, Bool, true, false, not, cond, eqb, nat_eq, List, [], ◌∷◌, refl, ap, ◌∙◌, Ordering}
 use Rattle.std.specs.List.{list_any, filter}
 use Rattle.std.specs.Ordering.{is_lt}
@@ -16,25 +16,25 @@ keep_choice c x p xs true false is same passes later h = ap (λ t. t || list_any
 keep_choice c x p xs false true is same passes later h = let e = ap p (eqb-true c x same) in cc
 keep_choice c x p xs false false is same passes later h = later h
 
--- a member that passes the test is in the filter
+-- a member that passes the test is in the filtered list
 pub filter-in : (c : ℕ) (p : ℕ → Bool) (xs : List ℕ) → p c ≡ true → In c xs → In c (filter p xs)
 filter-in c p [] passes h = cc
 filter-in c p (x ∷ xs) passes h = keep_choice c x p xs (p x) (eqb c x) refl refl passes (filter-in c p xs passes) h
 
--- what no member passes
+-- a test that no member passes
 pub none-any : (p : ℕ → Bool) (xs : List ℕ) → ((d : ℕ) → In d xs → p d ≡ false) → list_any p xs ≡ false
 none-any p [] h = refl
 none-any p (x ∷ xs) h =
     ap (λ b. b || list_any p xs) (h x (ap (λ b. b || list_any (nat_eq x) xs) (eq-eqb x x refl)))
     ∙ none-any p xs (λ d k. h d (or_later (nat_eq d x) (list_any (nat_eq d) xs) k))
 
--- a member of a group whom none of it beats
+-- a member of a group that no other member beats
 record IsUnbeaten (beats : ℕ → ℕ → Bool) (group : List ℕ) : Type 0 where
   pub c : ℕ
   pub is_member : In c group
   pub unbeaten : (d : ℕ) → In d group → beats d c ≡ false
 
--- nobody beats himself, and who is beaten is beaten by those who beat the winner
+-- no member beats itself, and beating is transitive
 pub record IsContested (beats : ℕ → ℕ → Bool) : Type 0 where
   pub never_self : (c : ℕ) → beats c c ≡ false
   pub through : (a b c : ℕ) → beats a b ≡ true → beats b c ≡ true → beats a c ≡ true
@@ -69,7 +69,7 @@ some-unbeaten beats x [] laws = record {
 }
 some-unbeaten beats x (y ∷ ys) laws = stronger beats x (y ∷ ys) _ laws (some-unbeaten beats y ys laws) refl
 
--- in a group that isn't empty some are unbeaten
+-- in a nonempty group some members are unbeaten
 pub best-some : (beats : ℕ → ℕ → Bool) (x : ℕ) (xs : List ℕ) → IsContested beats → filter (λ c. not (list_any (λ d. beats d c) (x ∷ xs))) (x ∷ xs) ≡ [] → ⊥
 best-some beats x xs laws empty =
     let best = some-unbeaten beats x xs laws in

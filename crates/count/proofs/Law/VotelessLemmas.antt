@@ -1,4 +1,4 @@
--- Numbers that are no candidates have no votes: they hold no paper, and no surplus of theirs is transferred.
+-- Numbers that aren't candidates have no votes: they hold no paper, and have no surplus that is transferred.
 use Rattle.std.proofs.Common.{◌≡◌, ℕ, ◌≤◌, ◌||◌, ◌⊎◌, inl, inr, Bool, true, false, cond, nat_eq, List, [], ◌∷◌, Option, refl, sym, ap, ◌∙◌, arith}
 use Rattle.std.specs.List.{list_any}
 use Rattle.std.proofs.lemmas.Bool.{eqb-true}
@@ -29,7 +29,7 @@ held_none contest stages c fair some other =
     (λ p of. worth_other contest.candidates c (place contest stages p) some other (holder-known contest stages p of))
     ∙ sum_by-none (λ p. 0) contest.papers (λ p. refl)
 
--- whoever's surplus an action transfers is a candidate
+-- only a candidate's surplus is transferred
 transfers_known : (contest : Contest) (stages : History) (action : Action) (c : ℕ) → IsSurplus contest stages action ⊎ IsExclusion contest stages action → transfers action c ≡ true →
     In c contest.candidates
 transfers_known contest stages action c (inl on) h =

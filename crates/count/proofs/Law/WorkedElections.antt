@@ -9,7 +9,7 @@ use Rattle.count.specs.declared.stages.Stage.{Stage}
 use Rattle.count.specs.declared.stages.Action.{Action}
 use Rattle.count.specs.declared.stages.Action.TheVariants.{First, Surplus, Exclude, ExcludeLast}
 
--- so many papers alike
+-- a number of equal papers
 abbrev times : ℕ → List ℕ → List (List ℕ)
 times n paper = replicate n paper
 
@@ -22,7 +22,7 @@ stage action votes elected non_transferable lost =
 abbrev figure : ℕ → ℕ → ℕ → Figure
 figure candidate units mark = record { candidate = candidate; units = units; mark = mark }
 
--- Two seats: a surplus whose values are cut to 0.33333, and an exclusion that fills the last vacancy.
+-- Two seats: a surplus whose values are rounded down to 0.33333, and an exclusion that fills the last vacancy.
 abbrev fractions : Contest
 fractions = contest_for (1 ∷ 2 ∷ 3 ∷ []) 2
     (times 4 (1 ∷ 2 ∷ []) ++ times 2 (1 ∷ 3 ∷ []) ++ times 1 (2 ∷ []) ++ times 2 (3 ∷ []))
@@ -51,7 +51,7 @@ fractions_right_3 = (fractions_right_2, record { was_due = refl; tells = record 
 fractions_count : IsCount fractions fractions_lots fractions_3
 fractions_count = (fractions_right_3, refl)
 
--- what its stages show: a surplus is marked 3 at its own stage, and 1 before and after
+-- the figures of its stages: a surplus is marked 3 at its own stage, and 1 before and after
 fractions_shown_1 : figures_at (1 ∷ 2 ∷ 3 ∷ []) fractions_1 ≡ figure 0 0 0 ∷ figure 1 600000 1 ∷ figure 2 100000 0 ∷ figure 3 200000 0 ∷ figure 99 0 0 ∷ []
 fractions_shown_1 = refl
 
@@ -61,7 +61,7 @@ fractions_shown_2 = refl
 fractions_shown_3 : figures_at (1 ∷ 2 ∷ 3 ∷ []) fractions_3 ≡ figure 0 0 0 ∷ figure 1 400000 1 ∷ figure 2 233332 5 ∷ figure 3 266666 1 ∷ figure 99 2 0 ∷ []
 fractions_shown_3 = refl
 
--- Three seats: a second surplus cuts each paper at the value at which it came, 1.00000 or 0.50000.
+-- Three seats: a second surplus multiplies each paper's value when received, 1.00000 or 0.50000.
 abbrev two_surpluses : Contest
 two_surpluses = contest_for (1 ∷ 2 ∷ 3 ∷ 4 ∷ 5 ∷ []) 3
     (times 7 (1 ∷ 2 ∷ 3 ∷ []) ++ times 1 (1 ∷ 4 ∷ []) ++ times 3 (2 ∷ 3 ∷ []) ++ times 1 (3 ∷ []) ++ times 2 (4 ∷ []) ++ times 1 (5 ∷ []))
@@ -102,7 +102,7 @@ two_surpluses_right_5 = (two_surpluses_right_4, record { was_due = refl; tells =
 two_surpluses_count : IsCount two_surpluses two_surpluses_lots two_surpluses_5
 two_surpluses_count = (two_surpluses_right_5, refl)
 
--- what its last stages show: an exclusion with transfer is marked 4 at its own stage, and 2 after it
+-- the figures of its last stages: an exclusion with transfer is marked 4 at its own stage, and 2 after it
 two_surpluses_shown_4 : figures_at (1 ∷ 2 ∷ 3 ∷ 4 ∷ 5 ∷ []) two_surpluses_4 ≡
     figure 0 100000 0 ∷ figure 1 400000 1 ∷ figure 2 400000 1 ∷ figure 3 349993 0 ∷ figure 4 250000 0 ∷ figure 5 0 4 ∷ figure 99 7 0 ∷ []
 two_surpluses_shown_4 = refl
@@ -111,7 +111,7 @@ two_surpluses_shown_5 : figures_at (1 ∷ 2 ∷ 3 ∷ 4 ∷ 5 ∷ []) two_surplu
     figure 0 100000 0 ∷ figure 1 400000 1 ∷ figure 2 400000 1 ∷ figure 3 349993 1 ∷ figure 4 250000 5 ∷ figure 5 0 2 ∷ figure 99 7 0 ∷ []
 two_surpluses_shown_5 = refl
 
--- One seat: a tie for exclusion is settled by the first stage, at which the two differed.
+-- One seat: a tie for exclusion is decided by the first stage, at which the two differed.
 abbrev earlier_stage : Contest
 earlier_stage = contest_for (1 ∷ 2 ∷ 3 ∷ 4 ∷ []) 1
     (times 5 (1 ∷ []) ++ times 3 (2 ∷ []) ++ times 2 (3 ∷ []) ++ times 1 (4 ∷ 3 ∷ []))
@@ -191,7 +191,7 @@ lot_for_surplus_worked_out : stages_to lot_for_surplus lot_for_surplus_lots 5 �
 unfolding stages_to
 lot_for_surplus_worked_out = refl
 
--- One seat: the most recent stage at which two differed decides, and not the first.
+-- One seat: the most recent stage at which two differed decides, not the first.
 abbrev most_recent_stage : Contest
 most_recent_stage = contest_for (1 ∷ 2 ∷ 3 ∷ 4 ∷ 5 ∷ []) 1
     (times 10 (1 ∷ []) ++ times 5 (2 ∷ []) ++ times 4 (3 ∷ []) ++ times 2 (4 ∷ 3 ∷ []) ++ times 2 (5 ∷ []) ++ times 1 (5 ∷ 2 ∷ []))
@@ -273,7 +273,7 @@ passed_over_right_5 = (passed_over_right_4, record { was_due = refl; tells = rec
 passed_over_count : IsCount passed_over passed_over_lots passed_over_5
 passed_over_count = (passed_over_right_5, refl)
 
--- One seat: of three who are tied the first stage at which one had fewest, going back, excludes him; then the next.
+-- One seat: of three tied candidates, one is excluded by the latest stage at which one had the fewest votes; then the next.
 abbrev three_tied : Contest
 three_tied = contest_for (1 ∷ 2 ∷ 3 ∷ 4 ∷ 5 ∷ 6 ∷ []) 1
     (times 9 (1 ∷ []) ++ times 2 (2 ∷ []) ++ times 3 (3 ∷ []) ++ times 4 (4 ∷ []) ++ times 1 (5 ∷ 2 ∷ []) ++ times 1 (6 ∷ 2 ∷ []) ++ times 1 (6 ∷ 3 ∷ []))
@@ -320,7 +320,7 @@ three_tied_right_6 = (three_tied_right_5, record { was_due = refl; tells = recor
 three_tied_count : IsCount three_tied three_tied_lots three_tied_6
 three_tied_count = (three_tied_right_6, refl)
 
--- One seat: two who were equal at all stages, of whom a lot excludes one.
+-- One seat: two candidates were equal at all stages, and a lot excludes one of them.
 abbrev lot_for_exclusion : Contest
 lot_for_exclusion = contest_for (1 ∷ 2 ∷ 3 ∷ []) 1
     (times 4 (1 ∷ []) ++ times 2 (2 ∷ []) ++ times 2 (3 ∷ []))
@@ -349,7 +349,7 @@ lot_for_exclusion_right_3 = (lot_for_exclusion_right_2, record { was_due = refl;
 lot_for_exclusion_count : IsCount lot_for_exclusion lot_for_exclusion_lots lot_for_exclusion_3
 lot_for_exclusion_count = (lot_for_exclusion_right_3, refl)
 
--- Two seats: two have exactly the quota, and are elected without a surplus.
+-- Two seats: two candidates have exactly the quota, and are elected without a surplus.
 abbrev exactly_quota : Contest
 exactly_quota = contest_for (1 ∷ 2 ∷ 3 ∷ []) 2
     (times 4 (1 ∷ 3 ∷ []) ++ times 4 (2 ∷ 3 ∷ []) ++ times 1 (3 ∷ []))
@@ -366,7 +366,7 @@ exactly_quota_right_1 = (tt, record { was_due = refl; tells = record { votes_tol
 exactly_quota_count : IsCount exactly_quota exactly_quota_lots exactly_quota_1
 exactly_quota_count = (exactly_quota_right_1, refl)
 
--- One seat and no papers: a lot decides between two without votes.
+-- One seat and no papers: a lot decides between two candidates without votes.
 abbrev no_papers : Contest
 no_papers = contest_for (1 ∷ 2 ∷ []) 1
     []

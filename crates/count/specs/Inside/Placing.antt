@@ -1,4 +1,4 @@
--- How bundles of equal papers lie with their holders, what they are worth, and where they go.
+-- The holders of bundles of equal papers, their worth, and their transfer.
 use Rattle.std.specs.Prelude.{◌≡◌, ℕ, ◌+◌, ◌-◌, ◌*◌, ◌≤◌, ◌==◌, ◌||◌, Bool, if◌then◌else◌, List, [], ◌∷◌, map, slice_index}
 use Rattle.votes.specs.Units.{one_vote}
 use Rattle.paper.specs.Columns.{max_candidates}
@@ -6,7 +6,7 @@ use Rattle.paper.specs.Standing.{from_first}
 use Rattle.count.specs.Advance.{IsDue}
 use Rattle.count.specs.Bundles.{Bundle, papers_of, AreBundles}
 use Rattle.count.specs.Books.{contest_of}
-use Rattle.count.specs.Kept.{places_after}
+use Rattle.count.specs.StoredCounts.{places_after}
 use Rattle.count.specs.Law.Contest.{Contest, History, IsContest, numbers}
 use Rattle.count.specs.Law.Count.{begun}
 use Rattle.count.specs.Law.Elected.{transfers, is_transferred}
@@ -21,11 +21,11 @@ use Rattle.count.specs.declared.stages.Action.TheVariants.{First, Surplus, Exclu
 use Rattle.count.specs.declared.stages.Stage.{Stage}
 use Rattle.count.specs.declared.terms.Terms.{Terms}
 
--- the contest of these terms and of the papers that bundles stand for
+-- the contest of these terms and of the papers that bundles represent
 abbrev pub contest_on : Terms → List Bundle → Contest
 contest_on terms bundles = contest_of terms (papers_of bundles)
 
--- what always holds of a book by bundles: each bundle lies where the law has its papers
+-- the invariant of a book by bundles: each bundle is where the law puts its papers
 pub record IsBundled (contest : Contest) (history : History) (bundles : List Bundle) (places : List Placed) : Type 0 where
   pub fair : IsContest contest
   pub right : IsRightByItself contest history
@@ -38,51 +38,51 @@ pub record IsDueInBook (contest : Contest) (history : History) (bundles : List B
   pub book : IsBundled contest history bundles places
   pub due : IsDue contest history action
 
--- a holder is a number that a candidate may have, or 0, and a value is at most one vote
+-- the holder is a number that a candidate can have, or 0, and the value is at most one vote
 abbrev pub IsSound : Placed → Type 0
 IsSound at = (at.holder ≤ max_candidates) × (at.value ≤ one_vote)
 
--- what a paper is worth, and what it is worth to a holder
+-- the worth of a paper, and its worth to a holder
 abbrev pub value_of : Placed → ℕ
 value_of at = at.value
 
 abbrev pub value_to : ℕ → Placed → ℕ
 value_to h at = if at.holder == h then at.value else 0
 
--- what a function of the place of a paper comes to on bundles that lie so: for each bundle one paper's, as often as it has papers
+-- the sum of a function of places on bundles: for each bundle the value for one paper, times the number of its papers
 abbrev pub worth_placed : (Placed → ℕ) → List Placed → List Bundle → ℕ
 worth_placed f [] bundles = 0
 worth_placed f (at ∷ places) [] = 0
 worth_placed f (at ∷ places) (b ∷ bundles) = b.1 * f at + worth_placed f places bundles
 
--- where a paper lies before the first stage
+-- the place of a paper before the first stage
 abbrev pub nowhere : Placed
 nowhere = record { holder = 0; value = 0 }
 
--- where a paper lies once it has gone to its first preference, as one vote
+-- the place of a paper credited to its first preference, as one vote
 abbrev pub first_place : List ℕ → Placed
 first_place paper = record { holder = first_of paper; value = one_vote }
 
--- where the papers of bundles lie once each has gone to its first preference
+-- the places of bundles when each is credited to its first preference
 abbrev pub first_places : List Bundle → List Placed
 first_places bundles = map (λ (b : Bundle). first_place b.0) bundles
 
--- where a paper goes if c holds it: to its next available preference, at the value that a rule makes of its own; another stays
+-- the new place of a paper if c holds it: its next available preference, at the value that a rule makes of its own; another paper stays
 abbrev pub passed_at : (ℕ → Bool) → TransferRule → ℕ → List ℕ → Placed → Placed
 passed_at continues rule c paper at =
     if at.holder == c then record { holder = first_of (passed_to continues (from_first (λ d. d == c) paper)); value = new_value rule at.value } else at
 
--- where the papers of bundles that lie so go, if c holds them
+-- the new places of the bundles that c holds; others stay
 abbrev pub passed_places : (ℕ → Bool) → TransferRule → ℕ → List Placed → List Bundle → List Placed
 passed_places continues rule c [] bundles = []
 passed_places continues rule c (at ∷ places) [] = []
 passed_places continues rule c (at ∷ places) (b ∷ bundles) = passed_at continues rule c b.0 at ∷ passed_places continues rule c places bundles
 
--- the votes of c by what each holder's papers are worth: just the quota once the surplus has gone
+-- the votes of c from the worth of each holder's papers: exactly the quota once the surplus is transferred
 abbrev pub votes_from : ℕ → History → Action → List ℕ → ℕ → ℕ
 votes_from quota stages action sums c = if transfers action c || is_transferred stages c then quota else slice_index sums c
 
--- what is lost by fractions: of a surplus, what all papers were worth less what they are worth now and the quota that stays
+-- the loss by fractions: on a surplus, what all papers were worth, less what they are worth now and the quota that stays
 abbrev pub lost_from : ℕ → History → Action → ℕ → ℕ → ℕ
 lost_from quota stages First old new = newest_lost stages
 lost_from quota stages (Surplus c) old new = newest_lost stages + (old - new - quota)

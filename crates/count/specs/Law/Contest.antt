@@ -2,7 +2,7 @@
 use Rattle.std.specs.Prelude.{◌≡◌, ℕ, ◌-◌, ◌<◌, ◌≤◌, List, [], ◌∷◌, length, slice_index}
 use Rattle.std.specs.List.{AllByRecursion, list_any, range_with_len}
 use Rattle.std.specs.Prelude.{nat_eq, true}
-use Rattle.paper.specs.Columns.{max_candidates, IsColumnSet}
+use Rattle.paper.specs.Columns.{max_candidates, IsCandidateSet}
 use Rattle.votes.specs.Units.{max_papers, max_seats, quota_of}
 use Rattle.count.specs.declared.stages.Stage.{Stage}
 
@@ -13,7 +13,7 @@ pub record Contest : Type 0 where
   pub quota : ℕ
   pub papers : List (List ℕ)
 
--- Quota: the contest of these candidates, seats and papers has the quota that they give.
+-- Quota: the contest of these candidates, seats and papers, with the quota that results from them.
 abbrev pub contest_for : List ℕ → ℕ → List (List ℕ) → Contest
 contest_for candidates seats papers =
     record { candidates = candidates; seats = seats; quota = quota_of (length papers) seats; papers = papers }
@@ -22,14 +22,14 @@ contest_for candidates seats papers =
 abbrev pub In : ℕ → List ℕ → Type 0
 In c candidates = list_any (nat_eq c) candidates ≡ true
 
--- each preference of each paper is for one of the candidates
+-- each preference on each paper is for one of the candidates
 abbrev pub AreForCandidates : List ℕ → List (List ℕ) → Type 0
 AreForCandidates candidates papers = AllByRecursion (λ paper. AllByRecursion (λ c. In c candidates) paper) papers
 
--- A contest that the rules speak of: it has more candidates than seats, and no more seats and papers than there can be. Its preferences are for
--- candidates alone, and its quota is that of just these papers and seats.
+-- A contest to which the rules apply: it has more candidates than seats, and seats and papers within the limits. Its preferences are only for
+-- candidates, and its quota is that of these papers and seats.
 pub record IsContest (contest : Contest) : Type 0 where
-  pub candidate_set : IsColumnSet contest.candidates
+  pub candidate_set : IsCandidateSet contest.candidates
   pub some_seats : 1 ≤ contest.seats
   pub few_seats : contest.seats ≤ max_seats
   pub contested : contest.seats < length contest.candidates
@@ -37,11 +37,11 @@ pub record IsContest (contest : Contest) : Type 0 where
   pub for_candidates : AreForCandidates contest.candidates contest.papers
   pub quota_is : contest.quota ≡ quota_of (length contest.papers) contest.seats
 
--- A history is the list of the stages so far, the newest first.
+-- A history is the list of the stages so far, newest first.
 abbrev pub History : Type 0
 History = List Stage
 
--- the numbers that a candidate may have
+-- the numbers that a candidate can have
 abbrev pub numbers : List ℕ
 numbers = range_with_len 1 max_candidates
 
@@ -49,7 +49,7 @@ numbers = range_with_len 1 max_candidates
 abbrev pub votes_at : Stage → ℕ → ℕ
 votes_at s c = slice_index s.votes (c - 1)
 
--- a candidate's recorded votes at the newest stage, none before the first
+-- a candidate's recorded votes at the newest stage; none before the first
 abbrev pub newest_votes : History → ℕ → ℕ
 newest_votes [] c = 0
 newest_votes (s ∷ before) c = votes_at s c

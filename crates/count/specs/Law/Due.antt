@@ -13,20 +13,20 @@ use Rattle.count.specs.declared.stages.TiedFor.TheVariants.{Surplus as of_surplu
 use Rattle.count.specs.declared.stages.Due.{Due}
 use Rattle.count.specs.declared.stages.Due.TheVariants.{Act, Lot, Finished}
 
--- a candidate's votes at each stage, the newest first
+-- a candidate's votes at each stage, newest first
 abbrev pub trace : History → ℕ → List ℕ
 trace stages c = map (λ s. votes_at s c) stages
 
--- Transfer of ballot papers; Exclusion of candidates: among equal votes the most recent stage at which they differed
--- decides; whether c had more than d there
+-- Transfer of ballot papers; Exclusion of candidates: among equal votes the most recent stage at which they differed decides; whether c had more than
+-- d at that stage
 abbrev pub is_above : History → ℕ → ℕ → Bool
 is_above stages c d = is_lt (slice_cmp nat_cmp (trace stages d) (trace stages c))
 
--- Transfer of ballot papers: those of a group whom nobody in it is above
+-- Transfer of ballot papers: the members of a group that no other member is above
 abbrev pub highest : History → List ℕ → List ℕ
 highest stages group = filter (λ c. not (list_any (λ d. is_above stages d c) group)) group
 
--- Exclusion of candidates: those of a group who are above nobody in it
+-- Exclusion of candidates: the members of a group that are above no other member
 abbrev pub lowest : History → List ℕ → List ℕ
 lowest stages group = filter (λ c. not (list_any (λ d. is_above stages c d) group)) group
 
@@ -34,28 +34,28 @@ lowest stages group = filter (λ c. not (list_any (λ d. is_above stages c d) gr
 abbrev pub with_surplus : Contest → History → List ℕ
 with_surplus contest stages = filter (λ c. nat_lt contest.quota (newest_votes stages c)) (elected_after contest stages)
 
--- Filling of last vacancies: the exclusion of c is the last one where the others who continue are as many as the vacancies
+-- Filling of last vacancies: the exclusion of c is the last one if there are as many other continuing candidates as vacancies
 abbrev pub exclusion : Contest → History → ℕ → Action
 exclusion contest stages c =
     if length (continuing_after contest stages) - 1 == vacancies_after contest stages then ExcludeLast c else Exclude c
 
--- what is done with a candidate: his surplus is transferred, or he is excluded, by what the group was chosen for
+-- the action on a candidate, transfer of the surplus or exclusion, by what the group was chosen for
 abbrev pub action_on : Contest → History → TiedFor → ℕ → Action
 action_on contest stages of_surplus c = Surplus c
 action_on contest stages of_exclusion c = exclusion contest stages c
 
--- the action on the one candidate who is tied with nobody, else a lot among the tied; where a lot is due they are two or more, as is proved
+-- the action on the only candidate of a group, otherwise a lot among the tied; it is proved that a lot is due only among two or more
 abbrev pub among : Contest → History → TiedFor → List ℕ → Due
 among contest stages kind [] = Lot (length stages + 1) kind []
 among contest stages kind (c ∷ []) = Act (action_on contest stages kind c)
 among contest stages kind (c ∷ d ∷ tied) = Lot (length stages + 1) kind (c ∷ d ∷ tied)
 
--- Transfer of ballot papers: the highest surplus comes first; Exclusion of candidates: with none, the fewest votes
+-- Transfer of ballot papers: the highest surplus comes first; Exclusion of candidates: if there is none, the fewest votes
 abbrev pub due_for : Contest → History → List ℕ → Due
 due_for contest stages [] = among contest stages of_exclusion (lowest stages (continuing_after contest stages))
 due_for contest stages (c ∷ cs) = among contest stages of_surplus (highest stages (c ∷ cs))
 
--- what comes after some stages
+-- what is due after some stages
 abbrev pub due_after : Contest → History → Due
 due_after contest [] = Act First
 due_after contest (s ∷ before) =
@@ -67,13 +67,13 @@ due_after contest (s ∷ before) =
 abbrev pub lot_for : List (ℕ × ℕ) → ℕ → Option ℕ
 lot_for lots stage = option_map (λ lot. lot.1) (find (λ lot. lot.0 == stage) lots)
 
--- what a lot makes of what is due: the action, unless the count is finished or waits for a lot
+-- what is due, resolved by a lot: the action, unless the count is finished or waits for a lot
 abbrev pub drawn : Contest → History → Option ℕ → Due → Option Action
 drawn contest stages lot (Act action) = Some action
 drawn contest stages None (Lot stage kind tied) = None
 drawn contest stages (Some c) (Lot stage kind tied) = if list_any (nat_eq c) tied then Some (action_on contest stages kind c) else None
 drawn contest stages lot Finished = None
 
--- the action that comes after some stages, where there is one
+-- the next action after some stages, if there is one
 abbrev pub next_action : Contest → List (ℕ × ℕ) → History → Option Action
 next_action contest lots stages = drawn contest stages (lot_for lots (length stages + 1)) (due_after contest stages)

@@ -1,4 +1,4 @@
--- Who has reached the quota, is elected, is excluded or continues.
+-- The candidates who have reached the quota, are elected, are excluded or continue.
 use Rattle.std.specs.Prelude.{ℕ, ◌+◌, ◌-◌, Bool, false, not, ◌&&◌, ◌||◌, ◌==◌, nat_le, nat_eq, List, length}
 use Rattle.std.specs.List.{filter, list_any}
 use Rattle.count.specs.Law.Contest.{Contest, History, votes_at}
@@ -27,7 +27,7 @@ is_transferred stages c = list_any (λ s. transfers s.action c) stages
 abbrev pub is_excluded : History → ℕ → Bool
 is_excluded stages c = list_any (λ s. excludes s.action c) stages
 
--- Quota: whether the votes of c were the quota or more at some stage
+-- Quota: whether the votes of c reached the quota at some stage
 abbrev pub has_reached : Contest → History → ℕ → Bool
 has_reached contest stages c = list_any (λ s. nat_le contest.quota (votes_at s c)) stages
 
@@ -39,7 +39,7 @@ with_quota contest stages = filter (has_reached contest stages) contest.candidat
 abbrev pub undecided : Contest → History → List ℕ
 undecided contest stages = filter (λ c. not (has_reached contest stages c) && not (is_excluded stages c)) contest.candidates
 
--- Filling of last vacancies: whether the undecided are as many as the seats that are left
+-- Filling of last vacancies: whether there are as many undecided candidates as remaining seats
 abbrev pub undecided_fill : Contest → History → Bool
 undecided_fill contest stages = length (with_quota contest stages) + length (undecided contest stages) == contest.seats
 
@@ -59,6 +59,6 @@ continuing_after contest stages = filter (λ c. not (is_elected contest stages c
 abbrev pub is_continuing : Contest → History → ℕ → Bool
 is_continuing contest stages c = list_any (nat_eq c) (continuing_after contest stages)
 
--- the seats that are left after some stages
+-- the number of seats that remain after some stages
 abbrev pub vacancies_after : Contest → History → ℕ
 vacancies_after contest stages = contest.seats - length (elected_after contest stages)

@@ -1,4 +1,4 @@
--- Votes, the non-transferable and the lost, added up over all papers.
+-- The sums over all papers: votes, the non-transferable and the loss.
 use Rattle.std.specs.Prelude.{ℕ, ◌+◌, ◌-◌, ◌==◌, if◌then◌else◌, [], ◌∷◌}
 use Rattle.std.specs.List.{sum_by}
 use Rattle.count.specs.Law.Contest.{Contest, History}
@@ -8,12 +8,12 @@ use Rattle.count.specs.declared.stages.Stage.{Stage}
 use Rattle.count.specs.declared.stages.Action.{Action}
 use Rattle.count.specs.declared.stages.Action.TheVariants.{First, Surplus, Exclude, ExcludeLast}
 
--- what a paper is worth to c, or with 0 to no one
+-- the worth of a paper to c, or to no one if c is 0
 abbrev pub value_with : ℕ → Place → ℕ
 value_with c at = if at.holder == c then at.value else 0
 
--- Transfer of ballot papers: a candidate's votes are just the quota once his surplus has gone,
--- and before that the values of all papers that he holds
+-- Transfer of ballot papers: a candidate's votes are exactly the quota once the surplus is transferred, and before that the values of all papers that
+-- the candidate holds
 abbrev pub votes_after : Contest → History → ℕ → ℕ
 votes_after contest stages c =
     if is_transferred stages c
@@ -24,19 +24,19 @@ votes_after contest stages c =
 abbrev pub non_transferable_after : Contest → History → ℕ
 non_transferable_after contest stages = sum_by (λ paper. value_with 0 (place contest stages paper)) contest.papers
 
--- the new values of the papers that a stage takes from c
+-- the new values of the papers that a stage transfers from c
 abbrev pub value_passed_on : Contest → Stage → History → ℕ → ℕ
 value_passed_on contest s before c =
     sum_by (λ paper. if (place contest before paper).holder == c then (place contest (s ∷ before) paper).value else 0) contest.papers
 
--- Transfer values: what a surplus holds beyond the values that it gives is lost by fractions
+-- Transfer values: the part of a surplus that exceeds the values transferred is lost by fractions
 abbrev pub lost_by : Contest → Stage → History → Action → ℕ
 lost_by contest s before First = 0
 lost_by contest s before (Surplus c) = surplus_of contest before c - value_passed_on contest s before c
 lost_by contest s before (Exclude c) = 0
 lost_by contest s before (ExcludeLast c) = 0
 
--- what all stages have lost by fractions
+-- the total loss by fractions at all stages
 abbrev pub lost_after : Contest → History → ℕ
 lost_after contest [] = 0
 lost_after contest (s ∷ before) = lost_after contest before + lost_by contest s before s.action

@@ -1,4 +1,4 @@
--- What holds of every right list of stages.
+-- Laws of every right list of stages.
 use Rattle.std.specs.Prelude.{◌≡◌, ℕ, ◌+◌, ◌*◌, ◌≤◌, false, [], ◌∷◌, length, nat_eq, ⊤}
 use Rattle.std.specs.List.{list_any, sum_by}
 use Rattle.paper.specs.Columns.{IsColumn}
@@ -8,13 +8,13 @@ use Rattle.count.specs.Law.Elected.{elected_after}
 use Rattle.count.specs.declared.stages.Due.{Due}
 use Rattle.count.specs.declared.stages.Due.TheVariants.{Act, Lot, Finished}
 
--- after each stage the recorded votes of all candidates, the non-transferable and the lost make up one vote for each paper
+-- after each stage the recorded votes of all candidates, the non-transferable and the loss add up to one vote for each paper
 abbrev pub IsConserved : Contest → History → Type 0
 IsConserved contest [] = ⊤
 IsConserved contest (s ∷ before) =
     (sum_by (votes_at s) contest.candidates + s.non_transferable + s.lost ≡ one_vote * length contest.papers) × IsConserved contest before
 
--- a count takes at most one stage for each candidate, and one more
+-- a count has at most one stage for each candidate, plus one
 abbrev pub IsShort : Contest → History → Type 0
 IsShort contest stages = length stages ≤ length contest.candidates + 1
 
@@ -22,13 +22,13 @@ IsShort contest stages = length stages ≤ length contest.candidates + 1
 abbrev pub FillsSeats : Contest → History → Type 0
 FillsSeats contest stages = length (elected_after contest stages) ≡ contest.seats
 
--- at each stage the numbers that are no candidates have no votes
+-- at each stage only candidates have votes
 abbrev pub OnlyCandidatesHaveVotes : Contest → History → Type 0
 OnlyCandidatesHaveVotes contest [] = ⊤
 OnlyCandidatesHaveVotes contest (s ∷ before) =
     ((c : ℕ) → IsColumn c → list_any (nat_eq c) contest.candidates ≡ false → votes_at s c ≡ 0) × OnlyCandidatesHaveVotes contest before
 
--- where a lot is due, two candidates or more are tied
+-- if a lot is due, two or more candidates are tied
 abbrev pub IsAmongSeveral : Due → Type 0
 IsAmongSeveral (Act action) = ⊤
 IsAmongSeveral (Lot stage kind tied) = 2 ≤ length tied

@@ -1,4 +1,4 @@
--- Why `journal` keeps its promise: the office in memory was empty, and memory gives back what was written.
+-- Proof that `journal` meets its contract: the office in memory was empty, and reads of memory return what was written.
 use Rattle.std.proofs.Common.{inl, inr, refl}
 use Rattle.tables.specs.declared.fault.Fault.TheVariants.{Memory}
 use Rattle.desk.specs.Pages.{failed}
@@ -18,7 +18,7 @@ returns-in-Ok-clause-told g c =
           (λ db rests s left. is.in_office db rests s left (memory_is_blank c.in-Ok.blank c.in-Ok.ensures.empty) (memory_is_clean c.journal_office-status.result.1), is.elsewhere);
     }
 
--- no memory for it: that is told, as far as the error output takes it
+-- an allocation for it failed: this is printed, as far as the error output accepts it
 pub returns-in-Err-clause-told : goal.returns-in-Err-clause-told
 returns-in-Err-clause-told g c =
     let page = failed (Office Memory) in

@@ -1,17 +1,17 @@
-//! The count of a ward, in a journal.
+//! The count of a ward in a journal.
 
-ghost use Rattle.register.specs.Offices.{MapsRise};
+ghost use Rattle.register.specs.Offices.{MapsAreSorted};
 ghost use Rattle.rowcheck.specs.States.{state_of};
 
+use crate::candidate_names::name_of;
 use crate::journal::receipts::KeptReceipts;
 use crate::journal::words::{put_comment, put_heading, put_order};
-use crate::names::name_of;
 use register::ranges::LAST_LOT_STAGE;
 use register::{DrawnLot, Receipt, Ward};
 use rowcheck::finding::{candidates_of, lots_of};
 use std::alloc::{AllocError, Global};
 
-/// Puts an order below the reply that it got, since its words say nothing of that; nothing where there is no receipt.
+/// Appends an order after the reply to it, which its words don't show; nothing if there is no receipt.
 fn put_told(text: &mut String, words: &str, receipt: Option<&Receipt>) -> Result<(), AllocError> {
     let Some(receipt) = receipt else {
         return Ok(());
@@ -20,14 +20,14 @@ fn put_told(text: &mut String, words: &str, receipt: Option<&Receipt>) -> Result
     put_order(text, words, Some(receipt))
 }
 
-/// Puts a lot of a ward, below the name of the candidate whom it named.
+/// Appends a lot of a ward, after the name of the candidate that it chose.
 fn put_lot(
     alloc: Global,
     text: &mut String,
     kept: &KeptReceipts<'_>,
     lot: &DrawnLot,
 ) -> Result<(), AllocError>
-    requires { MapsRise (state_of kept.now.rows.now) }
+    requires { MapsAreSorted (state_of kept.now.rows.now) }
 {
     let (ward, stage, candidate) = (lot.ward, lot.stage, lot.candidate);
     let name = name_of(candidates_of(kept.rows, ward), candidate);
@@ -38,12 +38,12 @@ fn put_lot(
     put_order(text, words.as_str(), kept.only(subject.as_str()))
 }
 
-/// The lot for a stage, among those of a ward.
+/// Returns the lot for a stage, among those of a ward.
 fn lot_at(lots: &[DrawnLot], stage: u32) -> Option<&DrawnLot> {
     lots.iter().find(|lot| lot.stage == stage)
 }
 
-/// Puts a stage of a ward's count: its lot, and what counted it, as far as they are there.
+/// Appends a stage of a ward's count: its lot, and the order that counted it, if there are any.
 fn put_stage(
     alloc: Global,
     text: &mut String,
@@ -51,7 +51,7 @@ fn put_stage(
     ward: u32,
     stage: u32,
 ) -> Result<(), AllocError>
-    requires { MapsRise (state_of kept.now.rows.now) }
+    requires { MapsAreSorted (state_of kept.now.rows.now) }
 {
     if let Some(lot) = lot_at(lots_of(kept.rows, ward), stage) {
         put_lot(alloc, text, kept, lot)?;
@@ -65,14 +65,14 @@ fn put_stage(
     )
 }
 
-/// Puts all stages of a ward's count.
+/// Appends all stages of a ward's count.
 fn put_stages(
     alloc: Global,
     text: &mut String,
     kept: &KeptReceipts<'_>,
     ward: u32,
 ) -> Result<(), AllocError>
-    requires { MapsRise (state_of kept.now.rows.now) }
+    requires { MapsAreSorted (state_of kept.now.rows.now) }
 {
     for stage in 1..=LAST_LOT_STAGE {
         put_stage(alloc, text, kept, ward, stage)?;
@@ -80,14 +80,14 @@ fn put_stages(
     Ok(())
 }
 
-/// Puts the seal of a ward, its count and its declaration, as far as they are there.
+/// Appends the seal of a ward, its count and its declaration, as far as there are any.
 pub(crate) fn put_count(
     alloc: Global,
     text: &mut String,
     kept: &KeptReceipts<'_>,
     ward: &Ward,
 ) -> Result<(), AllocError>
-    requires { MapsRise (state_of kept.now.rows.now) }
+    requires { MapsAreSorted (state_of kept.now.rows.now) }
 {
     let (number, name) = (ward.number, ward.name.as_str());
     let sealing = format!(in alloc; "seal {number}")?;

@@ -1,18 +1,18 @@
-//! The nominations of a ward, in a journal.
+//! The nominations of a ward in a journal.
 
-ghost use Rattle.register.specs.Offices.{MapsRise};
+ghost use Rattle.register.specs.Offices.{MapsAreSorted};
 ghost use Rattle.rowcheck.specs.States.{state_of};
 
+use crate::candidate_names::name_of;
 use crate::journal::receipts::KeptReceipts;
 use crate::journal::words::{put_heading, put_named, put_order};
-use crate::names::name_of;
 use register::Ward;
 use register::ranges::LAST_CANDIDATE;
 use rowcheck::finding::candidates_of;
 use std::alloc::{AllocError, Global};
 
-/// Puts each adding of a candidate under a number, and its withdrawal, if it was withdrawn. No table keeps the name of
-/// a candidate who is withdrawn: another one stands for it.
+/// Appends each addition of a candidate with this number, and the withdrawal if there is one. No table has the name of a withdrawn
+/// candidate, so another name is written for it.
 fn put_candidate(
     alloc: Global,
     text: &mut String,
@@ -20,7 +20,7 @@ fn put_candidate(
     ward: u32,
     number: u32,
 ) -> Result<(), AllocError>
-    requires { MapsRise (state_of kept.now.rows.now) }
+    requires { MapsAreSorted (state_of kept.now.rows.now) }
 {
     let adding = format!(in alloc; "candidate {ward} {number}")?;
     let withdrawal = format!(in alloc; "withdraw {ward} {number}")?;
@@ -38,14 +38,14 @@ fn put_candidate(
     Ok(())
 }
 
-/// Puts all candidates of a ward, by their numbers.
+/// Appends all candidates of a ward, by number.
 fn put_candidates(
     alloc: Global,
     text: &mut String,
     kept: &KeptReceipts<'_>,
     ward: u32,
 ) -> Result<(), AllocError>
-    requires { MapsRise (state_of kept.now.rows.now) }
+    requires { MapsAreSorted (state_of kept.now.rows.now) }
 {
     for number in 1..=LAST_CANDIDATE {
         put_candidate(alloc, text, kept, ward, number)?;
@@ -53,14 +53,14 @@ fn put_candidates(
     Ok(())
 }
 
-/// Puts a ward, its candidates, and the end of its nominations.
+/// Appends a ward, its candidates, and the end of its nominations.
 pub(crate) fn put_nominations(
     alloc: Global,
     text: &mut String,
     kept: &KeptReceipts<'_>,
     ward: &Ward,
 ) -> Result<(), AllocError>
-    requires { MapsRise (state_of kept.now.rows.now) }
+    requires { MapsAreSorted (state_of kept.now.rows.now) }
 {
     let (number, seats) = (ward.number, ward.seats);
     let name = ward.name.as_str();

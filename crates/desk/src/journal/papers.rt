@@ -1,6 +1,6 @@
-//! A batch, its keyings, and the verdicts on its papers, in a journal.
+//! A batch, its keyings, and the verdicts on its papers in a journal.
 
-ghost use Rattle.register.specs.Offices.{MapsRise};
+ghost use Rattle.register.specs.Offices.{MapsAreSorted};
 ghost use Rattle.rowcheck.specs.States.{state_of};
 
 use crate::journal::receipts::KeptReceipts;
@@ -9,18 +9,18 @@ use register::{Batch, JudgedPaper, KeyedPaper, ThirdClerk};
 use rowcheck::finding::{keying_of, third_at, verdicts_of, ward_at};
 use std::alloc::{AllocError, Global};
 
-/// The round in which a journal has a third clerk, whenever he was given the batch: no table says in which round that was. He is
-/// accepted there, since a batch that has a third clerk was keyed unequally by its two clerks, first in this round.
+/// The round in which a journal adds a third clerk, whenever the clerk was given the batch: no table says in which round that was. It
+/// is accepted there: in any batch with a third clerk the two clerks' keyings differ, first in this round.
 const FIRST_ROUND: u32 = 1;
 
-/// Puts the order that gave out a batch.
+/// Appends the order that gave out a batch.
 fn put_given_out(
     alloc: Global,
     text: &mut String,
     kept: &KeptReceipts<'_>,
     batch: &Batch,
 ) -> Result<(), AllocError>
-    requires { MapsRise (state_of kept.now.rows.now) }
+    requires { MapsAreSorted (state_of kept.now.rows.now) }
 {
     let (number, ward, size) = (batch.number, batch.ward, batch.size);
     let (first, second) = (batch.first_clerk, batch.second_clerk);
@@ -35,7 +35,7 @@ fn put_given_out(
     put_order(text, words.as_str(), kept.only(subject.as_str()))
 }
 
-/// Puts marks behind the words of a keying, a word a paper.
+/// Appends the marks to a keying, one word per paper.
 fn put_marks(text: &mut String, keying: &[KeyedPaper]) -> Result<(), AllocError> {
     for keyed in keying {
         text.push_str(" ")?;
@@ -44,7 +44,7 @@ fn put_marks(text: &mut String, keying: &[KeyedPaper]) -> Result<(), AllocError>
     Ok(())
 }
 
-/// Puts a clerk's keying of a batch in a round, if it is there.
+/// Appends a clerk's keying of a batch in a round, if there is one.
 fn put_keying(
     alloc: Global,
     text: &mut String,
@@ -53,7 +53,7 @@ fn put_keying(
     round: u32,
     clerk: u32,
 ) -> Result<(), AllocError>
-    requires { MapsRise (state_of kept.now.rows.now) }
+    requires { MapsAreSorted (state_of kept.now.rows.now) }
 {
     let subject = format!(in alloc; "key {batch} {round}")?;
     let Some(receipt) = kept.of_actor(subject.as_str(), clerk) else {
@@ -66,7 +66,7 @@ fn put_keying(
     text.push_str("\n")
 }
 
-/// Puts the order that opened a round, if one did.
+/// Appends the order that opened a round, if there is one.
 fn put_opening(
     alloc: Global,
     text: &mut String,
@@ -83,7 +83,7 @@ fn put_opening(
     )
 }
 
-/// Puts the third clerk of a batch.
+/// Appends the third clerk of a batch.
 fn put_third(
     alloc: Global,
     text: &mut String,
@@ -96,7 +96,7 @@ fn put_third(
     put_order(text, words.as_str(), kept.only(subject.as_str()))
 }
 
-/// Puts a round of a batch: what opened it, and its keyings; in the first round the third clerk too, before his own.
+/// Appends a round of a batch: what opened it, and its keyings; in the first round the third clerk too, before that clerk's keying.
 fn put_round(
     alloc: Global,
     text: &mut String,
@@ -104,7 +104,7 @@ fn put_round(
     batch: &Batch,
     round: u32,
 ) -> Result<(), AllocError>
-    requires { MapsRise (state_of kept.now.rows.now) }
+    requires { MapsAreSorted (state_of kept.now.rows.now) }
 {
     let number = batch.number;
     put_opening(alloc, text, kept, number, round)?;
@@ -119,14 +119,14 @@ fn put_round(
     put_keying(alloc, text, kept, number, round, third.clerk)
 }
 
-/// Puts all rounds of a batch.
+/// Appends all rounds of a batch.
 fn put_rounds(
     alloc: Global,
     text: &mut String,
     kept: &KeptReceipts<'_>,
     batch: &Batch,
 ) -> Result<(), AllocError>
-    requires { MapsRise (state_of kept.now.rows.now) }
+    requires { MapsAreSorted (state_of kept.now.rows.now) }
 {
     for round in FIRST_ROUND..=batch.round {
         put_round(alloc, text, kept, batch, round)?;
@@ -134,7 +134,7 @@ fn put_rounds(
     Ok(())
 }
 
-/// Puts the verdict on a paper.
+/// Appends the verdict on a paper.
 fn put_verdict(
     alloc: Global,
     text: &mut String,
@@ -152,14 +152,14 @@ fn put_verdict(
     put_order(text, words.as_str(), kept.only(subject.as_str()))
 }
 
-/// Puts a batch, its rounds, and the verdicts on its papers.
+/// Appends a batch, its rounds, and the verdicts on its papers.
 pub(crate) fn put_batch(
     alloc: Global,
     text: &mut String,
     kept: &KeptReceipts<'_>,
     batch: &Batch,
 ) -> Result<(), AllocError>
-    requires { MapsRise (state_of kept.now.rows.now) }
+    requires { MapsAreSorted (state_of kept.now.rows.now) }
 {
     put_given_out(alloc, text, kept, batch)?;
     put_rounds(alloc, text, kept, batch)?;

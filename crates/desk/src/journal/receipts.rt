@@ -1,18 +1,18 @@
-//! The receipts of an office, found by what they are about.
+//! The receipts of an office, found by their subject.
 
 use register::Receipt;
 use rowcheck::Rows;
 use std::alloc::{AllocError, Global};
 use std::collections::HashMap;
 
-/// What a journal is written from: the rows of an office, and where receipts stand among them, by what they are about.
+/// What a journal is written from: the rows of an office, and the positions of its receipts by subject.
 #[derive(Clone, Copy)]
 pub(crate) struct KeptReceipts<'a> {
     pub(crate) rows: &'a Rows,
     pub(crate) places: &'a HashMap<String, Vec<usize>>,
 }
 
-/// Where receipts stand in their list, by what they are about, in the order of the list.
+/// Returns the positions of receipts in their list by subject, in the order of the list.
 pub(crate) fn places_of(
     alloc: Global,
     receipts: &[Receipt],
@@ -24,7 +24,7 @@ pub(crate) fn places_of(
     Ok(places)
 }
 
-/// Puts a place behind those of the receipts about one thing.
+/// Appends a position to those of the receipts on a subject.
 fn put_place(
     alloc: Global,
     places: &mut HashMap<String, Vec<usize>>,
@@ -37,7 +37,7 @@ fn put_place(
 }
 
 impl<'a> KeptReceipts<'a> {
-    /// The places of the receipts about something.
+    /// Returns the positions of the receipts on a subject.
     fn about(&self, subject: &str) -> &'a [usize] {
         let all = self.places;
         match all.get(subject) {
@@ -46,29 +46,29 @@ impl<'a> KeptReceipts<'a> {
         }
     }
 
-    /// The receipt at a place.
+    /// Returns the receipt at a position.
     fn receipt_at(&self, place: usize) -> Option<&'a Receipt> {
         let rows = self.rows;
         rows.receipts.get(place)
     }
 
-    /// How many receipts are about something.
+    /// Returns how many receipts are on a subject.
     pub(crate) fn count(&self, subject: &str) -> usize {
         self.about(subject).len()
     }
 
-    /// Of the receipts about something the one of a number, from 0 on.
+    /// Returns the receipt of this index, from 0 on, among those on a subject.
     pub(crate) fn numbered(&self, subject: &str, number: usize) -> Option<&'a Receipt> {
         let place = self.about(subject).get(number)?;
         self.receipt_at(*place)
     }
 
-    /// The receipt about something, of which there is one at most.
+    /// Returns the receipt on a subject that has at most one.
     pub(crate) fn only(&self, subject: &str) -> Option<&'a Receipt> {
         self.numbered(subject, 0)
     }
 
-    /// Of the receipts about something that of an actor.
+    /// Returns an actor's receipt among those on a subject.
     pub(crate) fn of_actor(&self, subject: &str, actor: u32) -> Option<&'a Receipt> {
         for place in self.about(subject) {
             match self.receipt_at(*place) {
@@ -79,7 +79,7 @@ impl<'a> KeptReceipts<'a> {
         None
     }
 
-    /// Of the receipts about something the first whose reply begins so.
+    /// Returns the first of the receipts on a subject whose reply has this prefix.
     pub(crate) fn replied(&self, subject: &str, front: &str) -> Option<&'a Receipt> {
         for place in self.about(subject) {
             match self.receipt_at(*place) {

@@ -28,7 +28,7 @@ const entryOf = (work) => {
   return made('li', {}, button, ` ${what}.${begun}`, ...misfit);
 };
 
-// Of a draft the office may want nothing more: its round is keyed or over, or its ward isn't in keying.
+// The office may no longer need a draft: its round is keyed or over, or its ward isn't in keying.
 const leftOver = (list) => draftNames().filter((name) => {
   const [batch, round] = name.slice(FRONT.length).split(' ').map(Number);
   const work = list.find((it) => it.batch === batch);
@@ -75,7 +75,7 @@ const openBatch = async (work, turn) => {
   return backToPapers(`Go on at paper ${paper()}. See that it is on top of your pile.`);
 };
 
-// The batch that the address names is opened; without one, or where it isn't to be keyed, all are listed.
+// Opens the batch that the address names; without one, or if it can't be keyed, lists all batches.
 const route = async (text = '') => {
   clearTimeout(timer);
   turns += 1;
@@ -97,7 +97,7 @@ const toBatches = (text = '') => {
   route(text);
 };
 
-// Whoever leaves his place has the browser forget his code, as far as it can. What he keyed stays for him.
+// Signing out makes the browser forget the clerk's code, as far as possible. The clerk's drafts are kept.
 const goAway = async () => {
   const answer = await ask('leave');
   const code = answer?.status === 200 ? 'This browser was asked to forget your code. If it opens your page again without asking for it, close' : 'Close';

@@ -58,7 +58,7 @@ const isRow = (row, columns) =>
   isMarksText(row?.text, columns) && [NEW, BEGUN, KEYED].includes(row.state) && Number.isInteger(row.column)
   && row.column >= (row.text === 'D' ? columns.length : 0) && row.column <= columns.length;
 
-// Whether a draft is one of this batch, with these candidates and so many papers.
+// Whether a draft is for this batch and round, with the same candidates and number of papers.
 const isDraftOf = (draft, {batch, round, size, columns}) =>
   draft?.batch === batch && draft.round === round && draft.size === size && String(draft.columns) === String(columns)
   && /^[a-z0-9-]{1,40}$/.test(draft.id) && Array.isArray(draft.rows) && draft.rows.length <= size

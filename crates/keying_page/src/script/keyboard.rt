@@ -24,7 +24,7 @@ const told = (why) => why.filter(Boolean).join(' ');
 
 // ---- a paper
 
-// A key, or another way to act, is taken, and what came of it is kept and shown.
+// Processes a key or another input, and stores and shows the result.
 const take = (act) => {
   const why = typeof act === 'string' ? press(act) : act();
   at('go').value = '';
@@ -45,7 +45,7 @@ const askTakeOut = () => {
 
 const isForPaper = () => view === 'papers' && !at('out').open && (document.activeElement === document.body || at('table').contains(document.activeElement));
 
-// Who comes from a spreadsheet presses Tab behind each number. The cursor went on already, so it goes no further.
+// Spreadsheet users press Tab after each number. The cursor has already moved, so Tab moves it no further.
 const isSpareTab = ({key, shiftKey}) => key === 'Tab' && !shiftKey && wentOn;
 
 const isNumLockOff = ({code, key}) => code.startsWith('Numpad') && key.length > 1 && key !== 'Enter';
@@ -68,7 +68,7 @@ const onPaperKey = (event) => {
   else take(key);
 };
 
-// A keyboard on a screen reports what it writes, and no key.
+// An on-screen keyboard reports what it types, and no key.
 const onPaperInput = (event) => {
   event.preventDefault();
   if (event.inputType === 'deleteContentBackward') take('Backspace');
@@ -80,7 +80,7 @@ const onPaperFocus = ({target}) => {
   if (column >= 0 && column !== row().column) take(() => moveTo(column));
 };
 
-// A key for the paper, while something beside the papers has the cursor.
+// Whether a key is meant for the paper, while something else has the focus.
 const isLost = ({key}) => view === 'papers' && !at('out').open && document.activeElement !== at('go') && /^[0-9.,/*dD]$/.test(key);
 
 const onLostKey = (event) => {

@@ -8,7 +8,7 @@ let draft = null;
 let candidates = [];
 // Digits that are still to come, of a mark or of a candidate's number.
 let pending = null;
-// A key came behind the last candidate. So the paper has to be looked at again.
+// A key was pressed after the last candidate, so the paper must be checked again.
 let extra = false;
 // The last key was a mark, and the cursor went on by itself.
 let wentOn = false;
@@ -36,7 +36,7 @@ const refuseBehind = () => {
     : `Paper ${paper()} is at its end, and another key came. Look at the paper again. Backspace takes that key back.`;
 };
 
-// A mark for the candidate at the cursor, or none. The cursor goes on.
+// Enters a mark for the candidate at the cursor, or none, and moves the cursor on.
 const mark = (text) => {
   if (isBehind()) return refuseBehind();
   write(row().column, text);
@@ -108,7 +108,7 @@ const moveTo = (column) => {
   if (!isDoubtful()) row().column = Math.min(Math.max(column, 0), width());
 };
 
-// Another paper comes under the cursor, as far as papers have been keyed.
+// Moves the cursor to another paper, among those that have been keyed.
 const goTo = (index) => {
   settle();
   const {rows, size} = draft;
@@ -128,10 +128,10 @@ const firstOpen = () => {
 
 const goOn = () => (isWhole(draft) ? askToSend() : goTo(firstOpen()));
 
-// To the paper that comes next. One that is begun is ended first.
+// Goes to the next paper, after finishing one that is begun.
 const toNext = () => (row().state === BEGUN && firstOpen() === draft.at ? `Paper ${paper()} isn\u2019t ended. Enter ends it.` : goOn());
 
-// Ends a paper. The next one comes; behind the last the first that was left out.
+// Finishes a paper and goes to the next; after the last, to the first that was left out.
 const finish = () => {
   if (pending?.what === 'candidate' && pending.digits) return goToCandidate(Number(pending.digits));
   if (pending) return 'Two digits are wanted. Backspace takes the key back.';
@@ -169,7 +169,7 @@ const STEPS = {
 const isMarkKey = (key) => /^[1-9]$/.test(key);
 const isDigitKey = (key) => /^[0-9]$/.test(key);
 
-// Why a key isn't taken, or nothing where it is.
+// The reason why a key isn't accepted, or nothing if it is.
 const press = (key) => {
   wentOn = false;
   if (pending && isDigitKey(key)) return digit(key);

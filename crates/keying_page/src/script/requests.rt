@@ -6,7 +6,7 @@ pub(crate) const REQUESTS: &str = r#"// ---- what the office is asked
 const PATIENCE = 120;
 const WAITS = [5, 10, 20, 30];
 
-// The status of the office's answer, and what it says; nothing where the line broke, or somebody else answered.
+// The status and the text of the office's response; nothing if the connection broke, or if another server responded.
 const ask = async (target, body) => {
   const end = new AbortController();
   const timer = setTimeout(() => end.abort(), 1000 * PATIENCE);
@@ -47,7 +47,7 @@ const isFault = (answer) => answer?.status === 503 && Number.isInteger(answer.sa
 const isUnknown = (answer) => !answer || answer.status < 400 || answer.status >= 500;
 const isReply = (answer, {batch, round}) => answer?.status === 200 && answer.says?.reply === `batch ${batch} round ${round} keyed`;
 
-// What came of asking, in words, and what to do.
+// The outcome of a request, in words, and what to do.
 const explained = (answer) => {
   if (!answer) return [NOBODY, LATER];
   if (isRefusal(answer)) return [`The office refused it: ${answer.says.text} (refused ${answer.says.refusal}).`, AFTER_REFUSAL[answer.says.refusal] ?? TELL];
@@ -73,12 +73,12 @@ const askNames = async ({batch, columns}) => {
   return {ward: answer.says.name, candidates: columns.map((number) => ({number, name: shownName(names.get(number))}))};
 };
 
-// A name without marks that turn the direction in which the text beside it is read.
+// A name without marks that change the direction of the text next to it.
 const shownName = (name) => String(name ?? '').replace(/[\u202a-\u202e\u2066-\u2069]/g, '');
 
 const bodyOf = ({id, round, rows}) => JSON.stringify({id, round, papers: rows.map((it) => it.text)});
 
-// Sends the draft. While an answer is wanting the draft can't be changed: the office may have kept it as it was sent.
+// Sends the draft. Until there is a response, the draft can't be changed: the office may have stored it as it was sent.
 // A refusal says that it kept nothing. Any other answer leaves open what was open before.
 const send = async () => {
   const sent = draft;

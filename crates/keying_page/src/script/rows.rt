@@ -14,14 +14,14 @@ const made = (name, properties, ...inner) => {
   return element;
 };
 
-// A name stands by itself, whichever way it is read.
+// A name is isolated from the text around it, whatever its direction.
 const isolated = (name) => made('bdi', {}, name);
 const papersOf = (count) => `${count} paper${count === 1 ? '' : 's'}`;
 const spoken = ({number, name}) => `${number} \u2068${name}\u2069`;
 
 let sound = null;
 
-// A low tone: who keys looks at the paper, and not here.
+// A low tone, since a clerk looks at the paper while keying, and not at the screen.
 const beep = () => {
   try {
     sound ??= new AudioContext();
@@ -49,7 +49,7 @@ const head = () => made('tr', {},
   ...candidates.map(({number, name}) => made('th', {scope: 'col', title: spoken({number, name})}, made('b', {}, String(number)), ' ', made('span', {}, isolated(name)))),
   made('td', {className: 'end'}));
 
-// What stands in a field: a mark; a dash, where the cursor went past; or nothing yet.
+// The text of a field: a mark; a dash, if the cursor has passed it; or nothing yet.
 const shownMark = (it, mark, column) => mark || (it.state === KEYED || column < it.column ? DASH : '');
 
 const keyedCells = (it) => {

@@ -1,7 +1,6 @@
 //! New books of worked elections.
 //!
-//! What a test does with one is written over any count. So a proof of that knows nothing of how a count keeps its papers, and is
-//! short.
+//! Tests are generic over the count, so their proofs don't depend on how a count stores its papers, and are short.
 
 ghost use Rattle.std.specs.Prelude.{◌≡◌, [], IfOk};
 ghost use Rattle.count.specs.Bundles.{papers_of};
@@ -9,19 +8,19 @@ ghost use Rattle.count.specs.Law.Contest.{IsContest, contest_for};
 
 use super::worked::Worked;
 use super::{bundles_of, first_columns, papers_of};
-use count::{BundleBook, Bundles, CountBook, ParcelBook, is_bundled_contest, is_contest};
+use count::{BundleBook, Bundles, CountBook, ParcelBook, bundles_can_be_counted, can_be_counted};
 use paper::{Columns, Prefs};
 use std::alloc::{AllocError, Global};
 use std::process::Abort;
 use std::test::Fail;
 
-/// What a test does with a new book.
+/// A test of a new book.
 pub trait Counting {
     fn count<B: CountBook>(&self, rt: &impl Abort, book: &mut B) -> Result<(), Fail>
         requires { B.history book.old ≡ [] };
 }
 
-/// Does so with a book of these papers, which lie in parcels.
+/// Runs the test with a book of these papers in parcels.
 fn on_papers<C: Counting>(
     rt: &impl Abort,
     alloc: Global,
@@ -30,12 +29,12 @@ fn on_papers<C: Counting>(
     counting: &C,
 ) -> Result<(), Fail> {
     let candidates = first_columns(worked.candidates);
-    assert!(rt; is_contest(&candidates, worked.seats, papers));
+    assert!(rt; can_be_counted(&candidates, worked.seats, papers));
     let mut book = ParcelBook::new(alloc, candidates, worked.seats, papers)?;
     counting.count(rt, &mut book)
 }
 
-/// Does so with a book whose papers lie in parcels.
+/// Runs the test with a book that stores its papers in parcels.
 pub fn by_parcels<C: Counting>(
     rt: &impl Abort,
     alloc: Global,
@@ -46,7 +45,7 @@ pub fn by_parcels<C: Counting>(
     on_papers(rt, alloc, worked, &papers, counting)
 }
 
-/// A new book, begun once more where a growth was refused.
+/// Returns a new book; makes it once more if an allocation failed.
 fn begin_again(
     alloc: Global,
     candidates: Columns,
@@ -62,7 +61,7 @@ fn begin_again(
     BundleBook::new(alloc, candidates, seats, bundles)
 }
 
-/// Does so with a book that keeps these papers in bundles.
+/// Runs the test with a book of these papers in bundles.
 pub fn on_bundles<C: Counting>(
     rt: &impl Abort,
     alloc: Global,
@@ -71,12 +70,12 @@ pub fn on_bundles<C: Counting>(
     counting: &C,
 ) -> Result<(), Fail> {
     let candidates = first_columns(worked.candidates);
-    assert!(rt; is_bundled_contest(&candidates, worked.seats, bundles));
+    assert!(rt; bundles_can_be_counted(&candidates, worked.seats, bundles));
     let mut book = begin_again(alloc, candidates, worked.seats, bundles)?;
     counting.count(rt, &mut book)
 }
 
-/// Does so with a book that keeps its papers in bundles.
+/// Runs the test with a book that stores its papers in bundles.
 pub fn by_bundles<C: Counting>(
     rt: &impl Abort,
     alloc: Global,

@@ -1,4 +1,4 @@
-//! The same elections in both books: papers in parcels, and equal papers kept once.
+//! The same elections in both books: with papers in parcels, and with equal papers in bundles.
 
 ghost use Rattle.std.specs.Prelude.{◌≡◌, [], map, reverse, IfOk};
 ghost use Rattle.count.specs.Books.{placed};
@@ -9,19 +9,19 @@ ghost use Rattle.count.specs.Law.Right.{IsRight, IsRightForSome};
 
 use super::begun::{Counting, by_bundles, by_parcels};
 use super::kept::goes_on_from_what_was_kept;
-use super::rows::is_read_back_at_each;
+use super::tabulations::is_read_back_at_each;
 use super::worked::{Expected, Worked, elections};
 use super::{bundles_of, first_columns, holds, holds_of_list, record_all, with_all};
 use count::{
-    BundleBook, Bundles, CountBook, CountEnd, Due, KeptCount, NextStage, Placed, Stage, count_to,
-    due_by, is_bundled_contest, run_count,
+    BundleBook, Bundles, CountBook, CountEnd, Due, NextStage, Placed, Stage, StoredCount,
+    bundles_can_be_counted, count_to, due_by, run_count,
 };
 use paper::{Columns, Prefs};
 use std::alloc::{AllocError, Global};
 use std::process::Abort;
 use std::test::Fail;
 
-/// A count comes to so many stages: so many are elected then, and this comes next.
+/// A count reaches so many stages: so many candidates are then elected, and this is next.
 #[derive(Drop)]
 struct ComesTo<'a> {
     worked: &'a Worked,
@@ -43,7 +43,7 @@ impl<'a> Counting for ComesTo<'a> {
     }
 }
 
-/// Counts a worked election to each of its stages in turn, and asks what comes next there.
+/// Counts a worked election to each of its stages in turn, and checks what is next there.
 fn goes_to_each(rt: &impl Abort, alloc: Global, worked: &Worked) -> Result<(), Fail> {
     let mut elected = Columns::empty();
     for (stages, next) in worked.stages.iter().enumerate() {
@@ -59,7 +59,7 @@ fn goes_to_each(rt: &impl Abort, alloc: Global, worked: &Worked) -> Result<(), F
     Ok(())
 }
 
-/// Counts a worked election to its end, from where its count stands.
+/// Counts a worked election to its end, from its current stage.
 fn ends_as_worked<B: CountBook>(rt: &impl Abort, book: &mut B, worked: &Worked) -> Result<(), Fail>
     requires { IsRight (B.contest book.old) worked.now.lots.now (B.history book.old) }
 {
@@ -69,7 +69,7 @@ fn ends_as_worked<B: CountBook>(rt: &impl Abort, book: &mut B, worked: &Worked) 
     Ok(())
 }
 
-/// A count comes as worked.
+/// A count is as worked.
 #[derive(Drop)]
 struct ComesAsWorked<'a> {
     worked: &'a Worked,
@@ -96,14 +96,14 @@ fn counted<'a>(
     Ok(book)
 }
 
-/// Where a book stands.
+/// Returns the places of a book's bundles, and its stages.
 fn stands(alloc: Global, book: &BundleBook<'_>) -> Result<NextStage, AllocError> {
     let places = Vec::from_slice(alloc, book.places())?;
     let stages = Vec::from_slice(alloc, book.stages())?;
     Ok(NextStage { places, stages })
 }
 
-/// Where a worked election stands by its bundles after so many stages.
+/// Returns the places and the stages of a worked election in bundles, after so many stages.
 pub fn standing(
     rt: &impl Abort,
     alloc: Global,
@@ -112,13 +112,13 @@ pub fn standing(
     stages: usize,
 ) -> Result<NextStage, Fail> {
     let candidates = first_columns(worked.candidates);
-    assert!(rt; is_bundled_contest(&candidates, worked.seats, bundles));
+    assert!(rt; bundles_can_be_counted(&candidates, worked.seats, bundles));
     let book = counted(alloc, candidates, worked, bundles, stages)?;
     Ok(stands(alloc, &book)?)
 }
 
-/// The bundles of the first worked election after its second stage: a list, how many papers have it, who
-/// holds them, and the value of each in units.
+/// The bundles of the first worked election after its second stage: a list, its number of papers, their holder, and the value of
+/// each in units.
 const PLACES: [(&[u8], u32, u8, u64); 4] = [
     (&[1, 2], 4, 2, 33333),
     (&[1, 3], 2, 3, 33333),
@@ -126,18 +126,18 @@ const PLACES: [(&[u8], u32, u8, u64); 4] = [
     (&[3], 2, 3, 100000),
 ];
 
-/// Whether papers lie so.
+/// Returns whether papers are in this place.
 fn are_with(placed: &Placed, holder: u8, units: u64) -> bool {
     placed.holder == holder && placed.value.units() == units
 }
 
-/// Whether a bundle lies so.
+/// Returns whether a bundle is in this place.
 fn lies_as(list: &Prefs, papers: u32, placed: &Placed, expected: &(&[u8], u32, u8, u64)) -> bool {
     let are_there = are_with(placed, expected.2, expected.3);
     list.as_slice() == expected.0 && papers == expected.1 && are_there
 }
 
-/// Each bundle lies where it has to.
+/// Asserts that each bundle is in its expected place.
 fn lie_as(rt: &impl Abort, bundles: &Bundles, places: &[Placed]) {
     assert!(rt; places.len() == PLACES.len());
     for (((list, papers), placed), expected) in bundles.iter().zip(places).zip(&PLACES) {
@@ -154,7 +154,7 @@ fn bundles_lie_where_their_papers_do(rt: HostRuntime) -> Result<(), Fail> {
     Ok(())
 }
 
-/// A book that goes on, taken up once more where a growth was refused.
+/// Returns a resumed book; resumes it once more if an allocation failed.
 fn resume_again<'a>(
     alloc: Global,
     candidates: Columns,
@@ -174,7 +174,7 @@ fn resume_again<'a>(
     BundleBook::resume(alloc, candidates, seats, bundles, places, stages)
 }
 
-/// Takes a worked election up from where it stood after so many stages, and counts it to its end.
+/// Resumes a worked election after so many stages, and counts it to its end.
 fn goes_on_from(
     rt: &impl Abort,
     alloc: Global,
@@ -183,7 +183,7 @@ fn goes_on_from(
     stages: usize,
 ) -> Result<(), Fail> {
     let candidates = first_columns(worked.candidates);
-    assert!(rt; is_bundled_contest(&candidates, worked.seats, bundles));
+    assert!(rt; bundles_can_be_counted(&candidates, worked.seats, bundles));
     let mut stood = BundleBook::new(alloc, candidates, worked.seats, bundles)?;
     count_to(&mut stood, worked.lots, stages)?;
     let (places, made) = (stood.places(), stood.stages());
@@ -193,7 +193,7 @@ fn goes_on_from(
     ends_as_worked(rt, &mut book, worked)
 }
 
-/// The same from each of its stages.
+/// Does the same from each of its stages.
 fn goes_on_from_each(rt: &impl Abort, alloc: Global, worked: &Worked) -> Result<(), Fail> {
     let bundles = bundles_of(alloc, worked.papers)?;
     for stages in 0..worked.stages.len() {
@@ -222,7 +222,7 @@ fn worked_elections_are_counted(rt: HostRuntime) -> Result<(), Fail> {
     for worked in elections() {
         goes_to_each(&rt, rt.alloc(), worked)?;
         both_books_count(&rt, rt.alloc(), worked)?;
-        goes_on_from_what_was_kept::<KeptCount>(&rt, rt.alloc(), worked)?;
+        goes_on_from_what_was_kept::<StoredCount>(&rt, rt.alloc(), worked)?;
         is_read_back_at_each(&rt, rt.alloc(), worked)?;
     }
     Ok(())

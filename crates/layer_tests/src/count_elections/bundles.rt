@@ -1,4 +1,4 @@
-//! Equal papers kept once.
+//! Equal papers in bundles.
 
 use super::{add, holds_of_list, prefs_of};
 use count::Bundles;
@@ -52,7 +52,7 @@ fn scattered(alloc: Global) -> Result<Bundles, Fail> {
     Ok(bundles)
 }
 
-/// Adds equal papers, 7 at most. An error is want of memory, or of room.
+/// Adds equal papers, 7 at most. `AllocError` if an allocation fails, or if there are too many papers.
 fn add_several(bundles: &mut Bundles, list: Prefs, papers: u32) -> Result<(), AllocError> {
     if papers >= 1 && papers <= 7 && bundles.papers() <= MAX_PAPERS - 7 {
         return bundles.add_papers(list, papers);
@@ -76,13 +76,13 @@ fn doubled(alloc: Global) -> Result<Bundles, Fail> {
     Ok(bundles)
 }
 
-/// Whether a bundle has this list, and so many times the papers beside it.
+/// Returns whether a bundle has the expected list, and so many times the expected number of papers.
 fn is_bundle(list: &Prefs, papers: u32, expected: &(&[u8], u32), times: u64) -> bool {
     let wanted = times.saturating_mul(u64::from(expected.1));
     list.as_slice() == expected.0 && u64::from(papers) == wanted
 }
 
-/// These are the six bundles, with so many times their papers.
+/// Asserts that these are the six bundles, with so many times their papers.
 fn are_bundles(rt: &impl Abort, bundles: &Bundles, times: u64) {
     let papers = u64::from(bundles.papers());
     let are_six = papers == times.saturating_mul(15) && bundles.len() == 6;
@@ -92,7 +92,7 @@ fn are_bundles(rt: &impl Abort, bundles: &Bundles, times: u64) {
     }
 }
 
-/// A bundle is found by its place.
+/// Asserts that each bundle is found by its index.
 fn is_found(rt: &impl Abort, bundles: &Bundles) {
     assert!(rt; bundles.len() > 4);
     let (list, papers) = bundles.get(4);

@@ -1,21 +1,20 @@
-//! Counts that go on from what was kept of them.
+//! Counts that resume from what was stored of them.
 
 use super::worked::{Expected, Worked};
 use super::{bundles_of, first_columns, holds, record_one, with_all};
-use count::{Due, KeptCount, NextStage, Placed, Stage};
+use count::{Due, NextStage, Placed, Stage, StoredCount};
 use paper::Columns;
 use std::alloc::Global;
 use std::process::Abort;
 use std::test::Fail;
 use votes::{ONE_VOTE, Votes};
 
-/// A count of a worked election as it was kept. What a test does with one is written over any such, so a proof of that knows
-/// nothing of what is kept, and is short.
+/// A stored count of a worked election. Tests are generic over it, so their proofs don't depend on what is stored, and are short.
 pub trait KeptCase: Sized {
     /// The count before its first stage.
     fn begun(alloc: Global, worked: &Worked) -> Result<Self, Fail>;
 
-    /// The count after the next stage, taken up from what is kept of it; none where no stage is due.
+    /// The count after the next stage, resumed from what is stored; none if no stage is due.
     fn following(&self, alloc: Global, worked: &Worked) -> Result<Option<Self>, Fail>;
 
     /// The newest stage.
@@ -28,22 +27,22 @@ pub trait KeptCase: Sized {
     fn is_finished(&self, worked: &Worked) -> bool;
 }
 
-/// A count that was kept so.
-fn resumed(alloc: Global, worked: &Worked, next: NextStage) -> Result<KeptCount, Fail> {
+/// Returns the stored count after a stage.
+fn resumed(alloc: Global, worked: &Worked, next: NextStage) -> Result<StoredCount, Fail> {
     let bundles = bundles_of(alloc, worked.papers)?;
     let NextStage { places, stages } = next;
     let candidates = first_columns(worked.candidates);
-    match KeptCount::resume(candidates, worked.seats, bundles, places, stages) {
+    match StoredCount::resume(candidates, worked.seats, bundles, places, stages) {
         Some(kept) => Ok(kept),
         None => Err(Fail::from("what was kept is of no count")),
     }
 }
 
-impl KeptCase for KeptCount {
+impl KeptCase for StoredCount {
     fn begun(alloc: Global, worked: &Worked) -> Result<Self, Fail> {
         let bundles = bundles_of(alloc, worked.papers)?;
         let candidates = first_columns(worked.candidates);
-        Ok(KeptCount::begin(alloc, candidates, worked.seats, bundles)?)
+        Ok(StoredCount::begin(alloc, candidates, worked.seats, bundles)?)
     }
 
     fn following(&self, alloc: Global, worked: &Worked) -> Result<Option<Self>, Fail> {
@@ -66,7 +65,7 @@ impl KeptCase for KeptCount {
     }
 }
 
-/// Its newest stage records this.
+/// Asserts that its newest stage is the expected one.
 fn has_recorded<K: KeptCase>(rt: &impl Abort, worked: &Worked, kept: &K, expected: &Expected) {
     match kept.newest() {
         Some(stage) => record_one(rt, worked, stage, expected),
@@ -74,7 +73,7 @@ fn has_recorded<K: KeptCase>(rt: &impl Abort, worked: &Worked, kept: &K, expecte
     }
 }
 
-/// Goes on by a stage, which has to record this; so many are elected then.
+/// Adds a stage, which must be the expected one; so many candidates are then elected.
 fn gone_on<K: KeptCase + Drop>(
     rt: &impl Abort,
     alloc: Global,
@@ -88,7 +87,7 @@ fn gone_on<K: KeptCase + Drop>(
     Ok(next)
 }
 
-/// Nothing is due any more.
+/// Asserts that nothing is due any more.
 fn is_at_its_end<K: KeptCase + Drop>(
     rt: &impl Abort,
     alloc: Global,
@@ -101,7 +100,7 @@ fn is_at_its_end<K: KeptCase + Drop>(
     Ok(())
 }
 
-/// Counts a worked election stage by stage, each by what was kept of the stage before.
+/// Counts a worked election stage by stage, each from what was stored of the stage before.
 pub fn goes_on_from_what_was_kept<K: KeptCase + Drop>(
     rt: &impl Abort,
     alloc: Global,
@@ -116,17 +115,17 @@ pub fn goes_on_from_what_was_kept<K: KeptCase + Drop>(
     is_at_its_end(rt, alloc, worked, &kept)
 }
 
-/// Whether two papers that lie so are taken up.
+/// Returns whether a count with two papers in this place is resumed.
 fn are_taken_up(alloc: Global, holder: u8, units: u64) -> Result<bool, Fail> {
     let bundles = bundles_of(alloc, &[(2, &[1])])?;
     let mut places = Vec::new(alloc);
     let value = Votes::from_units(units);
     places.push(Placed { holder, value })?;
-    let kept = KeptCount::resume(first_columns(3), 1, bundles, places, Vec::new(alloc));
+    let kept = StoredCount::resume(first_columns(3), 1, bundles, places, Vec::new(alloc));
     Ok(kept.is_some())
 }
 
-/// Who holds the papers, at how many units, and whether they are taken up.
+/// The holder of the papers, their value in units, and whether the count is resumed.
 const PLACES: [(u8, u64, bool); 3] = [
     (30, ONE_VOTE, true),
     (31, ONE_VOTE, false),

@@ -1,4 +1,4 @@
-//! Lots that are handed, and lots that are recorded.
+//! Lots passed to `advance`, and recorded lots.
 
 ghost use Rattle.std.specs.Prelude.{◌≡◌, []};
 
@@ -27,7 +27,7 @@ fn tied_lot() -> Due {
     }
 }
 
-/// What advances with these lots answer one after the other; of some the count asks for none, or for another.
+/// The results of `advance` with these lots in turn; for some stages no lot is needed, or another one.
 const ADVANCES: [(Option<u8>, Result<(), AdvanceError>); 6] = [
     (Some(9), Ok(())),
     (None, Err(AdvanceError::LotNeeded)),
@@ -37,7 +37,7 @@ const ADVANCES: [(Option<u8>, Result<(), AdvanceError>); 6] = [
     (None, Err(AdvanceError::Finished)),
 ];
 
-/// An advance with this lot answers so.
+/// Asserts the result of `advance` with this lot.
 fn answers<B: CountBook>(
     rt: &impl Abort,
     book: &mut B,
@@ -47,7 +47,7 @@ fn answers<B: CountBook>(
     assert!(rt; book.advance(lot) == *answer, "lot {lot:?}");
 }
 
-/// Each advance answers so, and the count is finished then.
+/// Each `advance` has its result, and the count is then finished.
 #[derive(Drop)]
 struct TakesLots;
 
@@ -66,7 +66,7 @@ fn lots_are_asked_for(rt: HostRuntime) -> Result<(), Fail> {
     by_parcels(&rt, rt.alloc(), tied()?, &TakesLots)
 }
 
-/// Recorded lots; where a count with them ends; and what is due after its second stage, where it comes there.
+/// Recorded lots; how a count with them ends; and what is due after its second stage, if it has one.
 type Recorded = (&'static [(u8, u8)], &'static str, Due);
 
 /// The cases.
@@ -77,7 +77,7 @@ const LOTS: [Recorded; 4] = [
     (&[(2, 3)], "finished", Due::Act(Action::ExcludeLast(2))),
 ];
 
-/// Where a count ended, in words.
+/// Returns how a count ended, in words.
 fn end_text(end: CountEnd) -> &'static str {
     match end {
         CountEnd::Finished => "finished",
@@ -117,7 +117,7 @@ impl<'a> Counting for DueSecond<'a> {
     }
 }
 
-/// What is due before each of three stages and behind them, and what of that is due last, if the count comes there.
+/// What is due before each of three stages and after them; the last two, if the count reaches them.
 #[derive(Drop)]
 struct DueAtEach<'a> {
     alloc: Global,
@@ -133,7 +133,7 @@ impl<'a> Counting for DueAtEach<'a> {
     }
 }
 
-/// Whether these four are due, of which the first two are always so, and the last two may be known.
+/// Returns whether the four are due, the first two always, and the last two if they are known.
 fn are_due(told: &[Due], last: Option<[Due; 2]>) -> bool {
     let first = [Due::Act(Action::First), tied_lot()];
     let ends = match last {
@@ -143,7 +143,7 @@ fn are_due(told: &[Due], last: Option<[Due; 2]>) -> bool {
     ends && told.starts_with(&first) && told.len() == 4
 }
 
-/// Recorded lots lead a count there.
+/// Asserts how a count with recorded lots ends.
 fn decide(
     rt: &impl Abort,
     alloc: Global,

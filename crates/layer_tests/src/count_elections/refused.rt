@@ -1,4 +1,4 @@
-//! Growths that are refused, by `rt try --test --fail-alloc 1..` and tools/try refused-in-tests: each call that fails is made once more.
+//! Allocations that fail, one by one, by `rt try --test --fail-alloc N`: each failed call is repeated.
 
 ghost use Rattle.std.specs.Prelude.{◌≡◌, []};
 
@@ -16,12 +16,12 @@ fn advance<B: CountBook>(book: &mut B) -> Result<(), AdvanceError> {
     book.advance(None)
 }
 
-/// Whether a book has so many stages, and this is due.
+/// Returns whether a book has so many stages, and this is due.
 fn stands_at<B: CountBook>(book: &B, stages: usize, due: &Due) -> bool {
     book.stages().len() == stages && book.due() == *due
 }
 
-/// Adds a stage, and once more where a growth was refused, which has to leave the book as it was.
+/// Adds a stage. If an allocation fails, the book must be unchanged, and the stage is added once more.
 fn advance_again<B: CountBook>(rt: &impl Abort, book: &mut B, stages: usize) {
     let due = book.due();
     if advance(book) == Err(AdvanceError::Memory) {
@@ -33,7 +33,7 @@ fn advance_again<B: CountBook>(rt: &impl Abort, book: &mut B, stages: usize) {
     );
 }
 
-/// Adds a paper, and once more where a growth was refused, which has to leave the bundles as they were.
+/// Adds a paper. If an allocation fails, the bundles must be unchanged, and the paper is added once more.
 fn add_again(rt: &impl Abort, bundles: &mut Bundles, paper: Prefs) {
     let (papers, len) = (bundles.papers(), bundles.len());
     if add(bundles, paper).is_err() {
@@ -70,7 +70,7 @@ fn a_refused_growth_leaves_the_book(rt: HostRuntime) -> Result<(), Fail> {
     by_parcels(&rt, rt.alloc(), worked, &AdvancesAgain { stages })
 }
 
-/// The papers of the election as bundles, each added once more where a growth was refused.
+/// Returns the papers of the election as bundles; each paper is added once more if an allocation failed.
 fn bundled_again(rt: &impl Abort, alloc: Global, worked: &Worked) -> Result<Bundles, Fail> {
     let papers = papers_of(alloc, worked.papers)?;
     let mut bundles = Bundles::new(alloc);

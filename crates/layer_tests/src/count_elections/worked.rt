@@ -2,8 +2,8 @@
 
 use count::Action;
 
-/// A stage as it has to come: its action, the figures of candidates 1, 2 and so on, the newly
-/// elected, and the non-transferable and the lost, in units.
+/// An expected stage: its action, the figures of candidates 1, 2 and so on, the newly elected, and the non-transferable and the
+/// lost, in units.
 pub struct Expected {
     pub action: Action,
     pub votes: &'static [u64],
@@ -11,7 +11,7 @@ pub struct Expected {
     pub sums: (u64, u64),
 }
 
-/// A small election: groups of equal papers, the recorded lots, and the stages that have to come.
+/// A small election: groups of equal papers, the recorded lots, and the expected stages.
 pub struct Worked {
     pub name: &'static str,
     pub candidates: u8,

@@ -1,4 +1,4 @@
--- What is done of the count of a ward, by what is due before each of its stages, and what is tabulated of it.
+-- What is done of a ward's count, checked by what is due before each of its stages, and the tabulation of it.
 use Rattle.std.specs.Prelude.{◌≡◌, ℕ, ◌-◌, Bool, true, List, ◌++◌, slice_get}
 use Rattle.count.specs.Books.{BundledBook}
 use Rattle.count.specs.Bundles.{Bundle, papers_of, bundled}
@@ -10,11 +10,11 @@ use Rattle.register.specs.Marks.{columns_of}
 use Rattle.register.specs.Elections.{ElectionEntry, election_of, has_count, contest_of, stages_of, is_among}
 use Rattle.register.specs.Tabulated.{TabulationEntries, bundles_in, figures_in}
 
--- the count of a ward, if its election is contested, can be held
+-- if a ward's election is contested, its count can be held
 abbrev pub IsFair : OfficeState → WardEntry → Type 0
 IsFair s w = is_contested w (candidates_of s w.number) ≡ true → IsContest (contest_of (election_of s w))
 
--- a lot is for a stage before which one is due, and for one of the tied, by what is due before each stage from the first on
+-- a lot is for a stage that needs one, and for one of those tied, given what is due before each stage from the first
 abbrev pub is_drawn_by : List Due → (ℕ × ℕ) → Bool
 is_drawn_by dues lot = is_among lot.1 (slice_get dues (lot.0 - 1))
 
@@ -38,7 +38,7 @@ pub record HasCounted (e : ElectionEntry) (ward : WardEntry) (columns : List ℕ
   pub contest_is : book.contest ≡ contest_on_bundles e
   pub stages_are : book.history ≡ stages_of e
 
--- what there is of the count of an election came into a tabulation, behind what was there
+-- what there is of an election's count was appended to a tabulation
 pub record IsAdded (e : ElectionEntry) (old new : TabulationEntries) : Type 0 where
   pub bundles : new.bundles ≡ old.bundles ++ bundles_in e
   pub figures : new.figures ≡ old.figures ++ figures_in e

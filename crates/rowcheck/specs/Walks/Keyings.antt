@@ -2,16 +2,16 @@
 use Rattle.std.specs.Prelude.{ℕ, Bool, ◌&&◌, ◌==◌, List, Some}
 use Rattle.std.specs.List.{list_all, filter}
 use Rattle.register.specs.Offices.{BatchEntry, KeyedEntry, OfficeState}
-use Rattle.register.specs.Keyed.{is_keyed_for, are_rounds_to}
+use Rattle.register.specs.BatchConditions.{is_keyed_for, are_rounds_to}
 
--- the papers that are keyed of a batch, in all rounds and by all its clerks
+-- the papers keyed of a batch, in all its rounds and by all its clerks
 abbrev pub papers_of : OfficeState → ℕ → List KeyedEntry
 papers_of s batch = filter (λ (k : KeyedEntry). k.batch == batch) s.keyings
 
--- each of them is keyed as the batch asks
+-- each of them meets the condition on the batch's papers
 abbrev pub are_keyed_for : OfficeState → BatchEntry → Bool
 are_keyed_for s b = list_all (λ k. is_keyed_for s k (Some b)) (papers_of s b.number)
 
--- and they are those of its rounds
+-- and so do its rounds
 abbrev pub is_rightly_keyed : OfficeState → BatchEntry → Bool
 is_rightly_keyed s b = are_keyed_for s b && are_rounds_to s b b.round

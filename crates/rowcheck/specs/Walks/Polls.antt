@@ -4,10 +4,10 @@ use Rattle.std.specs.List.{filter}
 use Rattle.register.specs.Offices.{BatchEntry, OfficeState}
 use Rattle.register.specs.Polls.{Pile, pile_of, is_settled}
 
--- a batch, if it is of the ward, is settled
+-- a batch is settled, if it belongs to the ward
 abbrev pub is_settled_for : OfficeState → ℕ → BatchEntry → Bool
 is_settled_for s ward b = not (b.ward == ward) || is_settled (pile_of s b)
 
--- what is keyed and judged of those batches in a list that are of the ward
+-- the keyings and verdicts of those batches in a list that belong to the ward
 abbrev pub piles_in : OfficeState → ℕ → List BatchEntry → List Pile
 piles_in s ward batches = map (pile_of s) (filter (λ (b : BatchEntry). b.ward == ward) batches)

@@ -1,4 +1,4 @@
-//! Bundles of equal ballot papers, where they lie, as the rows of their table.
+//! Bundles of equal ballot papers and their places, as the rows of their table.
 
 ghost use Rattle.std.specs.Prelude.{refl};
 ghost use Rattle.register.specs.Tabulated.{placed_entry};
@@ -10,7 +10,7 @@ use register::PlacedBundle;
 use sqlite::Row;
 use sqlite_value::value::ValueRef;
 use std::alloc::Global;
-use tables::cells::{amount_at, bytes, bytes_at, number, number_at};
+use tables::value_conversion::{amount_at, bytes, bytes_at, number, number_at};
 use tables::{Entries, Fault, Table};
 
 /// The bundles, by ward and list of preferences.

@@ -10,7 +10,7 @@ use register::StageFigure;
 use sqlite::Row;
 use sqlite_value::value::ValueRef;
 use std::alloc::Global;
-use tables::cells::{amount_at, number, number_at, row_values};
+use tables::value_conversion::{amount_at, number, number_at, row_values};
 use tables::{Entries, Fault, Table};
 
 /// The figures, by ward, stage and candidate.

@@ -9,7 +9,7 @@ use register::KeyedPaper;
 use sqlite::Row;
 use sqlite_value::value::ValueRef;
 use std::alloc::Global;
-use tables::cells::{number_at, row_values, text, text_at};
+use tables::value_conversion::{number_at, row_values, text, text_at};
 use tables::{Entries, Fault, Table};
 
 /// The keyed papers, by batch, round, clerk and paper.

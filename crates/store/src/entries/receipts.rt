@@ -9,7 +9,7 @@ use register::Receipt;
 use sqlite::Row;
 use sqlite_value::value::ValueRef;
 use std::alloc::Global;
-use tables::cells::{number, number_at, text, text_at};
+use tables::value_conversion::{number, number_at, text, text_at};
 use tables::{Entries, Fault, Table};
 
 /// The receipts, by actor and id.

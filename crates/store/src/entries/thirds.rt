@@ -9,7 +9,7 @@ use register::ThirdClerk;
 use sqlite::Row;
 use sqlite_value::value::ValueRef;
 use std::alloc::Global;
-use tables::cells::{number_at, row_values};
+use tables::value_conversion::{number_at, row_values};
 use tables::{Entries, Fault, Table};
 
 /// The third clerks, by batch.

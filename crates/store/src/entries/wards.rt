@@ -12,10 +12,10 @@ use register::{Phase, Ward};
 use sqlite::Row;
 use sqlite_value::value::ValueRef;
 use std::alloc::Global;
-use tables::cells::{number_at, row_values, text, text_at};
+use tables::value_conversion::{number_at, row_values, text, text_at};
 use tables::{Entries, Fault, Table};
 
-/// The phase in a column; `Damaged` where there is none.
+/// Reads the phase in a column; `Damaged` if there is none.
 fn phase_at(row: &Row, place: usize) -> Result<Phase, Fault>
     ensures phase { IfOk result (λ phase. column row.now place ≡ Int (pos (phase_number phase))) }
     ensures cause { IfErr result (λ f. (f ≡ Fault.Memory) ⊎ ((f ≡ Fault.Damaged) × ¬ IsPhase (column row.now place))) }

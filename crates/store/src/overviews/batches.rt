@@ -1,4 +1,4 @@
-//! How the batches of a ward stand, read from the tables.
+//! Overviews of the batches of a ward, read from the tables.
 
 ghost use Rattle.std.specs.Prelude.{◌≡◌, ℕ, map, option_map, None, IfOk, IfErr, string_bytes};
 ghost use Rattle.register.specs.Offices.{OfficeState, batch_entry, judged_entry};
@@ -12,27 +12,27 @@ use crate::overviews::clerks::{ClerkOverview, clerk_list};
 use crate::overviews::piles::{ReadBatch, all_paired, numbers_by_pile, pile_text};
 use crate::storage::Store;
 use crate::views::papers::Keyings;
+use register::agreement::{clerks_of, count_open, is_keyed};
 use register::marks::columns_of;
-use register::papers::{clerks_of, count_open, is_keyed};
 use register::{Batch, JudgedPaper};
 use sqlite::Alter;
 use std::alloc::Global;
 use tables::Fault;
 
-/// How a batch stands by the keyings of its current round.
+/// The standing of a batch by the keyings of its current round.
 #[derive(Clone, Copy, PartialEq, Eq)]
 pub enum BatchStanding {
     /// Two of them are equal.
     Taken,
-    /// At least two are there, and no two are equal.
+    /// There are at least two, and no two are equal.
     Differing,
     /// There are fewer than two.
     Waiting,
 }
 
-/// A batch, and its two or three clerks in the order of their numbers. It says how the batch stands, and how many doubtful papers
-/// it has without a verdict, once it is taken. It has the number of the first other batch that is taken with the very same
-/// papers, of a ward with the same candidates' numbers.
+/// A batch, and its two or three clerks in the order of their numbers; its standing; and how many doubtful papers
+/// without a verdict it has, once it is taken. `twin` is the number of the first other batch that is taken with exactly
+/// the same papers, of a ward with the same candidates' numbers.
 #[derive(Drop)]
 pub struct BatchOverview {
     pub batch: Batch,
@@ -42,7 +42,7 @@ pub struct BatchOverview {
     pub twin: Option<u32>,
 }
 
-/// How a batch stands by these keyings of its current round.
+/// Returns the standing of a batch by these keyings of its current round.
 fn standing_by(keyings: &Keyings) -> BatchStanding
     ensures { result ≡ standing_by (keyings_by keyings.now) }
 {
@@ -55,7 +55,7 @@ fn standing_by(keyings: &Keyings) -> BatchStanding
     }
 }
 
-/// How a batch stands by its clerks, its keyings and the verdicts on its papers: all but its twin.
+/// Returns the overview of a batch by its clerks, its keyings and the verdicts on its papers, without its twin.
 fn overview_by(
     batch: Batch,
     clerks: Vec<ClerkOverview>,
@@ -73,7 +73,7 @@ fn overview_by(
     }
 }
 
-/// How the batches of a ward stand, by all batches, which were read for it. An error is `Memory`.
+/// Returns the overviews of the batches of a ward, from what was read of all batches. An error is `Memory`.
 fn overviews_among(alloc: Global, read: Vec<ReadBatch>) -> Result<Vec<BatchOverview>, Fault>
     ensures is { IfOk result (λ found. (s : OfficeState) (ward : ℕ) → map read_view read.items ≡ map (read_view_of s ward) s.batches → map batch_view found.items ≡ batch_views s ward) }
     ensures cause { IfErr result (λ f. f ≡ Fault.Memory) }
@@ -88,7 +88,7 @@ fn overviews_among(alloc: Global, read: Vec<ReadBatch>) -> Result<Vec<BatchOverv
 }
 
 impl<S: Alter> Store<S> {
-    /// How a batch stands whose keyings these are, all but its twin.
+    /// Returns the overview of a batch with these keyings, without its twin.
     fn batch_overview(&mut self, batch: Batch, keyings: &Keyings) -> Result<BatchOverview, Fault>
         requires { IsOpen S.Store self.old }
         ensures { Loads S.Store self.old self.new result (λ s found. KeyingsAre s (batch_entry batch) keyings.now → batch_view found ≡ batch_view_with s (batch_entry batch) None) }
@@ -102,7 +102,7 @@ impl<S: Alter> Store<S> {
         Ok(overview_by(batch, clerks, keyings, &verdicts))
     }
 
-    /// The same of a batch of this ward, and nothing of another one.
+    /// Returns the same for a batch of this ward, and nothing for one of another ward.
     fn overview_in(
         &mut self,
         batch: Batch,
@@ -119,7 +119,7 @@ impl<S: Alter> Store<S> {
         Ok(Some(overview))
     }
 
-    /// The papers that a batch is taken with by these keyings, as one text; none where it isn't taken.
+    /// Returns the papers that a batch is taken with by these keyings, as one text; none if it isn't taken.
     fn pile_in(&mut self, batch: &Batch, keyings: &Keyings) -> Result<Option<String>, Fault>
         requires { IsOpen S.Store self.old }
         ensures { Loads S.Store self.old self.new result (λ s found. KeyingsAre s (batch_entry batch.now) keyings.now → option_map string_bytes found ≡ pile_in s (batch_entry batch.now)) }
@@ -135,7 +135,7 @@ impl<S: Alter> Store<S> {
         Ok(Some(text))
     }
 
-    /// What is read of a batch where this ward is asked for.
+    /// Reads what the overviews of this ward need of a batch.
     fn read_batch(&mut self, batch: Batch, ward: u32) -> Result<ReadBatch, Fault>
         ensures { Loads S.Store self.old self.new result (λ s found. read_view found ≡ read_view_of s ward (batch_entry batch)) }
     {
@@ -150,7 +150,7 @@ impl<S: Alter> Store<S> {
         })
     }
 
-    /// The same of batches, one after the other.
+    /// Does the same for batches, one after another.
     fn read_batches(&mut self, batches: Vec<Batch>, ward: u32) -> Result<Vec<ReadBatch>, Fault>
         requires { IsOpen S.Store self.old }
         ensures { Loads S.Store self.old self.new result (λ s found. map read_view found.items ≡ map (read_view_of s ward) (map batch_entry batches.items)) }
@@ -165,7 +165,7 @@ impl<S: Alter> Store<S> {
         Ok(found)
     }
 
-    /// How the batches of a ward stand.
+    /// Returns the overviews of the batches of a ward.
     fn ward_batches(&mut self, ward: u32) -> Result<Vec<BatchOverview>, Fault>
         ensures { Loads S.Store self.old self.new result (λ s found. map batch_view found.items ≡ batch_views s ward) }
     {
@@ -175,10 +175,11 @@ impl<S: Alter> Store<S> {
         Ok(found)
     }
 
-    /// How the batches of the ward of this number stand, in the order of their numbers; none at all where there is no such ward.
-    /// The batches of all wards are read once, one after the other, each with its keyings of the current round, since a batch's
-    /// twin may be of another ward. The papers of those that are taken are kept as texts, by which twins are found. It changes
-    /// nothing, and adds nothing to what a stop may leave. `Memory` or `Store` where a row can't be read.
+    /// Returns the overviews of the batches of the ward with this number, in the order of their numbers; none if there
+    /// is no such ward. The batches of all wards are read once, one after another, each with its keyings of the current
+    /// round, since a batch's twin may be of another ward. The papers of the taken ones are held in memory as texts, by
+    /// which twins are found. Changes nothing, and adds nothing to what a stop may leave. `Memory` or `Store` if a row
+    /// can't be read.
     pub fn load_batches(&mut self, ward: u32) -> Result<Option<Vec<BatchOverview>>, Fault>
         ensures { Loads S.Store self.old self.new result (λ s found. option_map (λ batches. map batch_view batches.items) found ≡ batch_views_at s ward) }
     {

@@ -1,26 +1,26 @@
-//! The clerks of a batch, and who of them has keyed it, read from the tables.
+//! The clerks of a batch, and which of them have keyed it, read from the tables.
 
 ghost use Rattle.std.specs.Prelude.{◌≡◌, map, IfOk};
 ghost use Rattle.register.specs.Offices.{batch_entry};
-ghost use Rattle.register.specs.Papers.{clerk_list};
+ghost use Rattle.register.specs.Agreement.{clerk_list};
 ghost use Rattle.store.specs.Loads.{Loads, IsOpen};
 ghost use Rattle.store.specs.Overviews.{clerk_view, clerk_view_of};
 
 use crate::storage::Store;
 use register::Batch;
-use register::papers::Clerks;
+use register::agreement::Clerks;
 use sqlite::Alter;
 use std::alloc::{AllocError, Global};
 use tables::Fault;
 
-/// A clerk (1 to 999) who keys a batch, and whether he has keyed its current round.
+/// A clerk (1 to 999) of a batch, and whether the clerk has keyed its current round.
 #[derive(Clone, Copy, PartialEq, Eq)]
 pub struct ClerkOverview {
     pub clerk: u32,
     pub keyed: bool,
 }
 
-/// The numbers of the clerks of a batch, as a list.
+/// Returns the numbers of the clerks of a batch, as a list.
 pub(crate) fn clerk_list(alloc: Global, clerks: Clerks) -> Result<Vec<u32>, AllocError>
     ensures { IfOk result (λ numbers. numbers.items ≡ clerk_list clerks) }
 {
@@ -34,7 +34,7 @@ pub(crate) fn clerk_list(alloc: Global, clerks: Clerks) -> Result<Vec<u32>, Allo
 }
 
 impl<S: Alter> Store<S> {
-    /// Whether one of a batch's clerks has keyed its current round.
+    /// Returns whether one of a batch's clerks has keyed its current round.
     fn clerk_overview(&mut self, batch: &Batch, clerk: u32) -> Result<ClerkOverview, Fault>
         ensures { Loads S.Store self.old self.new result (λ s found. clerk_view found ≡ clerk_view_of s (batch_entry batch.now) clerk) }
     {
@@ -42,7 +42,7 @@ impl<S: Alter> Store<S> {
         Ok(ClerkOverview { clerk, keyed })
     }
 
-    /// The same of some clerks, one after the other.
+    /// Does the same for several clerks, one after another.
     pub(crate) fn clerk_overviews(
         &mut self,
         batch: &Batch,

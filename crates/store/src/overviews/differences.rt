@@ -2,7 +2,7 @@
 
 ghost use Rattle.std.specs.Prelude.{◌≡◌, ◌∷◌, [], ◌&&◌, map, filter, option_map, IfOk, IfErr};
 ghost use Rattle.register.specs.Offices.{batch_entry, keyed_entry};
-ghost use Rattle.register.specs.Papers.{is_keyed, differ};
+ghost use Rattle.register.specs.Agreement.{is_keyed, differ};
 ghost use Rattle.tables.specs.declared.fault.Fault.{Fault};
 ghost use Rattle.store.specs.Keyings.{keyings_by};
 ghost use Rattle.store.specs.Overviews.{has_alike, is_apart, apart_among, papers_apart, differences_view, differences_by, differences_of, differences_at};
@@ -10,13 +10,13 @@ ghost use Rattle.store.specs.Loads.{Loads};
 
 use crate::storage::Store;
 use crate::views::papers::Keyings;
-use register::papers::is_keyed;
+use register::agreement::is_keyed;
 use register::{Batch, KeyedPaper};
 use sqlite::Alter;
 use std::alloc::{AllocError, Global};
 use tables::Fault;
 
-/// A batch, whether it differs, and the numbers of the papers on which keyings of its current round differ.
+/// A batch, whether its keyings differ, and the numbers of the papers on which keyings of its current round differ.
 #[derive(Drop)]
 pub struct Differences {
     pub batch: Batch,
@@ -24,7 +24,7 @@ pub struct Differences {
     pub papers: Vec<u32>,
 }
 
-/// Whether a keying has this paper with these marks.
+/// Returns whether a keying has this paper with these marks.
 fn has_alike(keyed: &KeyedPaper, keying: &[KeyedPaper]) -> bool
     ensures { result ≡ has_alike (keyed_entry keyed.now) (map keyed_entry keying.now) }
 {
@@ -37,14 +37,14 @@ fn has_alike(keyed: &KeyedPaper, keying: &[KeyedPaper]) -> bool
 }
 
 #[tactic(auto, using(crate::proofs::OverviewLemmas::apart_two))]
-/// Whether one of two other keyings that is there has a paper with other marks.
+/// Returns whether one of the two other keyings, if it is there, has the paper with other marks.
 fn is_apart(keyed: &KeyedPaper, second: &[KeyedPaper], third: &[KeyedPaper]) -> bool
     ensures { result ≡ is_apart (filter is_keyed (map keyed_entry second.now ∷ map keyed_entry third.now ∷ [])) (keyed_entry keyed.now) }
 {
     (is_keyed(second) & !has_alike(keyed, second)) | (is_keyed(third) & !has_alike(keyed, third))
 }
 
-/// The numbers of the papers that one keying has with other marks than one of two others that is there.
+/// Returns the numbers of the papers of one keying that one of the two others, if it is there, has with other marks.
 fn apart_among(
     alloc: Global,
     keying: &[KeyedPaper],
@@ -63,7 +63,8 @@ fn apart_among(
 }
 
 #[tactic(auto, using(crate::proofs::OverviewLemmas::apart_three))]
-/// The numbers of the papers on which these keyings differ: those that the first keying that is there has with other marks than another one.
+/// Returns the numbers of the papers on which these keyings differ: those of the first one there that another one has
+/// with other marks.
 fn papers_apart(alloc: Global, keyings: &Keyings) -> Result<Vec<u32>, AllocError>
     ensures { IfOk result (λ papers. papers.items ≡ papers_apart (keyings_by keyings.now)) }
 {
@@ -80,7 +81,7 @@ fn papers_apart(alloc: Global, keyings: &Keyings) -> Result<Vec<u32>, AllocError
     }
 }
 
-/// A batch, and where these keyings of its current round differ. An error is `Memory`.
+/// Returns a batch, and where these keyings of its current round differ. An error is `Memory`.
 fn differences_by(alloc: Global, batch: Batch, keyings: &Keyings) -> Result<Differences, Fault>
     ensures is { IfOk result (λ found. differences_view found ≡ differences_by (batch_entry batch) (keyings_by keyings.now)) }
     ensures cause { IfErr result (λ f. f ≡ Fault.Memory) }
@@ -96,7 +97,7 @@ fn differences_by(alloc: Global, batch: Batch, keyings: &Keyings) -> Result<Diff
 }
 
 impl<S: Alter> Store<S> {
-    /// Where the keyings of a batch differ.
+    /// Returns where the keyings of a batch differ.
     fn batch_differences(&mut self, batch: Batch) -> Result<Differences, Fault>
         ensures { Loads S.Store self.old self.new result (λ s found. differences_view found ≡ differences_of s (batch_entry batch)) }
     {
@@ -105,9 +106,10 @@ impl<S: Alter> Store<S> {
         Ok(found)
     }
 
-    /// The batch with this number, if there is one; whether it differs; and the numbers of the papers on which keyings of its
-    /// current round differ, in the order of the papers. These are given too where two keyings of three are equal. It changes
-    /// nothing, and adds nothing to what a stop may leave. `Memory` or `Store` where a row can't be read.
+    /// Returns the batch with this number, if there is one; whether its keyings differ; and the numbers of the papers
+    /// on which keyings of its current round differ, in the order of the papers. The numbers are returned even if two
+    /// of three keyings are equal. Changes nothing, and adds nothing to what a stop may leave. `Memory` or `Store` if a
+    /// row can't be read.
     pub fn load_differences(&mut self, batch: u32) -> Result<Option<Differences>, Fault>
         ensures { Loads S.Store self.old self.new result (λ s found. option_map differences_view found ≡ differences_at s batch) }
     {

@@ -3,7 +3,7 @@
 ghost use Rattle.std.specs.Prelude.{◌≡◌, ◌==◌, ◌++◌, map, option_map, IfOk};
 ghost use Rattle.std.specs.List.{flat_map};
 ghost use Rattle.register.specs.Offices.{batch_entry, keyed_entry, judged_entry};
-ghost use Rattle.register.specs.Papers.{is_doubtful};
+ghost use Rattle.register.specs.Agreement.{is_doubtful};
 ghost use Rattle.tables.specs.declared.fault.Fault.{Fault};
 ghost use Rattle.store.specs.Overviews.{verdict_on, doubtful_view, doubtful_view_of, doubtful_among, doubtful_in, doubtful_papers, doubtful_papers_view, doubtful_at};
 ghost use Rattle.store.specs.Loads.{Loads, IsOpen};
@@ -11,8 +11,8 @@ ghost use Rattle.store.specs.Loads.{Loads, IsOpen};
 use crate::overviews::papers::CountedPaper;
 use crate::storage::Store;
 use paper::Columns;
+use register::agreement::is_doubtful;
 use register::marks::columns_of;
-use register::papers::is_doubtful;
 use register::polls::judgement_on;
 use register::{Batch, Candidate, JudgedPaper, KeyedPaper};
 use sqlite::Alter;
@@ -33,7 +33,7 @@ pub struct DoubtfulPapers {
     pub papers: Vec<DoubtfulPaper>,
 }
 
-/// The same verdict once more.
+/// Returns a copy of a verdict.
 fn copy_of(judged: &JudgedPaper) -> Result<JudgedPaper, AllocError>
     ensures { IfOk result (λ copy. judged_entry copy ≡ judged_entry judged.now) }
 {
@@ -45,7 +45,7 @@ fn copy_of(judged: &JudgedPaper) -> Result<JudgedPaper, AllocError>
     })
 }
 
-/// The verdict on the paper of this number, if it is among these.
+/// Returns the verdict on the paper with this number, if these include one.
 fn verdict_on(verdicts: &[JudgedPaper], paper: u32) -> Result<Option<JudgedPaper>, AllocError>
     ensures { IfOk result (λ found. option_map judged_entry found ≡ verdict_on (map judged_entry verdicts.now) paper) }
 {
@@ -57,7 +57,7 @@ fn verdict_on(verdicts: &[JudgedPaper], paper: u32) -> Result<Option<JudgedPaper
     Ok(None)
 }
 
-/// A doubtful paper as it counts by the columns of its ward, with the verdict on it, if it is among these.
+/// Returns a doubtful paper as it counts by the columns of its ward, with the verdict on it, if these include one.
 fn doubtful_paper(
     columns: Columns,
     verdicts: &[JudgedPaper],
@@ -76,7 +76,7 @@ fn doubtful_paper(
     })
 }
 
-/// Puts the doubtful ones of some papers behind those found before, each with the verdict on it, if it is among these.
+/// Appends the doubtful ones of these papers to those found before, each with the verdict on it, if these include one.
 fn put_doubtful(
     found: &mut Vec<DoubtfulPaper>,
     columns: Columns,
@@ -94,7 +94,7 @@ fn put_doubtful(
 }
 
 impl<S: Alter> Store<S> {
-    /// The doubtful papers of a batch, if it is taken, behind others, by the columns of its ward.
+    /// Appends the doubtful papers of a batch, if it is taken, to others, by the columns of its ward.
     fn batch_doubtful(
         &mut self,
         before: Vec<DoubtfulPaper>,
@@ -118,7 +118,7 @@ impl<S: Alter> Store<S> {
         Ok(found)
     }
 
-    /// The doubtful papers of batches, read one after the other, by the columns of their ward.
+    /// Returns the doubtful papers of batches, read one after another, by the columns of their ward.
     fn all_doubtful(
         &mut self,
         columns: Columns,
@@ -134,7 +134,7 @@ impl<S: Alter> Store<S> {
         Ok(found)
     }
 
-    /// The candidates of a ward, and the doubtful papers of its batches.
+    /// Returns the candidates of a ward, and the doubtful papers of its batches.
     fn ward_doubtful(&mut self, ward: u32) -> Result<DoubtfulPapers, Fault>
         ensures { Loads S.Store self.old self.new result (λ s found. doubtful_papers_view found ≡ doubtful_papers s ward) }
     {
@@ -145,10 +145,11 @@ impl<S: Alter> Store<S> {
         Ok(DoubtfulPapers { candidates, papers })
     }
 
-    /// The doubtful papers of the taken batches of the ward of this number, by batch and paper, and the ward's candidates; none
-    /// at all where there is no such ward. Each paper comes as it counts, with the verdict on it, if there is one. The ward's
-    /// batches are read one after the other, each with its keyings of the current round and the verdicts on its papers. It
-    /// changes nothing, and adds nothing to what a stop may leave. `Memory` or `Store` where a row can't be read.
+    /// Returns the doubtful papers of the taken batches of the ward with this number, by batch and paper, and the
+    /// ward's candidates; none if there is no such ward. Each paper is returned as it counts, with the verdict on it,
+    /// if there is one. The ward's batches are read one after another, each with its keyings of the current round and
+    /// the verdicts on its papers. Changes nothing, and adds nothing to what a stop may leave. `Memory` or `Store` if a
+    /// row can't be read.
     pub fn load_doubtful(&mut self, ward: u32) -> Result<Option<DoubtfulPapers>, Fault>
         ensures { Loads S.Store self.old self.new result (λ s found. option_map doubtful_papers_view found ≡ doubtful_at s ward) }
     {

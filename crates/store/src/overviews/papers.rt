@@ -4,7 +4,7 @@ ghost use Rattle.std.specs.Prelude.{◌≡◌, ℕ, map, option_map, IfOk, IfErr
 ghost use Rattle.std.specs.List.{flat_map};
 ghost use Rattle.register.specs.Offices.{OfficeState, batch_entry, candidate_entry, keyed_entry, judged_entry, candidates_of};
 ghost use Rattle.register.specs.Marks.{columns_of};
-ghost use Rattle.register.specs.Papers.{batches_of};
+ghost use Rattle.register.specs.Agreement.{batches_of};
 ghost use Rattle.register.specs.Polls.{judgements, piles_of};
 ghost use Rattle.tables.specs.declared.fault.Fault.{Fault};
 ghost use Rattle.store.specs.Elections.{pile_by};
@@ -14,8 +14,8 @@ ghost use Rattle.store.specs.Loads.{Loads};
 use crate::storage::Store;
 use crate::views::papers::BatchPapers;
 use paper::Columns;
+use register::agreement::is_keyed;
 use register::marks::columns_of;
-use register::papers::is_keyed;
 use register::polls::judgement_on;
 use register::{Batch, Candidate, JudgedPaper, Judgement, KeyedPaper};
 use sqlite::Alter;
@@ -30,8 +30,8 @@ pub struct CountedPaper {
     pub judgement: Judgement,
 }
 
-/// Whether a batch is taken; the candidates of its ward; and its papers as they count, in the order of their
-/// numbers, none where it isn't taken.
+/// Whether a batch is taken; the candidates of its ward; and its papers as they count, in the order of their numbers,
+/// none if it isn't taken.
 #[derive(Drop)]
 pub struct CountedPapers {
     pub taken: bool,
@@ -39,13 +39,13 @@ pub struct CountedPapers {
     pub papers: Vec<CountedPaper>,
 }
 
-/// The law of papers that are shown as they count: those of a ward's batches, one after the other, have the judgements on which
-/// the ward's count rests. It is for their readers.
+/// The law of papers shown as they count: those of a ward's batches, one batch after another, have the judgements that
+/// the ward's count is based on. It is for callers.
 pub fn papers_told_are_counted()
     ensures { (s : OfficeState) (ward : ℕ) → flat_map (judgements_told s) (batches_of s ward) ≡ judgements (columns_of (candidates_of s ward)) (piles_of s ward) }
 {}
 
-/// The papers of a keying, each as it counts by the columns of its ward and the verdicts on the papers of its batch.
+/// Returns the papers of a keying, each as it counts by the columns of its ward and the verdicts on the papers of its batch.
 fn counted_among(
     alloc: Global,
     columns: Columns,
@@ -66,7 +66,7 @@ fn counted_among(
     Ok(found)
 }
 
-/// The papers of a batch as they count in a ward with these candidates. An error is `Memory`.
+/// Returns the papers of a batch as they count in a ward with these candidates. An error is `Memory`.
 fn papers_by(
     alloc: Global,
     candidates: Vec<Candidate>,
@@ -88,7 +88,7 @@ fn papers_by(
 }
 
 impl<S: Alter> Store<S> {
-    /// The papers of a batch as they count.
+    /// Returns the papers of a batch as they count.
     fn batch_papers(&mut self, batch: &Batch) -> Result<CountedPapers, Fault>
         ensures { Loads S.Store self.old self.new result (λ s found. papers_view found ≡ papers_of s (batch_entry batch.now)) }
     {
@@ -98,10 +98,10 @@ impl<S: Alter> Store<S> {
         Ok(found)
     }
 
-    /// The papers of the batch with this number, if there is one, as they count, with the candidates of its ward. Where the batch
-    /// is taken, each paper has the judgement by which it is counted; where it isn't, there are none. The candidates, the keyings
-    /// of the current round and the verdicts on the papers are read. It changes nothing, and adds nothing to what a stop may
-    /// leave. `Memory` or `Store` where a row can't be read.
+    /// Returns the papers of the batch with this number, if there is one, as they count, with the candidates of its
+    /// ward. If the batch is taken, each paper has the judgement by which it is counted; if it isn't, there are none.
+    /// The candidates, the keyings of the current round and the verdicts on the papers are read. Changes nothing, and
+    /// adds nothing to what a stop may leave. `Memory` or `Store` if a row can't be read.
     pub fn load_batch_papers(&mut self, batch: u32) -> Result<Option<CountedPapers>, Fault>
         ensures { Loads S.Store self.old self.new result (λ s found. option_map papers_view found ≡ papers_at s batch) }
     {

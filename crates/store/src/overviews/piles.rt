@@ -1,4 +1,4 @@
-//! The papers of batches that are taken, as texts, and which batches have the same.
+//! The papers of batches that are taken, as texts, and which batches have the same ones.
 
 ghost use Rattle.std.specs.Prelude.{◌≡◌, ◌∷◌, [], ◌++◌, not, ◌==◌, ℕ, List, map, find, if◌then◌else◌, IfOk, option_map, string_bytes};
 ghost use Rattle.std.specs.List.{flat_map};
@@ -14,8 +14,8 @@ use register::KeyedPaper;
 use std::alloc::{AllocError, Global};
 use std::collections::HashMap;
 
-/// What was read of a batch: its number; its papers as one text, where it is taken;
-/// and how it stands but for its twin, where it is of the ward that is asked for.
+/// What was read of a batch: its number; its papers as one text, if it is taken; and its overview without its twin, if
+/// it is of the ward asked for.
 #[derive(Drop)]
 pub(crate) struct ReadBatch {
     pub(crate) number: u32,
@@ -23,7 +23,7 @@ pub(crate) struct ReadBatch {
     pub(crate) overview: Option<BatchOverview>,
 }
 
-/// Puts a line behind a text.
+/// Appends a line to a text.
 fn put_line(text: &mut String, line: &str) -> Result<(), AllocError>
     ensures { IfOk result (λ _. string_bytes text.new ≡ string_bytes text.old ++ in_a_line line.now) }
 {
@@ -31,7 +31,7 @@ fn put_line(text: &mut String, line: &str) -> Result<(), AllocError>
     text.push_str("\n")
 }
 
-/// Puts candidates' numbers behind a text, a line each.
+/// Appends candidates' numbers to a text, one per line.
 fn put_numbers(alloc: Global, text: &mut String, numbers: &[u8]) -> Result<(), AllocError>
     ensures { IfOk result (λ _. string_bytes text.new ≡ string_bytes text.old ++ candidate_lines numbers.now) }
 {
@@ -42,7 +42,7 @@ fn put_numbers(alloc: Global, text: &mut String, numbers: &[u8]) -> Result<(), A
     Ok(())
 }
 
-/// Puts the marks of papers behind a text, a line each.
+/// Appends the marks of papers to a text, one paper per line.
 fn put_papers(text: &mut String, papers: &[KeyedPaper]) -> Result<(), AllocError>
     ensures { IfOk result (λ _. string_bytes text.new ≡ string_bytes text.old ++ paper_lines (map keyed_entry papers.now)) }
 {
@@ -53,8 +53,8 @@ fn put_papers(text: &mut String, papers: &[KeyedPaper]) -> Result<(), AllocError
 }
 
 #[tactic(auto, unfolding(crate::specs::Overviews::pile_text))]
-/// The papers of a batch, and the numbers of its ward's candidates, as one text: two are alike where the
-/// candidates are, and each paper.
+/// Returns the papers of a batch, and the numbers of its ward's candidates, as one text: two such texts are equal if
+/// and only if the candidates' numbers and all papers are.
 pub(crate) fn pile_text(
     alloc: Global,
     columns: &Columns,
@@ -69,7 +69,7 @@ pub(crate) fn pile_text(
     Ok(text)
 }
 
-/// Puts a batch's number behind those that stand under its pile.
+/// Appends a batch's number to those that have the same pile.
 fn put_under(
     alloc: Global,
     numbers: &mut HashMap<String, Vec<u32>>,
@@ -83,7 +83,7 @@ fn put_under(
     Ok(())
 }
 
-/// The same of a batch that was read, if it is taken.
+/// Does the same for a batch that was read, if it is taken.
 fn put_batch(
     alloc: Global,
     numbers: &mut HashMap<String, Vec<u32>>,
@@ -97,7 +97,7 @@ fn put_batch(
     }
 }
 
-/// The numbers of batches that were read, under their piles, each in their order.
+/// Returns the numbers of the batches that were read, in order, grouped by their piles.
 pub(crate) fn numbers_by_pile(
     alloc: Global,
     batches: &[ReadBatch],
@@ -111,7 +111,7 @@ pub(crate) fn numbers_by_pile(
     Ok(numbers)
 }
 
-/// The first of some numbers that isn't this one.
+/// Returns the first of these numbers that isn't `number`.
 fn first_other(numbers: &[u32], number: u32) -> Option<u32>
     ensures { result ≡ find (λ n. not (n == number)) numbers.now }
 {
@@ -123,7 +123,7 @@ fn first_other(numbers: &[u32], number: u32) -> Option<u32>
     None
 }
 
-/// The first other batch with the same pile as this one, if it has one.
+/// Returns the first other batch with the same pile as this one, if there is one.
 fn twin_under(
     numbers: &HashMap<String, Vec<u32>>,
     pile: &Option<String>,
@@ -140,7 +140,7 @@ fn twin_under(
     first_other(group, number)
 }
 
-/// How a batch that was read stands, with its twin among those whose numbers these are.
+/// Returns the overview of a batch that was read, with its twin found in these numbers.
 fn paired(numbers: &HashMap<String, Vec<u32>>, batch: ReadBatch) -> Option<BatchOverview>
     ensures { option_map batch_view result ≡ paired (numbers_under numbers.now) (read_view batch) }
 {
@@ -156,7 +156,7 @@ fn paired(numbers: &HashMap<String, Vec<u32>>, batch: ReadBatch) -> Option<Batch
     }
 }
 
-/// The same of batches, one after the other.
+/// Does the same for batches, one after another.
 pub(crate) fn all_paired(
     alloc: Global,
     numbers: &HashMap<String, Vec<u32>>,

@@ -11,9 +11,9 @@ use sqlite::Alter;
 use tables::Fault;
 
 impl<S: Alter> Store<S> {
-    /// The receipts of an actor (0 is the office, a clerk 1 to 999), by id; where no actor is named, those
-    /// of all, by actor and id. It changes nothing, and adds nothing to what a stop may leave. `Memory` or
-    /// `Store` where a row can't be read.
+    /// Returns the receipts of an actor (0 is the office, 1 to 999 are the clerks), by id; or, if no actor is named,
+    /// all receipts, by actor and id. Changes nothing, and adds nothing to what a stop may leave. `Memory` or `Store`
+    /// if a row can't be read.
     pub fn load_receipts(&mut self, actor: Option<u32>) -> Result<Vec<Receipt>, Fault>
         ensures { Loads S.Store self.old self.new result (λ s found. map receipt_entry found.items ≡ receipts_of s actor) }
     {

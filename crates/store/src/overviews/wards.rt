@@ -1,4 +1,4 @@
-//! How all wards stand, read from the tables.
+//! Overviews of all wards, read from the tables.
 
 ghost use Rattle.std.specs.Prelude.{◌≡◌, true, map, Some};
 ghost use Rattle.register.specs.Offices.{candidate_entry, ward_entry, ward_at};
@@ -14,7 +14,7 @@ use register::{Candidate, CountedWard, Phase, Status, Ward};
 use sqlite::Alter;
 use tables::Fault;
 
-/// A ward, how it stands, and, where it is declared, who is elected, and all its candidates.
+/// A ward, its status, and, once it is declared, those elected and all its candidates.
 #[derive(Drop)]
 pub struct WardOverview {
     pub ward: Ward,
@@ -23,7 +23,7 @@ pub struct WardOverview {
     pub candidates: Vec<Candidate>,
 }
 
-/// Who is elected; in an uncontested ward all its candidates.
+/// Returns those elected; in an uncontested ward all its candidates.
 pub fn elected_in(counted: &CountedWard) -> Columns
     ensures { (e : ElectionEntry) → IsCountedWard e counted.now → is_counted e.ward.phase ≡ true → result ≡ elected_of e }
 {
@@ -33,7 +33,7 @@ pub fn elected_in(counted: &CountedWard) -> Columns
     }
 }
 
-/// Whether a phase is that of a ward that is declared.
+/// Returns whether a phase is that of a declared ward.
 fn is_declared(phase: Phase) -> bool
     ensures { result ≡ is_declared phase }
 {
@@ -41,7 +41,7 @@ fn is_declared(phase: Phase) -> bool
 }
 
 impl<S: Alter> Store<S> {
-    /// Who is elected in a ward, where that is declared, and its candidates.
+    /// Returns those elected in a ward and its candidates, if it is declared.
     fn declared_in(&mut self, ward: &Ward) -> Result<(Option<Columns>, Vec<Candidate>), Fault>
         requires { IsOpen S.Store self.old }
         ensures { Loads S.Store self.old self.new result (λ s found. ward_at s ward.now.number ≡ Some (ward_entry ward.now)
@@ -60,7 +60,7 @@ impl<S: Alter> Store<S> {
         }
     }
 
-    /// How a ward stands, and who is elected where that is declared.
+    /// Returns the overview of a ward: its status, and those elected, if it is declared.
     fn ward_overview(&mut self, ward: Ward) -> Result<WardOverview, Fault>
         ensures { Loads S.Store self.old self.new result (λ s found. ward_at s ward.number ≡ Some (ward_entry ward) → ward_view found ≡ ward_view_of s (ward_entry ward)) }
     {
@@ -74,7 +74,7 @@ impl<S: Alter> Store<S> {
         })
     }
 
-    /// How all wards of an office stand, which these are, read one after the other.
+    /// Returns the overviews of these wards, all those of an office, read one after another.
     fn ward_overviews(&mut self, wards: Vec<Ward>) -> Result<Vec<WardOverview>, Fault>
         requires { IsOpen S.Store self.old }
         ensures { Loads S.Store self.old self.new result (λ s found. map ward_entry wards.items ≡ s.wards → map ward_view found.items ≡ ward_views s) }
@@ -89,8 +89,9 @@ impl<S: Alter> Store<S> {
         Ok(found)
     }
 
-    /// How all wards stand, in the order of their numbers, each with its status and its candidates. Once a ward is declared, it has who is elected,
-    /// by its count as it was kept. It changes nothing, and adds nothing to what a stop may leave. `Memory` or `Store` where a row can't be read.
+    /// Returns the overviews of all wards, in the order of their numbers, each with its status and its candidates. Once
+    /// a ward is declared, its overview has those elected, by its stored count. Changes nothing, and adds nothing to
+    /// what a stop may leave. `Memory` or `Store` if a row can't be read.
     pub fn load_wards(&mut self) -> Result<Vec<WardOverview>, Fault>
         ensures { Loads S.Store self.old self.new result (λ s found. map ward_view found.items ≡ ward_views s) }
     {

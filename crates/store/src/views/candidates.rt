@@ -2,20 +2,20 @@
 
 ghost use Rattle.std.specs.Prelude.{◌≡◌, map, option_map};
 ghost use Rattle.register.specs.Offices.{candidate_entry, ward_at, candidate_at, candidates_of};
-ghost use Rattle.register.specs.Parts.{empty_part, part_entries};
+ghost use Rattle.register.specs.CommandInputs.{empty_input, input_entries};
 ghost use Rattle.store.specs.Elections.{IsContestAt};
 ghost use Rattle.store.specs.Loads.{Loads};
 
 use crate::entries::candidates::Candidates;
 use crate::storage::Store;
-use register::{Candidate, CountedWard, Part};
+use register::{Candidate, CommandInput, CountedWard};
 use sqlite::Alter;
 use tables::Fault;
-use tables::cells::number;
 use tables::finding::{entries_beginning, find_entry};
+use tables::value_conversion::number;
 
 impl<S: Alter> Store<S> {
-    /// The candidate with this number in this ward, if there is one.
+    /// Returns the candidate with this number in this ward, if there is one.
     pub(crate) fn find_candidate(
         &mut self,
         ward: u32,
@@ -26,14 +26,14 @@ impl<S: Alter> Store<S> {
         find_entry::<Candidates, S>(&mut self.conn, &[number(ward), number(candidate)])
     }
 
-    /// The candidates of a ward, in the order of their numbers.
+    /// Returns the candidates of a ward, in the order of their numbers.
     pub(crate) fn list_candidates(&mut self, ward: u32) -> Result<Vec<Candidate>, Fault>
         ensures { Loads S.Store self.old self.new result (λ s found. map candidate_entry found.items ≡ candidates_of s ward) }
     {
         entries_beginning::<Candidates, S>(self.alloc, &mut self.conn, &[number(ward)])
     }
 
-    /// The ward of this number with its candidates, if it is there. Its count isn't read.
+    /// Returns the ward with this number and its candidates, if there is one. Its count isn't read.
     pub(crate) fn find_contest(&mut self, ward: u32) -> Result<Option<CountedWard>, Fault>
         ensures { Loads S.Store self.old self.new result (λ s. IsContestAt s ward) }
     {
@@ -49,21 +49,25 @@ impl<S: Alter> Store<S> {
         }))
     }
 
-    /// The part of a command that needs a ward and its candidates.
-    pub(crate) fn contest_part(&mut self, ward: u32) -> Result<Part, Fault>
-        ensures { Loads S.Store self.old self.new result (λ s part. part_entries part ≡ record empty_part { ward = ward_at s ward; candidates = candidates_of s ward }) }
+    /// Returns the part of a command that needs a ward and its candidates.
+    pub(crate) fn contest_part(&mut self, ward: u32) -> Result<CommandInput, Fault>
+        ensures { Loads S.Store self.old self.new result (λ s part. input_entries part ≡ record empty_input { ward = ward_at s ward; candidates = candidates_of s ward }) }
     {
         let part = self.ward_part(ward)?;
         let candidates = self.list_candidates(ward)?;
-        Ok(Part { candidates, ..part })
+        Ok(CommandInput { candidates, ..part })
     }
 
-    /// The part of a command that needs a ward and one of its candidates.
-    pub(crate) fn candidate_part(&mut self, ward: u32, candidate: u32) -> Result<Part, Fault>
-        ensures { Loads S.Store self.old self.new result (λ s part. part_entries part ≡ record empty_part { ward = ward_at s ward; candidate = candidate_at s ward candidate }) }
+    /// Returns the part of a command that needs a ward and one of its candidates.
+    pub(crate) fn candidate_part(
+        &mut self,
+        ward: u32,
+        candidate: u32,
+    ) -> Result<CommandInput, Fault>
+        ensures { Loads S.Store self.old self.new result (λ s part. input_entries part ≡ record empty_input { ward = ward_at s ward; candidate = candidate_at s ward candidate }) }
     {
         let part = self.ward_part(ward)?;
         let candidate = self.find_candidate(ward, candidate)?;
-        Ok(Part { candidate, ..part })
+        Ok(CommandInput { candidate, ..part })
     }
 }

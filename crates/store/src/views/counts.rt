@@ -5,7 +5,7 @@ ghost use Rattle.votes.specs.Units.{max_seats};
 ghost use Rattle.register.specs.Offices.{ward_at, candidate_at};
 ghost use Rattle.register.specs.Elections.{ElectionEntry, election_of, has_count, due_of, elected_of};
 ghost use Rattle.register.specs.Counts.{poll_for, due_for, elected_for};
-ghost use Rattle.register.specs.Parts.{empty_part, part_entries};
+ghost use Rattle.register.specs.CommandInputs.{empty_input, input_entries};
 ghost use Rattle.register.specs.Tabulated.{has_stages};
 ghost use Rattle.store.specs.Elections.{IsFoundFor, polled_part, counted_part, election_in, IsThere, IsWardCount, IsBegun, IsCounted, IsCountedFor, IsShown};
 ghost use Rattle.store.specs.Loads.{Loads};
@@ -15,34 +15,33 @@ use count::Due;
 use register::elections::{Progress, elections_are_fair};
 use register::marks::columns_of;
 use register::wards::is_contested;
-use register::{CountedWard, Election, Part, WardSheet};
+use register::{CommandInput, CountedWard, Election, WardSheet};
 use sqlite::Alter;
 use std::alloc::Global;
 use tables::Fault;
 
-/// The part of a command that needs the poll of an election, if it is there. It fails only where the ward has no seats, or more
-/// than it can have; no ward of an office is such a one.
-fn polled(alloc: Global, found: Option<Election>) -> Result<Part, Fault>
-    ensures part { IfOk result (λ part. (entry : Option ElectionEntry) → IsFoundFor found entry → part_entries part ≡ polled_part entry) }
+/// Returns the part of a command that needs the poll of an election, if there is one. It fails only if the ward has no
+/// seats, or more than a ward can have; no ward of an office does.
+fn polled(alloc: Global, found: Option<Election>) -> Result<CommandInput, Fault>
+    ensures part { IfOk result (λ part. (entry : Option ElectionEntry) → IsFoundFor found entry → input_entries part ≡ polled_part entry) }
     ensures cause { IfErr result (λ f. f ≡ Fault.Store) }
     ensures some { MatchOption found (IsOk result) (λ election. 1 ≤ election.ward.seats → election.ward.seats ≤ max_seats → IsOk result) }
 {
     let Some(election) = found else {
-        return Ok(Part::empty(alloc));
+        return Ok(CommandInput::empty(alloc));
     };
     let Some(poll) = election.poll() else {
         return Err(Fault::Store);
     };
     let Election { ward, .. } = election;
-    Ok(Part {
+    Ok(CommandInput {
         ward: Some(ward),
         poll: Some(poll),
-        ..Part::empty(alloc)
+        ..CommandInput::empty(alloc)
     })
 }
 
-/// Where the count of a ward stands. That of an uncontested ward is finished, and all its candidates are
-/// elected.
+/// Returns the progress of a ward's count. That of an uncontested ward is finished, and all its candidates are elected.
 fn progress_of(found: &CountedWard) -> Progress
     ensures { (e : ElectionEntry) → IsWardCount e found.now → (result.due ≡ due_of e) × (result.elected ≡ elected_of e) }
 {
@@ -55,38 +54,37 @@ fn progress_of(found: &CountedWard) -> Progress
     }
 }
 
-/// The part of a command that needs what is due in the count of a ward, if it is there, who is elected, and
-/// the count.
-fn counted(alloc: Global, found: Option<CountedWard>) -> Part
-    ensures part { (entry : Option ElectionEntry) → IsCountedFor entry found → part_entries result ≡ counted_part entry }
+/// Returns the part of a command that needs what is due in the count of a ward, if there is one, those elected, and the count.
+fn counted(alloc: Global, found: Option<CountedWard>) -> CommandInput
+    ensures part { (entry : Option ElectionEntry) → IsCountedFor entry found → input_entries result ≡ counted_part entry }
     ensures count { (entry : Option ElectionEntry) → IsCountedFor entry found → IsShown entry result.count }
 {
     let Some(found) = found else {
-        return Part::empty(alloc);
+        return CommandInput::empty(alloc);
     };
     let progress = progress_of(&found);
     let CountedWard { ward, count, .. } = found;
-    Part {
+    CommandInput {
         ward: Some(ward),
         due: Some(progress.due),
         elected: progress.elected,
         count,
-        ..Part::empty(alloc)
+        ..CommandInput::empty(alloc)
     }
 }
 
 impl<S: Alter> Store<S> {
-    /// The part of the command that seals a ward: the ward, and the poll of its papers.
-    pub(crate) fn seal_part(&mut self, ward: u32) -> Result<Part, Fault>
-        ensures { Loads S.Store self.old self.new result (λ s part. part_entries part ≡ record empty_part { ward = ward_at s ward; poll = poll_for s (ward_at s ward) }) }
+    /// Returns the part of the command that seals a ward: the ward, and the poll of its papers.
+    pub(crate) fn seal_part(&mut self, ward: u32) -> Result<CommandInput, Fault>
+        ensures { Loads S.Store self.old self.new result (λ s part. input_entries part ≡ record empty_input { ward = ward_at s ward; poll = poll_for s (ward_at s ward) }) }
     {
         let found = self.find_election(ward)?;
         let part = polled(self.allocator(), found)?;
         Ok(part)
     }
 
-    /// The count of a contested ward with no stage done, begun on its papers, by what was found of it; and how many of the papers
-    /// are rejected. None where it has more seats than a ward can have; no ward of an office has.
+    /// Returns the count of a contested ward with no stage done, begun from its papers, and how many of the papers are
+    /// rejected. None if the ward has more seats than a ward can have; no ward of an office does.
     pub(crate) fn begun_sheet(&mut self, contest: CountedWard) -> Result<Option<WardSheet>, Fault>
         ensures { Loads S.Store self.old self.new result
             (λ s found. IsThere s contest → has_count (election_in s contest) ≡ true → contest.ward.done ≡ 0 → IsBegun (election_in s contest) found) }
@@ -99,8 +97,8 @@ impl<S: Alter> Store<S> {
         }
     }
 
-    /// The count of a contested ward that has a stage, as it was kept, by what is
-    /// tabulated alone. None where what is tabulated is of no count, as in no office.
+    /// Returns the count of a contested ward that has a stage, as it was stored, from the tabulation alone. None if the
+    /// tabulation is not that of any count; in an office it always is.
     pub(crate) fn resumed_count(
         &mut self,
         contest: CountedWard,
@@ -118,7 +116,7 @@ impl<S: Alter> Store<S> {
         }
     }
 
-    /// The count of a contested ward, by what was found of it: begun on its papers where no stage is done, and else by what is tabulated alone.
+    /// Returns the count of a contested ward: begun from its papers if no stage is done, otherwise from the tabulation alone.
     pub(crate) fn contested_count(
         &mut self,
         contest: CountedWard,
@@ -136,7 +134,7 @@ impl<S: Alter> Store<S> {
         }
     }
 
-    /// The ward of this number, if it is there, and its count where it is contested.
+    /// Returns the ward with this number, if there is one, and its count if it is contested.
     fn find_count(&mut self, ward: u32) -> Result<Option<CountedWard>, Fault>
         ensures { Loads S.Store self.old self.new result (λ s found. IsCountedFor (option_map (election_of s) (ward_at s ward)) found) }
     {
@@ -154,21 +152,21 @@ impl<S: Alter> Store<S> {
         Ok(count)
     }
 
-    /// The part of a command that needs where the count of a ward stands: the ward, what is due, who is elected,
+    /// Returns the part of a command that needs the progress of a ward's count: the ward, what is due, those elected,
     /// and the count itself.
-    pub(crate) fn count_part(&mut self, ward: u32) -> Result<Part, Fault>
+    pub(crate) fn count_part(&mut self, ward: u32) -> Result<CommandInput, Fault>
         ensures { Loads S.Store self.old self.new result
-            (λ s part. (part_entries part ≡ record empty_part { ward = ward_at s ward; due = due_for s (ward_at s ward); elected = elected_for s (ward_at s ward) })
+            (λ s part. (input_entries part ≡ record empty_input { ward = ward_at s ward; due = due_for s (ward_at s ward); elected = elected_for s (ward_at s ward) })
             × IsShown (option_map (election_of s) (ward_at s ward)) part.count) }
     {
         let found = self.find_count(ward)?;
         Ok(counted(self.allocator(), found))
     }
 
-    /// The part of the command about a lot: where the count of the ward stands, and the candidate.
-    pub(crate) fn lot_part(&mut self, ward: u32, candidate: u32) -> Result<Part, Fault>
+    /// Returns the part of the command about a lot: the progress of the ward's count, and the candidate.
+    pub(crate) fn lot_part(&mut self, ward: u32, candidate: u32) -> Result<CommandInput, Fault>
         ensures { Loads S.Store self.old self.new result
-            (λ s part. part_entries part ≡ record empty_part {
+            (λ s part. input_entries part ≡ record empty_input {
               ward = ward_at s ward;
               candidate = candidate_at s ward candidate;
               due = due_for s (ward_at s ward);
@@ -177,6 +175,6 @@ impl<S: Alter> Store<S> {
     {
         let part = self.count_part(ward)?;
         let candidate = self.find_candidate(ward, candidate)?;
-        Ok(Part { candidate, ..part })
+        Ok(CommandInput { candidate, ..part })
     }
 }

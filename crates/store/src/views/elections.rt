@@ -1,4 +1,4 @@
-//! What the count of a ward rests on, read from the tables.
+//! What the count of a ward is based on, read from the tables.
 
 ghost use Rattle.std.specs.Prelude.{◌≡◌, ◌++◌, ◌∷◌, [], true, map, option_map, IfOk, IfErr};
 ghost use Rattle.register.specs.Offices.{ward_entry, candidate_entry, batch_entry, lot_entry, ward_at, candidates_of, lots_of};
@@ -18,10 +18,10 @@ use register::marks::columns_of;
 use register::{Ballots, Batch, Candidate, CountedWard, DrawnLot, Election, KeepsPapers, Ward};
 use sqlite::Alter;
 use tables::Fault;
-use tables::cells::number;
 use tables::finding::entries_beginning;
+use tables::value_conversion::number;
 
-/// Adds the papers of a batch to those of others. An error is `Memory`, and the others are spoilt then.
+/// Adds the papers of a batch to those of others. An error is `Memory`, after which the others are unusable.
 fn add_papers<P: KeepsPapers>(
     ballots: &mut Ballots<P>,
     columns: Columns,
@@ -42,7 +42,7 @@ fn add_papers<P: KeepsPapers>(
     }
 }
 
-/// Whether a ward was found that is in count with these candidates.
+/// Returns whether a ward with these candidates was found, and is in count.
 fn is_found_in_count(found: &Option<Ward>, candidates: &[Candidate]) -> bool
     ensures { result ≡ is_counted_with (option_map ward_entry found.now) (map candidate_entry candidates.now) }
 {
@@ -53,16 +53,15 @@ fn is_found_in_count(found: &Option<Ward>, candidates: &[Candidate]) -> bool
 }
 
 impl<S: Alter> Store<S> {
-    /// The lots for the count of a ward, in the order of their stages.
+    /// Returns the lots for the count of a ward, in the order of their stages.
     pub(crate) fn list_lots(&mut self, ward: u32) -> Result<Vec<DrawnLot>, Fault>
         ensures { Loads S.Store self.old self.new result (λ s found. map lot_entry found.items ≡ lots_of s ward) }
     {
         entries_beginning::<Lots, S>(self.alloc, &mut self.conn, &[number(ward)])
     }
 
-    /// The lots for the count of a ward: each stage and the candidate who was drawn, in the order of the
-    /// stages. It changes nothing, and adds nothing to what a stop may leave. `Memory` or `Store` where a
-    /// row can't be read.
+    /// Returns the lots for the count of a ward: each stage and the candidate drawn, in the order of the stages.
+    /// Changes nothing, and adds nothing to what a stop may leave. `Memory` or `Store` if a row can't be read.
     pub fn load_lots(&mut self, ward: u32) -> Result<Vec<(u8, u8)>, Fault>
         ensures { Loads S.Store self.old self.new result (λ s found. found.items ≡ map lot_pair (lots_of s ward)) }
     {
@@ -74,7 +73,7 @@ impl<S: Alter> Store<S> {
         }
     }
 
-    /// What the papers of batches come to. They are read one batch after the other, and kept in what holds none yet.
+    /// Returns the ballots of batches. They are read one batch after another, into a collection that is still empty.
     fn ballots_of<P: KeepsPapers + Drop>(
         &mut self,
         kept: P,
@@ -93,8 +92,8 @@ impl<S: Alter> Store<S> {
         Ok(ballots)
     }
 
-    /// What the papers of a ward come to, by its columns. Where the ward is in count, they are taken in as those of settled
-    /// batches are; else the keyings of all clerks are read, one batch after the other.
+    /// Returns the ballots of a ward, by its columns. If the ward is in count, its papers are read as those of settled
+    /// batches; otherwise the keyings of all clerks are read, one batch after another.
     pub(crate) fn ward_ballots<P: KeepsPapers + Drop>(
         &mut self,
         kept: P,
@@ -115,8 +114,7 @@ impl<S: Alter> Store<S> {
         Ok(ballots)
     }
 
-    /// What the papers of the ward of this number come to, by the columns of its candidates, kept in what holds
-    /// none yet.
+    /// Returns the ballots of the ward with this number, by the columns of its candidates, in a collection that is still empty.
     pub(crate) fn find_ballots<P: KeepsPapers + Drop>(
         &mut self,
         kept: P,
@@ -133,7 +131,7 @@ impl<S: Alter> Store<S> {
         Ok(ballots)
     }
 
-    /// The election in a ward, of which this was found.
+    /// Returns the election in a ward that was found.
     pub(crate) fn ward_election(&mut self, contest: CountedWard) -> Result<Election, Fault>
         ensures { Loads S.Store self.old self.new result (λ s found. IsThere s contest → IsElection found (election_in s contest)) }
     {
@@ -150,7 +148,7 @@ impl<S: Alter> Store<S> {
         })
     }
 
-    /// The election in the ward of this number, if there is one.
+    /// Returns the election in the ward with this number, if there is one.
     pub(crate) fn find_election(&mut self, ward: u32) -> Result<Option<Election>, Fault>
         ensures { Loads S.Store self.old self.new result (λ s found. IsFoundFor found (option_map (election_of s) (ward_at s ward))) }
     {

@@ -1,15 +1,14 @@
 //! The keying of a batch by a clerk, read for a request.
 //!
-//! The papers of a keying come in one transaction, in their order. So in most offices they stand side by side, and
-//! are read there: that takes half the time that it takes to look each up by its key. From the rows it is seen
-//! whether they are the keying. Where they aren't, as in an office whose rows came in another order, each is looked
-//! up.
+//! The papers of a keying are inserted in one transaction, in order. So in most offices their rows are adjacent, and
+//! are read as a run, which takes half the time of finding each by its key. The rows themselves show whether they are
+//! the keying. If they aren't, as in an office whose rows were inserted in another order, each paper is found by its key.
 
 ghost use Rattle.std.specs.Prelude.{◌≡◌, ◌&&◌, ⊤, map, IfSome};
 ghost use Rattle.std.specs.List.{AllByRecursion, list_all};
 ghost use Rattle.sqlite_rules.specs.Lists.{Has};
 ghost use Rattle.register.specs.Offices.{keyed_entry, keying_of};
-ghost use Rattle.register.specs.Keyed.{are_numbered, is_whole};
+ghost use Rattle.register.specs.BatchConditions.{are_numbered, is_whole};
 ghost use Rattle.store.specs.Keyings.{is_paper_of};
 ghost use Rattle.store.specs.Loads.{Loads};
 
@@ -18,13 +17,13 @@ use crate::storage::Store;
 use crate::views::papers::FIRST_PAPER;
 use register::{Batch, KeyedPaper};
 use sqlite::Alter;
-use tables::cells::number;
 use tables::finding::entries_beginning;
-use tables::runs::{entries_between, find_rowid};
+use tables::rowid_ranges::{entries_between, find_rowid};
+use tables::value_conversion::number;
 use tables::{Fault, Table};
 
-#[tactic(auto, unfolding(register::specs::Keyed::are_numbered))]
-/// Whether papers are numbered from 1 on.
+#[tactic(auto, unfolding(register::specs::BatchConditions::are_numbered))]
+/// Returns whether papers are numbered from 1.
 fn are_numbered(papers: &[KeyedPaper]) -> bool
     ensures { result ≡ are_numbered 1 (map keyed_entry papers.now) }
 {
@@ -36,7 +35,7 @@ fn are_numbered(papers: &[KeyedPaper]) -> bool
     true
 }
 
-/// Whether each of these papers is one of a clerk's keying of a batch in a round.
+/// Returns whether each of these papers belongs to a clerk's keying of a batch in a round.
 fn are_papers_of(batch: u32, round: u32, clerk: u32, papers: &[KeyedPaper]) -> bool
     ensures { result ≡ list_all (λ k. is_paper_of batch round clerk (keyed_entry k)) papers.now }
 {
@@ -45,7 +44,7 @@ fn are_papers_of(batch: u32, round: u32, clerk: u32, papers: &[KeyedPaper]) -> b
     })
 }
 
-/// Whether papers are those of a clerk's keying of a batch in a round: each of so many once, in their order.
+/// Returns whether papers are those of a clerk's keying of a batch in a round: each paper from 1 to `size` once, in order.
 fn is_keying(batch: u32, round: u32, clerk: u32, size: u32, papers: &[KeyedPaper]) -> bool
     ensures { result ≡ (is_whole size (map keyed_entry papers.now) && list_all (λ k. is_paper_of batch round clerk (keyed_entry k)) papers.now) }
 {
@@ -55,7 +54,7 @@ fn is_keying(batch: u32, round: u32, clerk: u32, size: u32, papers: &[KeyedPaper
 }
 
 impl<S: Alter> Store<S> {
-    /// The papers that a clerk keyed of a batch in a round, in their order, each looked up by its key.
+    /// Returns the papers that a clerk keyed of a batch in a round, in order, each found by its key.
     fn list_by_key(&mut self, batch: u32, round: u32, clerk: u32) -> Result<Vec<KeyedPaper>, Fault>
         ensures { Loads S.Store self.old self.new result (λ s found. map keyed_entry found.items ≡ keying_of s batch round clerk) }
     {
@@ -63,8 +62,8 @@ impl<S: Alter> Store<S> {
         entries_beginning::<KeyedPapers, S>(self.alloc, &mut self.conn, &key)
     }
 
-    /// Where the first paper of a keying stands, if it is there. The state doesn't say where, so neither does a
-    /// clause: what is read there shows whether it is the keying.
+    /// Returns the rowid of the first paper of a keying, if it is there. The state doesn't determine it, so no clause
+    /// does: what is read there shows whether it is the keying.
     fn find_first(&mut self, batch: u32, round: u32, clerk: u32) -> Result<Option<i64>, Fault>
         ensures { Loads S.Store self.old self.new result (λ s found. ⊤) }
     {
@@ -77,14 +76,14 @@ impl<S: Alter> Store<S> {
         find_rowid(&mut self.conn, Table::Keying, &key)
     }
 
-    /// The papers that stand from one place to another. Each is one of the state's.
+    /// Returns the keyed papers with rowids in a range, both ends included. Each is a paper of the state.
     fn list_between(&mut self, low: i64, high: i64) -> Result<Vec<KeyedPaper>, Fault>
         ensures { Loads S.Store self.old self.new result (λ s found. AllByRecursion (Has s.keyings) (map keyed_entry found.items)) }
     {
         entries_between::<KeyedPapers, S>(self.alloc, &mut self.conn, low, high)
     }
 
-    /// As many papers as the batch has, from the first one of a keying on; none where that isn't there.
+    /// Returns as many papers as the batch has, from the first one of a keying; none if that isn't there.
     fn list_run(&mut self, batch: &Batch, round: u32, clerk: u32) -> Result<Vec<KeyedPaper>, Fault>
         ensures { Loads S.Store self.old self.new result (λ s found. AllByRecursion (Has s.keyings) (map keyed_entry found.items)) }
     {
@@ -97,7 +96,7 @@ impl<S: Alter> Store<S> {
         Ok(papers)
     }
 
-    /// The papers that a clerk keyed of a batch in a round, in their order, where they stand side by side.
+    /// Returns the papers that a clerk keyed of a batch in a round, in order, if their rows are adjacent.
     fn find_run(
         &mut self,
         batch: u32,
@@ -117,7 +116,7 @@ impl<S: Alter> Store<S> {
         Ok(Some(papers))
     }
 
-    /// The papers that a clerk keyed of a batch in a round, in their order.
+    /// Returns the papers that a clerk keyed of a batch in a round, in order.
     pub(crate) fn list_keying(
         &mut self,
         batch: u32,

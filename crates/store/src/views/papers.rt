@@ -2,10 +2,10 @@
 
 ghost use Rattle.std.specs.Prelude.{◌≡◌, map, option_map};
 ghost use Rattle.register.specs.Offices.{batch_entry, third_entry, keyed_entry, judged_entry, batch_at, third_at, keying_of, verdict_at, verdicts_of};
-ghost use Rattle.register.specs.Papers.{is_keyed, agreed, differ, keyings_now};
+ghost use Rattle.register.specs.Agreement.{is_keyed, agreed, differ, keyings_now};
 ghost use Rattle.register.specs.Polls.{pile_of};
 ghost use Rattle.register.specs.Batches.{ward_for, candidates_for, third_for, keyings_for};
-ghost use Rattle.register.specs.Parts.{empty_part, part_entries};
+ghost use Rattle.register.specs.CommandInputs.{empty_input, input_entries};
 ghost use Rattle.store.specs.Elections.{pile_by};
 ghost use Rattle.store.specs.Keyings.{keying_for, keyings_by};
 ghost use Rattle.store.specs.Loads.{Loads, IsOpen};
@@ -13,18 +13,18 @@ ghost use Rattle.store.specs.Loads.{Loads, IsOpen};
 use crate::entries::keyings::KeyedPapers;
 use crate::entries::verdicts::JudgedPapers;
 use crate::storage::Store;
-use register::papers::{agreed, clerks_of, differ};
-use register::{Batch, JudgedPaper, KeyedPaper, Part, ThirdClerk};
+use register::agreement::{agreed, clerks_of, differ};
+use register::{Batch, CommandInput, JudgedPaper, KeyedPaper, ThirdClerk};
 use sqlite::Alter;
 use tables::Fault;
-use tables::cells::number;
 use tables::finding::{entries_beginning, find_entry};
+use tables::value_conversion::number;
 
 /// The number of the first paper of a batch.
 pub(crate) const FIRST_PAPER: u32 = 1;
 
-/// The keyings of the current round of a batch by its two or three clerks, in the order of the clerks' numbers; and the third
-/// clerk, where one is set. Each keying is in the order of its papers, and empty where it isn't there.
+/// The keyings of the current round of a batch by its two or three clerks, in the order of the clerks' numbers; and the
+/// third clerk, if one is assigned. Each keying is in the order of its papers; a missing one is empty.
 #[derive(Drop)]
 pub(crate) struct Keyings {
     pub(crate) third_clerk: Option<ThirdClerk>,
@@ -41,14 +41,14 @@ pub(crate) struct BatchPapers {
 }
 
 impl Keyings {
-    /// The papers that the batch is taken with by them; none where it isn't taken.
+    /// Returns the papers that the batch is taken with by these keyings; none if it isn't taken.
     pub(crate) fn agreed(&self) -> &[KeyedPaper]
         ensures { map keyed_entry result.now ≡ agreed (keyings_by self.now) }
     {
         agreed(&self.first, &self.second, &self.third)
     }
 
-    /// Whether they differ: at least two are there, and no two of those are equal.
+    /// Returns whether the keyings differ: at least two are there, and no two of those are equal.
     pub(crate) fn differ(&self) -> bool
         ensures { result ≡ differ (keyings_by self.now) }
     {
@@ -57,7 +57,7 @@ impl Keyings {
 }
 
 impl<S: Alter> Store<S> {
-    /// Whether a clerk has keyed a batch in a round. Of a keying that is there no paper is missing, so its first paper shows it.
+    /// Returns whether a clerk has keyed a batch in a round. A keying lacks no paper, so its first paper shows it.
     pub(crate) fn has_keyed(&mut self, batch: u32, round: u32, clerk: u32) -> Result<bool, Fault>
         ensures { Loads S.Store self.old self.new result (λ s found. found ≡ is_keyed (keying_of s batch round clerk)) }
     {
@@ -71,8 +71,7 @@ impl<S: Alter> Store<S> {
         Ok(paper.is_some())
     }
 
-    /// The papers that a clerk keyed of a batch in its current round, in their order; none where there is no such
-    /// clerk.
+    /// Returns the papers that a clerk keyed of a batch in its current round, in order; none if there is no such clerk.
     fn keying_for(&mut self, batch: &Batch, clerk: Option<u32>) -> Result<Vec<KeyedPaper>, Fault>
         requires { IsOpen S.Store self.old }
         ensures { Loads S.Store self.old self.new result (λ s found. map keyed_entry found.items ≡ keying_for s batch.now.number batch.now.round clerk) }
@@ -83,7 +82,7 @@ impl<S: Alter> Store<S> {
         }
     }
 
-    /// The keyings of the current round of a batch by its clerks: its two, and this third one, where it is set.
+    /// Returns the keyings of the current round of a batch by its two clerks and by this third one, if there is one.
     pub(crate) fn keyings_with(
         &mut self,
         batch: &Batch,
@@ -104,7 +103,7 @@ impl<S: Alter> Store<S> {
         })
     }
 
-    /// The third clerk of a batch, and the keyings of its current round.
+    /// Returns the third clerk of a batch, and the keyings of its current round.
     pub(crate) fn keyings_of(&mut self, batch: &Batch) -> Result<Keyings, Fault>
         ensures { Loads S.Store self.old self.new result
             (λ s found. (option_map third_entry found.third_clerk ≡ third_at s batch.now.number) × (keyings_by found ≡ keyings_now s (batch_entry batch.now))) }
@@ -114,7 +113,7 @@ impl<S: Alter> Store<S> {
         Ok(keyings)
     }
 
-    /// The verdict on the paper of this number in this batch, if there is one.
+    /// Returns the verdict on the paper with this number in this batch, if there is one.
     pub(crate) fn find_verdict(
         &mut self,
         batch: u32,
@@ -125,14 +124,14 @@ impl<S: Alter> Store<S> {
         find_entry::<JudgedPapers, S>(&mut self.conn, &[number(batch), number(paper)])
     }
 
-    /// The verdicts on papers of a batch, in the order of the papers.
+    /// Returns the verdicts on papers of a batch, in the order of the papers.
     pub(crate) fn list_verdicts(&mut self, batch: u32) -> Result<Vec<JudgedPaper>, Fault>
         ensures { Loads S.Store self.old self.new result (λ s found. map judged_entry found.items ≡ verdicts_of s batch) }
     {
         entries_beginning::<JudgedPapers, S>(self.alloc, &mut self.conn, &[number(batch)])
     }
 
-    /// The papers of a batch.
+    /// Returns the papers of a batch.
     pub(crate) fn papers_of(&mut self, batch: &Batch) -> Result<BatchPapers, Fault>
         ensures { Loads S.Store self.old self.new result (λ s papers. pile_by papers ≡ pile_of s (batch_entry batch.now)) }
     {
@@ -141,11 +140,16 @@ impl<S: Alter> Store<S> {
         Ok(BatchPapers { keyings, verdicts })
     }
 
-    /// The part of a clerk's command: the batch, its ward with the candidates, its third clerk, and of the keyings
-    /// the clerk's own.
-    pub(crate) fn keying_part(&mut self, batch: u32, round: u32, clerk: u32) -> Result<Part, Fault>
+    /// Returns what a clerk's command needs: the batch, its ward with the candidates, its third clerk, and of the keyings only the
+    /// clerk's own.
+    pub(crate) fn keying_part(
+        &mut self,
+        batch: u32,
+        round: u32,
+        clerk: u32,
+    ) -> Result<CommandInput, Fault>
         ensures { Loads S.Store self.old self.new result
-            (λ s part. part_entries part ≡ record empty_part {
+            (λ s part. input_entries part ≡ record empty_input {
               ward = ward_for s (batch_at s batch);
               candidates = candidates_for s (batch_at s batch);
               batch = batch_at s batch;
@@ -156,14 +160,14 @@ impl<S: Alter> Store<S> {
         let own = self.list_keying(batch, round, clerk)?;
         let found = self.find_batch(batch)?;
         let Some(batch) = found else {
-            return Ok(Part {
+            return Ok(CommandInput {
                 own,
-                ..Part::empty(self.allocator())
+                ..CommandInput::empty(self.allocator())
             });
         };
         let third_clerk = self.find_third(batch.number)?;
         let part = self.contest_part(batch.ward)?;
-        Ok(Part {
+        Ok(CommandInput {
             batch: Some(batch),
             third_clerk,
             own,
@@ -171,11 +175,11 @@ impl<S: Alter> Store<S> {
         })
     }
 
-    /// The part of a command about a doubtful paper: the batch, its ward with the candidates, the keyings of its
-    /// round, and the verdict.
-    pub(crate) fn verdict_part(&mut self, batch: u32, paper: u32) -> Result<Part, Fault>
+    /// Returns the part of a command about a doubtful paper: the batch, its ward with the candidates, the keyings of
+    /// its round, and the verdict.
+    pub(crate) fn verdict_part(&mut self, batch: u32, paper: u32) -> Result<CommandInput, Fault>
         ensures { Loads S.Store self.old self.new result
-            (λ s part. part_entries part ≡ record empty_part {
+            (λ s part. input_entries part ≡ record empty_input {
               ward = ward_for s (batch_at s batch);
               candidates = candidates_for s (batch_at s batch);
               batch = batch_at s batch;
@@ -186,9 +190,9 @@ impl<S: Alter> Store<S> {
         let verdict = self.find_verdict(batch, paper)?;
         let found = self.find_batch(batch)?;
         let Some(batch) = found else {
-            return Ok(Part {
+            return Ok(CommandInput {
                 verdict,
-                ..Part::empty(self.allocator())
+                ..CommandInput::empty(self.allocator())
             });
         };
         let Keyings {
@@ -198,7 +202,7 @@ impl<S: Alter> Store<S> {
             ..
         } = self.keyings_of(&batch)?;
         let part = self.contest_part(batch.ward)?;
-        Ok(Part {
+        Ok(CommandInput {
             batch: Some(batch),
             first,
             second,

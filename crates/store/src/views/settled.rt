@@ -1,9 +1,9 @@
-//! The papers of a ward whose batches are all settled, taken in row by row where two clerks keyed a batch.
+//! The papers of a ward whose batches are all settled, read row by row if two clerks keyed a batch.
 
 ghost use Rattle.std.specs.Prelude.{◌≡◌, [], map, Some, IfOk, IfErr};
 ghost use Rattle.tables.specs.declared.fault.Fault.{Fault};
 ghost use Rattle.register.specs.Offices.{batch_entry, third_entry, keyed_entry, judged_entry, third_at, keying_of};
-ghost use Rattle.register.specs.Papers.{taken_papers};
+ghost use Rattle.register.specs.Agreement.{taken_papers};
 ghost use Rattle.register.specs.Polls.{lower_clerk, settled_papers, settled_judgements, ballots_by, StandFor};
 ghost use Rattle.store.specs.Loads.{Loads, IsOpen};
 ghost use Rattle.store.specs.Settled.{CountAfter};
@@ -11,15 +11,15 @@ ghost use Rattle.store.specs.Settled.{CountAfter};
 use crate::entries::keyings::KeyedPapers;
 use crate::storage::Store;
 use paper::Columns;
-use register::papers::lower_clerk;
+use register::agreement::lower_clerk;
 use register::{Ballots, Batch, JudgedPaper, KeepsPapers, KeyedPaper, ThirdClerk};
 use sqlite::Alter;
 use std::marker::{Brand, PhantomData};
 use tables::Fault;
-use tables::cells::number;
+use tables::value_conversion::number;
 use tables::walking::{Visitor, walk_beginning};
 
-/// Where the walk through the papers of a batch begins, for its proof alone.
+/// What the walk through the papers of a batch begins with, for its proof alone.
 pub(crate) trait Start {
     ghost use Rattle.std.specs.Prelude.{ℕ, List};
     ghost use Rattle.register.specs.declared.polls.Judgement.{Judgement};
@@ -45,7 +45,7 @@ impl Start for Brand {
     ghost verdicts = { [] };
 }
 
-/// What counts the papers of a batch that is settled, one after the other.
+/// Counts the papers of a settled batch, one after another.
 #[derive(Drop)]
 struct SettledPapers<P, B> {
     ballots: Ballots<P>,
@@ -55,7 +55,7 @@ struct SettledPapers<P, B> {
 }
 
 impl<P: KeepsPapers, B: Start> Visitor<KeyedPapers> for SettledPapers<P, B> {
-    ghost HasTaken = { λ counter papers. (counter.columns ≡ B.columns) × (map judged_entry counter.verdicts.items ≡ B.verdicts)
+    ghost HasVisited = { λ counter papers. (counter.columns ≡ B.columns) × (map judged_entry counter.verdicts.items ≡ B.verdicts)
         × CountAfter P.holds B.were_counted B.columns B.verdicts counter.ballots (map keyed_entry papers) };
 
     ghost Stops = { λ f. f ≡ Fault.Memory };
@@ -71,8 +71,8 @@ impl<P: KeepsPapers, B: Start> Visitor<KeyedPapers> for SettledPapers<P, B> {
     }
 }
 
-/// Adds the papers of a keying of a batch that is settled, one after the other. An error is `Memory`, and the
-/// papers before are spoilt then.
+/// Adds the papers of a keying of a settled batch, one after another. An error is `Memory`, after which the papers
+/// before are unusable.
 fn add_each<P: KeepsPapers>(
     ballots: &mut Ballots<P>,
     columns: Columns,
@@ -91,8 +91,8 @@ fn add_each<P: KeepsPapers>(
 }
 
 impl<S: Alter> Store<S> {
-    /// Adds the papers of a batch as the one of its two clerks with the lower
-    /// number keyed them in its current round, row by row, where the walk begins.
+    /// Adds the papers of a batch as the clerk with the lower number of its two keyed them in its current round, row by
+    /// row, to those that the walk begins with.
     fn walk_papers<P: KeepsPapers + Drop, B: Start>(
         &mut self,
         ballots: Ballots<P>,
@@ -125,7 +125,8 @@ impl<S: Alter> Store<S> {
         Ok(counted.ballots)
     }
 
-    /// Adds the papers of a batch that a third clerk keys too, with these verdicts: those of the first of its keyings that another one equals.
+    /// Adds the papers of a batch that a third clerk keys too, with these verdicts: those of the first keying that
+    /// another one equals.
     fn add_agreed<P: KeepsPapers + Drop>(
         &mut self,
         ballots: Ballots<P>,
@@ -144,7 +145,7 @@ impl<S: Alter> Store<S> {
         Ok(counted)
     }
 
-    /// Adds the papers of a batch that is settled, whose verdicts these are.
+    /// Adds the papers of a settled batch with these verdicts.
     fn add_batch<P: KeepsPapers + Drop>(
         &mut self,
         ballots: Ballots<P>,
@@ -168,7 +169,7 @@ impl<S: Alter> Store<S> {
         }
     }
 
-    /// What the papers of batches come to where each is settled, kept in what holds none yet.
+    /// Returns the ballots of batches that are all settled, in a collection that is still empty.
     pub(crate) fn settled_ballots<P: KeepsPapers + Drop>(
         &mut self,
         kept: P,

@@ -17,9 +17,9 @@ use sqlite::Alter;
 use tables::Fault;
 
 impl<S: Alter> Store<S> {
-    /// The ward of this number with its count, if it is there: what its declaration is written from. The count
-    /// is there where the ward is in count; once a stage is done no paper is read for it. It changes nothing,
-    /// and adds nothing to what a stop may leave. `Memory` or `Store` where a row can't be read.
+    /// Returns the ward with this number, if there is one, with all that its declaration needs. The count is included if the ward
+    /// is in count; once a stage is done, it is read from the tabulation, and no paper is read. Changes nothing, and
+    /// adds nothing to what a stop may leave. `Memory` or `Store` if a row can't be read.
     pub fn load_counted(&mut self, ward: u32) -> Result<Option<CountedWard>, Fault>
         ensures { Loads S.Store self.old self.new result (λ s found. IsCountedInFor (option_map (election_of s) (ward_at s ward)) found) }
     {
@@ -37,8 +37,8 @@ impl<S: Alter> Store<S> {
         Ok(counted)
     }
 
-    /// How many papers of a ward in count are rejected, by code, whose columns these are. The papers are taken in
-    /// row by row, and none is kept.
+    /// Returns how many papers of a ward in count with these columns are rejected, by code. The papers are read row by
+    /// row, and none is held.
     fn rejected_of(&mut self, ward: u32, columns: Columns) -> Result<[u32; REJECTIONS], Fault>
         ensures { Loads S.Store self.old self.new result (λ s rejected. IsInCount s ward → rejected ≡ (ballots_in columns (piles_of s ward)).rejected) }
     {
@@ -46,8 +46,8 @@ impl<S: Alter> Store<S> {
         Ok(ballots.rejected)
     }
 
-    /// The count of a ward in count that has a stage, by what is tabulated alone; and how many of its papers are rejected. None
-    /// where what is tabulated is of no count, as in no office.
+    /// Returns the count of a ward in count that has a stage, from the tabulation alone; and how many of its papers are
+    /// rejected. None if the tabulation is not that of any count; in an office it always is.
     fn resumed_sheet(&mut self, contest: CountedWard) -> Result<Option<WardSheet>, Fault>
         ensures { Loads S.Store self.old self.new result
             (λ s found. IsThere s contest → is_in_count_of (election_in s contest) ≡ true → (contest.ward.done ≡ 0 → ⊥) → IsSheet (election_in s contest) found) }
@@ -61,8 +61,7 @@ impl<S: Alter> Store<S> {
         }
     }
 
-    /// What the sheet of a ward in count is written from, of which this was found. Where no stage is done, its
-    /// papers are read once for both.
+    /// Returns what the sheet of a ward in count is written from. If no stage is done, its papers are read once for both.
     fn sheet_in_count(&mut self, contest: CountedWard) -> Result<Option<WardSheet>, Fault>
         ensures { Loads S.Store self.old self.new result
             (λ s found. IsThere s contest → is_in_count_of (election_in s contest) ≡ true → IsSheet (election_in s contest) found) }
@@ -74,9 +73,9 @@ impl<S: Alter> Store<S> {
         }
     }
 
-    /// What the stage sheet of the ward of this number is written from, if the ward is there. It is what `load_counted` gives,
-    /// and how many of its papers are rejected, which is counted from the papers. It changes nothing, and adds nothing to what a
-    /// stop may leave. `Memory` or `Store` where a row can't be read.
+    /// Returns what the stage sheet of the ward with this number is written from, if there is one. It is the result of
+    /// `load_counted`, and how many of its papers are rejected, counted from the papers. Changes nothing, and adds
+    /// nothing to what a stop may leave. `Memory` or `Store` if a row can't be read.
     pub fn load_sheet(&mut self, ward: u32) -> Result<Option<WardSheet>, Fault>
         ensures { Loads S.Store self.old self.new result (λ s found. IsSheetFor (option_map (election_of s) (ward_at s ward)) found) }
     {

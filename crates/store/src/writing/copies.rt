@@ -1,11 +1,11 @@
-//! A whole office, written inside a transaction: the rows of another, which were read and judged.
+//! A whole office, written inside a transaction: the rows of another office, already read and checked.
 
 ghost use Rattle.std.specs.Prelude.{⊤};
 ghost use Rattle.rowcheck.specs.States.{state_of, tabulated};
 ghost use Rattle.tables.specs.Contents.{Sees};
 ghost use Rattle.tables.specs.Making.{SeesNothing};
 ghost use Rattle.tables.specs.Writing.{Alters};
-ghost use Rattle.store.specs.Offices.{tables_with};
+ghost use Rattle.store.specs.StateTables.{tables_with};
 
 use crate::entries::batches::Batches;
 use crate::entries::bundles::PlacedBundles;
@@ -24,7 +24,7 @@ use std::alloc::Global;
 use tables::Fault;
 use tables::writing::add_both;
 
-/// Makes all tables, with these rows, in a database with nothing in it.
+/// Creates all tables, with these rows, in an empty database.
 pub(crate) fn write_whole_office<S: Alter>(
     alloc: Global,
     tx: &mut Transaction<'_, S>,

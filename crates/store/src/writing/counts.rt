@@ -1,8 +1,8 @@
-//! What is tabulated of the counts, written inside a transaction.
+//! The tabulation of counts, written inside a transaction.
 
 ghost use Rattle.register.specs.Tabulated.{addition_entries, with_addition};
 ghost use Rattle.tables.specs.Writing.{Alters};
-ghost use Rattle.store.specs.Offices.{SeesState};
+ghost use Rattle.store.specs.StateTables.{SeesState};
 
 use crate::entries::bundles::PlacedBundles;
 use crate::entries::figures::StageFigures;
@@ -12,8 +12,8 @@ use std::alloc::Global;
 use tables::Fault;
 use tables::writing::{add_both, replace_entries};
 
-/// Adds to what is tabulated: puts the rows of bundles that lie elsewhere in the places of those with their
-/// keys, and adds the rows of new bundles and figures.
+/// Adds to the tabulation: replaces the rows of bundles that have moved by those with the same keys, and inserts the
+/// rows of new bundles and figures.
 pub(crate) fn write_addition<S: Alter>(
     alloc: Global,
     tx: &mut Transaction<'_, S>,

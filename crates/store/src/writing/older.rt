@@ -6,7 +6,7 @@ ghost use Rattle.register.specs.Tabulated.{addition_entries};
 ghost use Rattle.tables.specs.Contents.{Contents, Sees};
 ghost use Rattle.tables.specs.Making.{SeesMade};
 ghost use Rattle.tables.specs.Writing.{Alters};
-ghost use Rattle.store.specs.Offices.{tables_of};
+ghost use Rattle.store.specs.StateTables.{tables_of};
 ghost use Rattle.store.specs.Migrations.{older_tables, SeesOlder, Lacks};
 
 use crate::older::{Older, OlderForm};
@@ -14,12 +14,12 @@ use crate::writing::VERSION;
 use crate::writing::counts::write_addition;
 use sqlite::{Alter, Transaction};
 use std::alloc::Global;
-use tables::cells::number;
 use tables::making::create_table;
 use tables::replacement::set_value;
-use tables::{Fault, Setting, Table};
+use tables::value_conversion::number;
+use tables::{Fault, SettableColumn, Table};
 
-/// Makes the last three tables, each with no row.
+/// Creates the last three tables, all empty.
 fn create_last_three<S: Alter>(tx: &mut Transaction<'_, S>) -> Result<(), Fault>
     ensures { Alters S.Store tx.old.conn tx.new.conn result (λ (c : Contents) s. (c Table.Bundle ≡ []) × (c Table.Vote ≡ []) × (c Table.Third ≡ []) × SeesMade 8 c s) (SeesMade 11) }
 {
@@ -28,7 +28,7 @@ fn create_last_three<S: Alter>(tx: &mut Transaction<'_, S>) -> Result<(), Fault>
     create_table(tx, Table::Third)
 }
 
-/// Makes the tables that an office of this form lacks, each with no row.
+/// Creates the tables that an office of this form lacks, all empty.
 fn create_missing<S: Alter>(tx: &mut Transaction<'_, S>, form: OlderForm) -> Result<(), Fault>
     ensures { Alters S.Store tx.old.conn tx.new.conn result (SeesOlder form) (λ s. Sees (older_tables form s)) }
 {
@@ -38,7 +38,7 @@ fn create_missing<S: Alter>(tx: &mut Transaction<'_, S>, form: OlderForm) -> Res
     }
 }
 
-/// Makes of an older office one of this program's: the tables that it lacks, the version in the office row,
+/// Migrates an older office to this program's version: writes the tables that it lacks, the version in the office row,
 /// and the rows that it lacks.
 pub(crate) fn write_migration<S: Alter>(
     alloc: Global,
@@ -49,6 +49,10 @@ pub(crate) fn write_migration<S: Alter>(
         (λ (s : OfficeState) st. Lacks older.now.form s (addition_entries older.now.missing) × SeesOlder older.now.form s st) (λ s. Sees (tables_of s)) }
 {
     create_missing(tx, older.form)?;
-    set_value(tx, Setting::VersionOfOffice, &[number(1), number(VERSION)])?;
+    set_value(
+        tx,
+        SettableColumn::VersionOfOffice,
+        &[number(1), number(VERSION)],
+    )?;
     write_addition(alloc, tx, &older.missing)
 }

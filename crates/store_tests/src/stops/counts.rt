@@ -1,4 +1,4 @@
-//! Orders of a count, each at each call of a store that stops.
+//! Orders of a count, each stopped at each call of the store.
 
 use super::super::begun::{
     AFTER_A_SURPLUS, EQUAL_SURPLUSES, FIRST_OF_FOURTEEN, FOURTEEN, OPENED as WARD,
@@ -6,7 +6,7 @@ use super::super::begun::{
     WAITING_FOR_A_LOT,
 };
 use super::super::disks::Disks;
-use super::super::machine::{Act, File, Machine};
+use super::super::test_host::{Act, File, TestHost};
 use super::stop_orders;
 use std::process::Abort;
 use std::test::Fail;
@@ -16,7 +16,7 @@ const TO_SEAL: &str = "$ seal 7 --id s1
 ward 7 sealed: 0 valid, 0 rejected, quota 1.00000
 ";
 
-/// The first stage of a ward with papers: all its bundles come into their table.
+/// The first stage of a ward with papers: all its bundles are added to their table.
 const FIRST_STAGE: &str = "$ advance 7 --id n1
 ward 7 stage 1 first preferences
 ";
@@ -35,17 +35,17 @@ const DECLARATION: &str = "$ declare 7 --id d1
 ward 7 declared: 1, 3
 ";
 
-/// Where the count waits for a lot between two surpluses: the lot. The stage behind it is that of a surplus too.
+/// The lot for which the count waits, between two surpluses. The stage after it is that of a surplus too.
 const LOT: &str = "$ lot 7 2 1 --id l2
 lot at ward 7 stage 2: candidate 1
 ";
 
-/// Where papers that came with a surplus go on with the next: their stage.
+/// The stage of a surplus with papers that were transferred by an earlier surplus.
 const SECOND_SURPLUS: &str = "$ advance 7 --id n3
 ward 7 stage 3 surplus of 2
 ";
 
-/// Where a count stands, and the orders that are stopped there.
+/// The state of a count, and the orders that are stopped there.
 const COUNTS: [(&[Act], &str); 7] = [
     (&[Act::Typed(POLLING)], TO_SEAL),
     (SEALED, FIRST_STAGE),
@@ -72,7 +72,7 @@ const COUNTS: [(&[Act], &str); 7] = [
 ];
 
 /// Stops the orders of some counts, each at each call of one file.
-fn stop_counts<M: Machine + Drop>(
+fn stop_counts<M: TestHost + Drop>(
     rt: &(impl Abort + AllocGlobal),
     counts: &[(&[Act], &str)],
     file: File,

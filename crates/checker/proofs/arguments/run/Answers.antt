@@ -1,4 +1,4 @@
--- Why `run` keeps its promise.
+-- Proof that `run` meets its contract.
 use Rattle.std.proofs.Common.{inl, inr, refl}
 use Rattle.checker.specs.Reports.{memory_page, page_of}
 use Rattle.checker.proofs.arguments.run.Goals as goal

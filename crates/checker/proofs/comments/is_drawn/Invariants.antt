@@ -1,6 +1,6 @@
--- What holds each time round the loop of `is_drawn`: none of the lots so far is for the stage.
+-- The invariant of the loop in `is_drawn`: none of the lots so far is for the stage.
 use Rattle.std.proofs.Common.{◌≡◌, drop}
-use Rattle.checker.specs.Comments.{is_drawn}
+use Rattle.checker.specs.BallotsComments.{is_drawn}
 use Rattle.checker.proofs.comments.is_drawn.Given as goal
 
 abbrev pub invariant-loop-lot : goal.invariant-loop-lot

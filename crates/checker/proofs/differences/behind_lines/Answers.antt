@@ -1,4 +1,4 @@
--- Why `behind_lines` keeps its promise.
+-- Proof that `behind_lines` meets its contract.
 use Rattle.std.proofs.Common.{◌∙◌, sym, arith}
 use Rattle.std.proofs.lemmas.List.{at_drop_all}
 use Rattle.checker.specs.Differences.{behind_lines}

@@ -1,4 +1,4 @@
--- What holds each time round the loop of `behind_lines`: what stands behind the lines that are left to pass, in the bytes that are left.
+-- The invariant of the loop in `behind_lines`: the result is what follows the remaining lines in the remaining bytes.
 use Rattle.std.proofs.Common.{◌≡◌, drop}
 use Rattle.checker.specs.Differences.{behind_lines}
 use Rattle.checker.proofs.differences.behind_lines.Given as goal

@@ -1,4 +1,4 @@
--- Why `common` keeps its promise.
+-- Proof that `common` meets its contract.
 use Rattle.std.proofs.Common.{◌∙◌, ◌++◌, take, drop, sym, ap, arith, append-nil}
 use Rattle.std.proofs.lemmas.List.{at_drop_all}
 use Rattle.checker.specs.Differences.{common}

@@ -1,4 +1,4 @@
--- What holds each time round the loop of `common`: the bytes so far, followed by what those that are left share, are what both share.
+-- The invariant of the loop in `common`: the bytes so far, followed by the common prefix of the remaining ones, are the common prefix.
 use Rattle.std.proofs.Common.{◌≡◌, ◌++◌, take, drop}
 use Rattle.checker.specs.Differences.{common}
 use Rattle.checker.proofs.differences.common.Given as goal

@@ -1,4 +1,4 @@
--- What holds each time round the loop of `ended_lines`: the lines so far, and those of the bytes that are left, are all of them.
+-- The invariant of the loop in `ended_lines`: the lines so far, and those of the remaining bytes, are all of them.
 use Rattle.std.proofs.Common.{◌≡◌, ◌≤◌, ◌+◌, drop}
 use Rattle.checker.specs.Differences.{ended_lines}
 use Rattle.checker.proofs.differences.ended_lines.Given as goal

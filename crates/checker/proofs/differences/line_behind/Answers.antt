@@ -1,4 +1,4 @@
--- Why `line_behind` keeps its promise.
+-- Proof that `line_behind` meets its contract.
 use Rattle.std.proofs.Common.{◌∙◌, ap, subst, sym}
 use Rattle.std.specs.Str.{IsUtf8}
 use Rattle.checker.specs.Differences.{behind_lines, first_line}

@@ -1,4 +1,4 @@
--- What holds each time round the loop of `undrawn_by`: the lots so far are drawn.
+-- The invariant of the loop in `undrawn_by`: the lots so far are drawn.
 use Rattle.std.proofs.Common.{◌≡◌, drop}
 use Rattle.checker.specs.Checks.{undrawn_by}
 use Rattle.checker.proofs.lots.undrawn_by.Given as goal

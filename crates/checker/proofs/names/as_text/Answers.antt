@@ -1,4 +1,4 @@
--- Why `as_text` keeps its promise.
+-- Proof that `as_text` meets its contract.
 use Rattle.std.proofs.Common.{◌≡◌, ◌∙◌, ap, arith, subst}
 use Rattle.std.specs.Prelude.{IsUtf8, Ok, string_bytes}
 use Rattle.checker.proofs.NameLemmas.{name_is_text, name_isnt_text}

@@ -1,8 +1,8 @@
--- What holds each time round the loop of `name_in`: the bytes that are left, behind those so far, give the line's name.
+-- The invariant of the loop in `name_in`: the remaining bytes, after those so far, determine the line's name.
 use Rattle.std.proofs.Common.{◌≡◌, [], drop}
 use Rattle.std.specs.Prelude.{fold}
 use Rattle.checker.specs.Names.{with_byte}
-use Rattle.checker.specs.Views.{quoting_of}
+use Rattle.checker.specs.Values.{quoting_of}
 use Rattle.checker.specs.declared.names.Within.TheVariants.{Before}
 use Rattle.checker.proofs.names.name_in.Given as goal
 

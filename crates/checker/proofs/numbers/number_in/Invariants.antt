@@ -1,4 +1,4 @@
--- What holds each time round the loop of `number_in`: the digits that are left, behind the number so far, give the word's number.
+-- The invariant of the loop in `number_in`: the remaining digits, appended to the number so far, make up the word's number.
 use Rattle.std.proofs.Common.{◌≡◌, ◌≤◌, drop}
 use Rattle.checker.specs.Numbers.{number_from}
 use Rattle.checker.proofs.numbers.number_in.Given as goal

@@ -1,4 +1,4 @@
--- What holds each time round the loop of `withdrawn_from`: the words that are left, behind the numbers so far, give all of them.
+-- The invariant of the loop in `withdrawn_from`: the numbers so far and the remaining words make up all of them.
 use Rattle.std.proofs.Common.{◌≡◌, map, drop}
 use Rattle.checker.specs.Papers.{withdrawn_from}
 use Rattle.checker.proofs.papers.withdrawn_from.Given as goal

@@ -1,8 +1,8 @@
--- What holds each time round the loop of `named_in`: the words that are left, behind those so far, name whom the line names.
+-- The invariant of the loop in `named_in`: the remaining words, after those so far, determine the candidates in the line.
 use Rattle.std.proofs.Common.{◌≡◌, [], map, drop}
 use Rattle.paper.specs.Ranking.{IsRanking}
 use Rattle.checker.specs.Ranks.{named_from}
-use Rattle.checker.specs.Views.{ranks_of}
+use Rattle.checker.specs.Values.{ranks_of}
 use Rattle.checker.specs.declared.ranks.NextWord.TheVariants.{Preference}
 use Rattle.checker.proofs.ranks.named_in.Given as goal
 

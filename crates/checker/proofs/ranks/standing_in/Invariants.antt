@@ -1,4 +1,4 @@
--- What holds each time round the loop of `standing_in`: those of the words that are left who stand, behind those so far, are all who do.
+-- The invariant of the loop in `standing_in`: the number so far and that of the remaining words add up to the total of those who aren't withdrawn.
 use Rattle.std.proofs.Common.{◌≡◌, ◌≤◌, map, drop}
 use Rattle.checker.specs.Ranks.{standing_from}
 use Rattle.checker.proofs.ranks.standing_in.Given as goal

@@ -1,4 +1,4 @@
--- Why `without` keeps its promise.
+-- Proof that `without` meets its contract.
 use Rattle.std.proofs.Common.{◌≡◌, subst, sym}
 use Rattle.std.proofs.lemmas.Grind.{common_steps}
 use Rattle.std.proofs.Common.{arith}

@@ -1,4 +1,4 @@
--- What holds each time round the loop of `without`: those so far, followed by those who stand of the ones that are left, are all who stand.
+-- The invariant of the loop in `without`: those so far, followed by the remaining ones who aren't withdrawn, are all who aren't.
 use Rattle.std.proofs.Common.{◌≡◌, ◌++◌, drop}
 use Rattle.checker.specs.Ranks.{without}
 use Rattle.checker.proofs.ranks.without.Given as goal

@@ -1,7 +1,7 @@
--- What holds each time round the loop of `read_lines`: the lines that are left, behind those so far, tell what all of them tell.
+-- The invariant of the loop in `read_lines`: the remaining lines, after those so far, determine the content of all of them.
 use Rattle.std.proofs.Common.{◌≡◌, map, drop}
 use Rattle.checker.specs.Reading.{nothing_told, read_from}
-use Rattle.checker.specs.Views.{reading_of}
+use Rattle.checker.specs.Values.{reading_of}
 use Rattle.checker.proofs.reading.read_lines.Given as goal
 
 abbrev pub invariant-loop-i : goal.invariant-loop-i

@@ -1,4 +1,4 @@
--- Why `ballots_read_back` keeps its promise.
+-- Proof that `ballots_read_back` meets its contract.
 use Rattle.checker.proofs.OwnBallots.{own_check, own_problem}
 use Rattle.checker.proofs.ReadBackLaws.{ballots_back}
 use Rattle.checker.proofs.reading_back.ballots_read_back.Goals as goal

@@ -1,4 +1,4 @@
--- Why `lot_text` keeps its promise.
+-- Proof that `lot_text` meets its contract.
 use Rattle.checker.proofs.report.lot_text.Goals as goal
 
 pub returns : goal.returns

@@ -1,4 +1,4 @@
--- Why `should_be_text` keeps its promise.
+-- Proof that `should_be_text` meets its contract.
 use Rattle.checker.proofs.report.should_be_text.Goals as goal
 
 pub returns : goal.returns

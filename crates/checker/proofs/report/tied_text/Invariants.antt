@@ -1,4 +1,4 @@
--- What holds each time round the loop of `tied_text`: the text has the numbers so far.
+-- The invariant of the loop in `tied_text`: the text contains the numbers so far.
 use Rattle.std.proofs.Common.{◌≡◌, take}
 use Rattle.std.specs.Prelude.{string_bytes}
 use Rattle.checker.specs.Reports.{tied_text}

@@ -1,4 +1,4 @@
--- Why `too_long_text` keeps its promise.
+-- Proof that `too_long_text` meets its contract.
 use Rattle.checker.proofs.report.too_long_text.Goals as goal
 
 pub returns : goal.returns

@@ -1,4 +1,4 @@
--- Why `pieces_of` keeps its promise.
+-- Proof that `pieces_of` meets its contract.
 use Rattle.std.proofs.Common.{◌≡◌, ◌∙◌, ◌++◌, false, get_or, map, sym, ap, arith}
 use Rattle.checker.specs.Tokens.{parts}
 use Rattle.checker.proofs.TokenLemmas.{goes_on}

@@ -1,4 +1,4 @@
--- What holds each time round the loop of `pieces_of`: the pieces so far, followed by those of the bytes that are left, behind the beginning of the next, are those of the text.
+-- The invariant of the loop in `pieces_of`: the pieces so far, followed by those of the remaining bytes after the beginning of the next, are those of the text.
 use Rattle.std.proofs.Common.{◌≡◌, ◌≤◌, ◌-◌, ◌++◌, [], map, take, drop}
 use Rattle.checker.specs.Tokens.{pieces_of}
 use Rattle.checker.proofs.tokens.pieces_of.Given as goal

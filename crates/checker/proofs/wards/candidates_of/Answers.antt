@@ -1,4 +1,4 @@
--- Why `candidates_of` keeps its promise.
+-- Proof that `candidates_of` meets its contract.
 use Rattle.std.proofs.Common.{◌≡◌, ◌≤◌, length, map, arith}
 use Rattle.std.specs.Prelude.{string_bytes}
 use Rattle.std.proofs.lemmas.Grind.{common_steps}

@@ -1,4 +1,4 @@
--- What holds each time round the loop of `candidates_of`: those so far, followed by those of the names that are left, are all of them.
+-- The invariant of the loop in `candidates_of`: those so far, followed by those of the remaining names, are all of them.
 use Rattle.std.proofs.Common.{◌≡◌, ◌+◌, ◌++◌, map, drop}
 use Rattle.std.specs.Prelude.{string_bytes}
 use Rattle.checker.specs.Wards.{candidates_from, candidates_of}

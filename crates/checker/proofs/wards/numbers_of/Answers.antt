@@ -1,4 +1,4 @@
--- Why `numbers_of` keeps its promise.
+-- Proof that `numbers_of` meets its contract.
 use Rattle.checker.proofs.WardLemmas.{number_more, number_is, numbers_done}
 use Rattle.checker.proofs.wards.numbers_of.Goals as goal
 

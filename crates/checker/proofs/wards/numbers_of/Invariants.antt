@@ -1,4 +1,4 @@
--- What holds each time round the loop of `numbers_of`: the set has the numbers so far.
+-- The invariant of the loop in `numbers_of`: the set contains the numbers so far.
 use Rattle.std.proofs.Common.{◌≡◌, map, take}
 use Rattle.checker.proofs.wards.numbers_of.Given as goal
 

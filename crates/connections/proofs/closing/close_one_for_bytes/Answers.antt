@@ -2,7 +2,7 @@
 use Rattle.std.proofs.Common.{subst, true}
 use Rattle.connections.specs.Closing.{byte_limit_rule}
 use Rattle.connections.specs.declared.closing.Rule.{Rule}
-use Rattle.connections.specs.declared.table.ConnectionTable.{ConnectionTable}
+use Rattle.connections.specs.declared.connection_table.ConnectionTable.{ConnectionTable}
 use Rattle.connections.proofs.ClosingLemmas.{NoneDue, client_for_bytes, none_there, none_unseen, order_for_bytes}
 use Rattle.connections.proofs.closing.close_one_for_bytes.Goals as goal
 

@@ -1,15 +1,15 @@
--- Of the proof of `acted_on_bundles`: what is shown by hand.
+-- Parts of the proof of `acted_on_bundles` that are done by hand.
 use Rattle.std.proofs.Common.{◌∙◌, List, reverse, subst}
 use Rattle.count.specs.Advance.{Adds}
 use Rattle.count.specs.Law.Contest.{Contest}
-use Rattle.count.specs.Inside.Keeping.{IsAdded}
+use Rattle.count.specs.Inside.BookInvariants.{IsAdded}
 use Rattle.count.specs.Inside.Placing.{contest_on, IsDueInBook}
 use Rattle.count.specs.declared.stages.Stage.{Stage}
 use Rattle.count.proofs.BundleBookLemmas.{figured-adds, places-adds}
 use Rattle.count.proofs.bundle_act.acted_on_bundles.Goals as goal
 use Rattle.count.proofs.bundle_act.acted_on_bundles.Goals.{After-add_stage}
 
--- what was added, over the stages that were copied
+-- what was added, for the copied stages
 added : (c : After-add_stage) → let contest : Contest = contest_on c.args.terms.now c.args.bundles.now in
     IsDueInBook contest (reverse c.args.stages.now) c.args.bundles.now c.args.places.now c.args.action.now →
     Adds contest (reverse c.args.stages.now) c.args.action.now (reverse c.add_stage.new.stages.items)

@@ -1,4 +1,4 @@
--- Of the proof of `add_to`: the number that is there fits, and with the new papers it is what `with_papers` says.
+-- Parts of the proof of `add_to`: the stored number doesn't overflow, and with the new papers it is as in `with_papers`.
 use Rattle.std.proofs.Common.{◌≡◌, ◌+◌, ap, ◌∙◌, arith, rules}
 use Rattle.std.specs.BTreeMap.{insert_entry}
 use Rattle.count.specs.Bundles.{list_cmp, with_papers}

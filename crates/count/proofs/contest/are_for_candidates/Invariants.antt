@@ -1,4 +1,4 @@
--- Of the proof of `are_for_candidates`: what holds at each round of its loop.
+-- The invariant of the loop in `are_for_candidates`.
 use Rattle.std.proofs.Common.{◌≡◌, true, take}
 use Rattle.std.specs.List.{AllByRecursion}
 use Rattle.paper.specs.Standing.{is_continuing}

@@ -1,4 +1,4 @@
--- Of the proof of `is_for`: what holds at each round of its loop.
+-- The invariant of the loop in `is_for`.
 use Rattle.std.proofs.Common.{◌≡◌, true, take}
 use Rattle.std.specs.List.{AllByRecursion}
 use Rattle.paper.specs.Standing.{is_continuing}

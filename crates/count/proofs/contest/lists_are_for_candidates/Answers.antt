@@ -1,4 +1,4 @@
--- Of the proof of `lists_are_for_candidates`: what is shown by hand.
+-- Parts of the proof of `lists_are_for_candidates` that are done by hand.
 use Rattle.std.proofs.Common.{◌≡◌, ℕ, true, List, nat_eq, refl, sym, ◌∙◌, subst}
 use Rattle.std.specs.List.{AllByRecursion, list_any}
 use Rattle.paper.specs.Standing.{is_continuing}

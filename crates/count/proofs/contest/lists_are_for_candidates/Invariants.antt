@@ -1,4 +1,4 @@
--- Of the proof of `lists_are_for_candidates`: what holds at each round of its loop.
+-- The invariant of the loop in `lists_are_for_candidates`.
 use Rattle.std.proofs.Common.{◌↔◌}
 use Rattle.std.specs.List.{AllByRecursion}
 use Rattle.count.specs.Bundles.{IsBundle}

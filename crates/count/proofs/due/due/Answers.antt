@@ -1,4 +1,4 @@
--- Of the proof of `due`: what is shown by hand.
+-- Parts of the proof of `due` that are done by hand.
 use Rattle.std.proofs.Common.{◌∙◌, ap, sym, nat_lt, reverse}
 use Rattle.std.specs.List.{filter}
 use Rattle.count.specs.Law.Contest.{Contest, History, votes_at}

@@ -1,4 +1,4 @@
--- Of the proof of `elected`: what is shown by hand.
+-- Parts of the proof of `elected` that are done by hand.
 use Rattle.std.proofs.Common.{Bool, ◌&&◌, ◌||◌, not, [], reverse, ap, ◌∙◌, rules}
 use Rattle.std.specs.List.{filter}
 use Rattle.count.specs.Books.{contest_of}

@@ -1,4 +1,4 @@
--- Of the proof of `has_one`: what holds at each round of its loop.
+-- The invariant of the loop in `has_one`.
 use Rattle.std.proofs.Common.{◌≡◌, ℕ, ◌≤◌, Bool, false, take}
 use Rattle.std.specs.List.{list_any}
 use Rattle.paper.specs.Columns.{max_candidates}

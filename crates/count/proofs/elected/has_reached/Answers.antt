@@ -1,4 +1,4 @@
--- Of the proof of `has_reached`: what is shown by hand.
+-- Parts of the proof of `has_reached` that are done by hand.
 use Rattle.std.proofs.Common.{◌∙◌, sym, nat_le, rules, tests}
 use Rattle.count.specs.Law.Contest.{votes_at}
 use Rattle.count.specs.declared.stages.Stage.{Stage}

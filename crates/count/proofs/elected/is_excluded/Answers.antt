@@ -1,4 +1,4 @@
--- Of the proof of `is_excluded`: what is shown by hand.
+-- Parts of the proof of `is_excluded` that are done by hand.
 use Rattle.std.proofs.Common.{◌∙◌, sym, rules, tests}
 use Rattle.count.specs.Law.Elected.{excludes}
 use Rattle.count.specs.declared.stages.Stage.{Stage}

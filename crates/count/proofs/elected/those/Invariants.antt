@@ -1,4 +1,4 @@
--- Of the proof of `those`: what holds at each round of its loop.
+-- The invariant of the loop in `those`.
 use Rattle.std.proofs.Common.{◌≡◌, ℕ, ◌≤◌, Bool, take}
 use Rattle.std.specs.List.{filter}
 use Rattle.paper.specs.Columns.{max_candidates}

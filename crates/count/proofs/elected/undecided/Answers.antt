@@ -1,4 +1,4 @@
--- Of the proof of `undecided`: what is shown by hand.
+-- Parts of the proof of `undecided` that are done by hand.
 use Rattle.std.proofs.Common.{◌&&◌, not, [], reverse, rules}
 use Rattle.count.specs.Books.{contest_of}
 use Rattle.count.specs.Law.Elected.{has_reached, is_excluded}

@@ -1,4 +1,4 @@
--- Of the proof of `with_quota`: what is shown by hand.
+-- Parts of the proof of `with_quota` that are done by hand.
 use Rattle.std.proofs.Common.{[], reverse, rules}
 use Rattle.count.specs.Books.{contest_of}
 use Rattle.count.specs.Law.Elected.{has_reached}

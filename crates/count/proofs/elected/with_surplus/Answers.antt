@@ -1,4 +1,4 @@
--- Of the proof of `with_surplus`: what is shown by hand.
+-- Parts of the proof of `with_surplus` that are done by hand.
 use Rattle.std.proofs.Common.{nat_lt, rules}
 use Rattle.count.specs.Law.Contest.{votes_at}
 use Rattle.count.proofs.elected.with_surplus.Goals as goal

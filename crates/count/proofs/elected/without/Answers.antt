@@ -1,4 +1,4 @@
--- Of the proof of `without`: what is shown by hand.
+-- Parts of the proof of `without` that are done by hand.
 use Rattle.std.proofs.Common.{not, nat_eq, rules}
 use Rattle.std.specs.List.{list_any}
 use Rattle.count.proofs.elected.without.Goals as goal

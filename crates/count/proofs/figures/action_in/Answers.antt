@@ -1,4 +1,4 @@
--- Of the proof of `action_in`: what is shown by hand.
+-- Parts of the proof of `action_in` that are done by hand.
 use Rattle.std.proofs.Common.{◌≡◌, ◌∙◌, ap, sym, map}
 use Rattle.count.specs.declared.figures.Figure.{Figure}
 use Rattle.count.specs.Inside.Reading.{action_shown}

@@ -1,4 +1,4 @@
--- Of the proof of `action_in`: what holds at each round of its loop.
+-- The invariant of the loop in `action_in`.
 use Rattle.std.proofs.Common.{◌≡◌, ℕ, map, drop}
 use Rattle.count.specs.Inside.Reading.{action_shown}
 use Rattle.count.specs.declared.figures.Figure.{Figure}

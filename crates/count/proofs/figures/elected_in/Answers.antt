@@ -1,6 +1,6 @@
--- Of the proof of `elected_in`: what is shown by hand.
+-- Parts of the proof of `elected_in` that are done by hand.
 use Rattle.std.proofs.Common.{◌∙◌, ap, sym, subst}
-use Rattle.paper.specs.Columns.{IsColumnSet}
+use Rattle.paper.specs.Columns.{IsCandidateSet}
 use Rattle.count.specs.declared.figures.Figure.{Figure}
 use Rattle.count.proofs.ReadingLemmas.{figure-at, elected-yes, elected-no}
 use Rattle.count.proofs.figures.elected_in.Goals as goal
@@ -8,7 +8,7 @@ use Rattle.count.proofs.figures.elected_in.Goals.{then-is_elected_mark, else-is_
 
 pub loop-i-preserved : goal.loop-i-preserved
 loop-i-preserved c = λ f is.
-    let set : IsColumnSet c.as_slice-c-items.result.now = subst IsColumnSet (sym c.as_slice-c-items.ensures.is) c.as_slice-c-items.ensures.set in
+    let set : IsCandidateSet c.as_slice-c-items.result.now = subst IsCandidateSet (sym c.as_slice-c-items.ensures.is) c.as_slice-c-items.ensures.set in
     let mark = ap (λ (g : Figure). g.mark) (figure-at f c.as_slice-c-items.result.now c.args.figures.now c.loop-i.i _ is c.loop-i-test.true) in
     elim c.if-is_elected_mark.branch [
       | then-is_elected_mark w ↦

@@ -1,4 +1,4 @@
--- Of the proof of `elected_in`: what holds at each round of its loop.
+-- The invariant of the loop in `elected_in`.
 use Rattle.std.proofs.Common.{◌≡◌, ℕ, map, take}
 use Rattle.count.specs.Inside.Reading.{elected_shown}
 use Rattle.count.specs.declared.figures.Figure.{Figure}

@@ -1,4 +1,4 @@
--- Of the proof of `figures_of`: what holds at each round of its loop.
+-- The invariant of the loop in `figures_of`.
 use Rattle.std.proofs.Common.{◌≡◌, ◌∷◌, map, take, reverse}
 use Rattle.count.specs.Marks.{no_candidate, figure_of}
 use Rattle.count.proofs.figures.figures_of.Given as goal

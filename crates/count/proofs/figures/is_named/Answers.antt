@@ -1,4 +1,4 @@
--- Of the proof of `is_named`: what is shown by hand.
+-- Parts of the proof of `is_named` that are done by hand.
 use Rattle.std.proofs.Common.{◌∙◌, sym, nat_eq, rules, tests}
 use Rattle.std.specs.List.{list_any}
 use Rattle.count.specs.declared.stages.Stage.{Stage}

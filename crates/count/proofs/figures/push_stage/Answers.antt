@@ -1,4 +1,4 @@
--- Of the proof of `push_stage`: what is shown by hand.
+-- Parts of the proof of `push_stage` that are done by hand.
 use Rattle.std.proofs.Common.{rules, ◌≡◌, ◌∙◌, ℕ, ◌+◌, List, [], ◌∷◌, ◌++◌, length, ap, sym, subst}
 use Rattle.count.specs.Law.Due.{lot_for}
 use Rattle.count.specs.Inside.Reading.{elected_shown}

@@ -1,4 +1,4 @@
--- Of the proof of `stages_of_figures`: what is shown by hand.
+-- Parts of the proof of `stages_of_figures` that are done by hand.
 use Rattle.std.proofs.Common.{rules, ◌≡◌, ◌∙◌, ℕ, ◌+◌, List, [], ◌∷◌, length, reverse, ap, sym, subst, arith}
 use Rattle.std.proofs.lemmas.Bool.{eqb-false}
 use Rattle.count.specs.Law.Contest.{History}

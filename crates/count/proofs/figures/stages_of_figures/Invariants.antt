@@ -1,4 +1,4 @@
--- Of the proof of `stages_of_figures`: what holds at each round of its loop, and what gets less.
+-- The invariant and the variant of the loop in `stages_of_figures`.
 use Rattle.std.proofs.Common.{◌≡◌, length}
 use Rattle.count.specs.Law.Contest.{Contest, History, IsContest}
 use Rattle.count.specs.Law.Right.{IsRightForSome}

@@ -1,4 +1,4 @@
--- Of the proof of `votes_in`: what is shown by hand.
+-- Parts of the proof of `votes_in` that are done by hand.
 use Rattle.std.proofs.Common.{◌∙◌, ℕ, ap, arith, rules, length-set, slice_index}
 use Rattle.paper.specs.Columns.{IsColumn}
 use Rattle.count.specs.declared.figures.Figure.{Figure}

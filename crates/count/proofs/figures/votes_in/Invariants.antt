@@ -1,4 +1,4 @@
--- Of the proof of `votes_in`: what holds at each round of its loop.
+-- The invariant of the loop in `votes_in`.
 use Rattle.std.proofs.Common.{◌≡◌, ℕ, map, take, length}
 use Rattle.paper.specs.Columns.{max_candidates}
 use Rattle.count.specs.Inside.Reading.{votes_shown}

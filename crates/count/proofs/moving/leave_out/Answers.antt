@@ -1,4 +1,4 @@
--- Of the proof of `leave_out`: what is shown by hand.
+-- Parts of the proof of `leave_out` that are done by hand.
 use Rattle.std.proofs.Common.{rules}
 use Rattle.std.proofs.lemmas.Fn.{filter_same}
 use Rattle.count.proofs.moving.leave_out.Goals as goal

@@ -1,4 +1,4 @@
--- Of the proof of `moved_by`: what is shown by hand.
+-- Parts of the proof of `moved_by` that are done by hand.
 use Rattle.std.proofs.Common.{◌≡◌, ◌∙◌, ℕ, ◌-◌, ap, sym, subst, reverse, arith}
 use Rattle.count.specs.Law.Contest.{Contest, History, newest_votes}
 use Rattle.count.specs.Inside.Holdings.{total_passed}
@@ -9,7 +9,7 @@ use Rattle.count.specs.Law.Elected.{is_continuing}
 use Rattle.count.proofs.ParcelTotals.{total_passed-same}
 use Rattle.count.specs.Advance.{IsDue}
 use Rattle.count.specs.Books.{contest_of}
-use Rattle.count.specs.Inside.Keeping.{IsMovedBy}
+use Rattle.count.specs.Inside.BookInvariants.{IsMovedBy}
 use Rattle.count.specs.declared.stages.Action.{Action}
 use Rattle.count.proofs.MoveLemmas.{IsLawful, surplus-lawful, under-way}
 use Rattle.count.proofs.TransferLemmas.{moved-surplus, moved-exclude, moved-last}

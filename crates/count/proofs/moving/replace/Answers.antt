@@ -1,4 +1,4 @@
--- Of the proof of `replace`: what is shown by hand.
+-- Parts of the proof of `replace` that are done by hand.
 use Rattle.std.proofs.Common.{rules, ◌≡◌, ◌++◌}
 use Rattle.count.proofs.TransferLemmas.{kept-append}
 use Rattle.count.proofs.moving.replace.Goals as goal

@@ -1,4 +1,4 @@
--- Of the proof of `dealt_places`: what is shown by hand.
+-- Parts of the proof of `dealt_places` that are done by hand.
 use Rattle.std.proofs.Common.{rules, ◌≡◌, sym, subst}
 use Rattle.std.specs.List.{AllByRecursion}
 use Rattle.count.specs.Inside.Placing.{IsSound, first_places}

@@ -1,4 +1,4 @@
--- Of the proof of `dealt_places`: what holds at each round of its loop.
+-- The invariant of the loop in `dealt_places`.
 use Rattle.std.proofs.Common.{◌≡◌, ◌++◌}
 use Rattle.count.specs.Inside.Placing.{first_places}
 use Rattle.count.proofs.places.dealt_places.Given as goal

@@ -1,4 +1,4 @@
--- Of the proof of `from_holder`: what is shown by hand.
+-- Parts of the proof of `from_holder` that are done by hand.
 use Rattle.std.proofs.Common.{◌==◌, ap, ◌∙◌, drop}
 use Rattle.std.proofs.lemmas.List.{take_rest}
 use Rattle.paper.proofs.Standings.{drop-passed}

@@ -1,9 +1,9 @@
--- Of the proof of `moved_places`: what is shown by hand.
+-- Parts of the proof of `moved_places` that are done by hand.
 use Rattle.std.proofs.Common.{◌∙◌, [], ◌∷◌, ap, sym, subst, reverse}
 use Rattle.count.specs.Law.Contest.{Contest, History}
 use Rattle.count.specs.Law.Count.{begun}
 use Rattle.paper.specs.Standing.{is_continuing}
-use Rattle.count.specs.Kept.{places_after}
+use Rattle.count.specs.StoredCounts.{places_after}
 use Rattle.count.specs.Inside.Placing.{contest_on, IsDueInBook}
 use Rattle.count.specs.declared.stages.Action.{Action}
 use Rattle.count.proofs.PlaceLemmas.{exclude-places}

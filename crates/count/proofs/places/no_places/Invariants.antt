@@ -1,4 +1,4 @@
--- Of the proof of `no_places`: what holds at each round of its loop.
+-- The invariant of the loop in `no_places`.
 use Rattle.std.proofs.Common.{◌≡◌, ◌++◌, map}
 use Rattle.count.specs.Bundles.{Bundle}
 use Rattle.count.specs.Inside.Placing.{nowhere}

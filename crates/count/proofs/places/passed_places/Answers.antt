@@ -1,4 +1,4 @@
--- Of the proof of `passed_places`: what is shown by hand.
+-- Parts of the proof of `passed_places` that are done by hand.
 use Rattle.std.proofs.Common.{rules, ◌≡◌, List, [], sym, subst}
 use Rattle.std.specs.List.{AllByRecursion}
 use Rattle.paper.specs.Standing.{is_continuing}

@@ -1,4 +1,4 @@
--- Of the proof of `passed_places`: what holds at each round of its loop.
+-- The invariant of the loop in `passed_places`.
 use Rattle.std.proofs.Common.{◌≡◌, ◌++◌}
 use Rattle.std.specs.List.{AllByRecursion}
 use Rattle.paper.specs.Standing.{is_continuing}

@@ -1,4 +1,4 @@
--- Of the proof of `places_by_surplus`: what is shown by hand.
+-- Parts of the proof of `places_by_surplus` that are done by hand.
 use Rattle.std.proofs.Common.{◌≡◌, false, true, ap, ◌∙◌, reverse}
 use Rattle.paper.specs.Standing.{is_continuing}
 use Rattle.count.specs.Law.Contest.{Contest, History}

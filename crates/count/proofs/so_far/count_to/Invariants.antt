@@ -1,4 +1,4 @@
--- What the loop of `count_to` keeps.
+-- The invariant of the loop in `count_to`.
 use Rattle.std.proofs.Common.{◌≡◌}
 use Rattle.count.specs.Law.Count.{stages_to}
 use Rattle.count.proofs.so_far.count_to.Given as goal

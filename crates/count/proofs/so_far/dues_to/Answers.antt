@@ -1,4 +1,4 @@
--- Of the proof of `dues_to`: what is shown by hand.
+-- Parts of the proof of `dues_to` that are done by hand.
 use Rattle.std.proofs.Common.{◌+◌, ◌∙◌, refl, arith}
 use Rattle.count.proofs.Law.CountLemmas.{counted_more, dues_more}
 use Rattle.count.proofs.so_far.dues_to.Goals as goal

@@ -1,4 +1,4 @@
--- What the loop of `dues_to` keeps.
+-- The invariant of the loop in `dues_to`.
 use Rattle.std.proofs.Common.{◌≡◌, map}
 use Rattle.std.specs.List.{range_with_len}
 use Rattle.count.specs.Law.Due.{due_after}

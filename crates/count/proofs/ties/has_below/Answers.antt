@@ -1,4 +1,4 @@
--- Of the proof of `has_below`: what is shown by hand.
+-- Parts of the proof of `has_below` that are done by hand.
 use Rattle.std.proofs.Common.{reverse, rules}
 use Rattle.count.specs.Law.Due.{is_above}
 use Rattle.count.proofs.ties.has_below.Goals as goal

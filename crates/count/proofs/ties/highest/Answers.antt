@@ -1,4 +1,4 @@
--- Of the proof of `highest`: what is shown by hand.
+-- Parts of the proof of `highest` that are done by hand.
 use Rattle.std.proofs.Common.{not, reverse, rules}
 use Rattle.std.specs.List.{list_any}
 use Rattle.count.specs.Law.Due.{is_above}

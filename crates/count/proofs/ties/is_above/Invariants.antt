@@ -1,4 +1,4 @@
--- Of the proof of `is_above`: what holds at each round of its loop, and what gets less.
+-- The invariant and the variant of the loop in `is_above`.
 use Rattle.std.proofs.Common.{◌≡◌, reverse, length}
 use Rattle.count.specs.Law.Due.{is_above}
 use Rattle.count.proofs.ties.is_above.Given as goal

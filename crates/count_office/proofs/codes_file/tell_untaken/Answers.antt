@@ -1,4 +1,4 @@
--- Why `tell_untaken` keeps its promise.
+-- Proof that `tell_untaken` meets its contract.
 use Rattle.std.proofs.Common.{subst, sym}
 use Rattle.codes.specs.declared.fault.CodesError.{CodesError}
 use Rattle.desk.specs.Pages.{IsErrorTold}

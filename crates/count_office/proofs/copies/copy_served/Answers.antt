@@ -1,4 +1,4 @@
--- Why `copy_served` keeps its promise, where a failure is told.
+-- Proof that `copy_served` meets its contract if a failure is printed.
 use Rattle.std.proofs.Common.{inl}
 use Rattle.sqlite.specs.Held.{state}
 use Rattle.count_office.proofs.CopyLemmas.{failure_told}

@@ -1,4 +1,4 @@
--- Why `fill` may tell a failure once more: what was told with status 0 was told whole.
+-- Proof that `fill` may print one more failure: what was printed with status 0 was written whole.
 use Rattle.std.proofs.Common.{◌≡◌, arith}
 use Rattle.desk.specs.Pages.{outputs_of}
 use Rattle.count_office.proofs.CopyLemmas.{whole_at_zero}

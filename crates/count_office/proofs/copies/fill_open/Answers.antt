@@ -1,4 +1,4 @@
--- Why `fill_open` keeps its promise, and why it may tell a failure once more: what was told with status 0 was told whole.
+-- Proof that `fill_open` meets its contract and may print one more failure: what was printed with status 0 was written whole.
 use Rattle.std.proofs.Common.{◌≡◌, arith, inl}
 use Rattle.sqlite.specs.Held.{state}
 use Rattle.desk.specs.Pages.{outputs_of}

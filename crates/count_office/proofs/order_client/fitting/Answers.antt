@@ -1,4 +1,4 @@
--- Why `fitting` keeps its promise: one piece more has a spelling.
+-- Proof that `fitting` meets its contract: one more piece has a spelling.
 use Rattle.count_office.proofs.PieceLemmas.{fits_more}
 use Rattle.count_office.proofs.order_client.fitting.Goals as goal
 

@@ -1,4 +1,4 @@
--- What holds each time round the loop of `fitting`: the pieces so far have a spelling.
+-- The invariant of the loop in `fitting`: the pieces so far have a spelling.
 use Rattle.std.specs.List.{AllByRecursion}
 use Rattle.order_protocol.specs.Messages.{PieceFits, message_part_entries}
 use Rattle.count_office.proofs.order_client.fitting.Given as goal

@@ -1,4 +1,4 @@
--- Why `last_two` keeps its promise: nothing is left at the end.
+-- Proof that `last_two` meets its contract: nothing is left at the end.
 use Rattle.std.proofs.Common.{◌∙◌, ap, sym}
 use Rattle.std.proofs.Math.ListN.{drop_of_length-le}
 use Rattle.count_office.specs.Screens.{last_two}

@@ -1,4 +1,4 @@
--- Why `mask` keeps its promise: one byte more is shown, until none is left.
+-- Proof that `mask` meets its contract: one more byte is shown, until none is left.
 use Rattle.std.proofs.Common.{◌≡◌, ◌∙◌, ◌++◌, length, take, ap, sym, arith, length-set, append-nil}
 use Rattle.std.proofs.Math.ListN.{drop_of_length-le}
 use Rattle.count_office.specs.Screens.{masked}

@@ -1,4 +1,4 @@
--- Why `serve` keeps its promise, once the office was opened.
+-- Proof that `serve` meets its contract, once the office was opened.
 use Rattle.std.proofs.Common.{◌≡◌, inr, subst, sym}
 use Rattle.sqlite.specs.Held.{state}
 use Rattle.connections.specs.Streams.{stream_of}
@@ -11,7 +11,7 @@ pub returns : goal.returns
 returns g c =
     let tells = IsErrorTold g.E.Sink.taken g.E.Sink.failed c.args.err.now c.tell_outcome-status.new.err in
     let quiet = c.tell_outcome-status.new.err ≡ c.args.err.now in
-    let line = stream_of g.H.Port.Stream.Stream.held g.H.Port.Stream.Stream.taken g.H.Port.Stream.Stream.failed in
+    let line = stream_of g.H.Sockets.Stream.Stream.held g.H.Sockets.Stream.Stream.taken g.H.Sockets.Stream.Stream.failed in
     let served = c.serve_at-outcome in
     let opened = c.in-Ok-open_from in
     subst

@@ -1,4 +1,4 @@
--- Why `serve_at` keeps its promise, where the doors were opened.
+-- Proof that `serve_at` meets its contract if the network was opened.
 use Rattle.std.proofs.Common.{subst, sym, Ok, Err}
 use Rattle.sqlite.specs.Held.{state}
 use Rattle.connections.specs.Streams.{stream_of}
@@ -9,24 +9,24 @@ use Rattle.count_office.proofs.serving.serve_at.Goals as goal
 
 pub returns-in-Ok : goal.returns-in-Ok
 returns-in-Ok g c =
-    let line = stream_of g.H.Port.Stream.Stream.held g.H.Port.Stream.Stream.taken g.H.Port.Stream.Stream.failed in
+    let line = stream_of g.H.Sockets.Stream.Stream.held g.H.Sockets.Stream.Stream.taken g.H.Sockets.Stream.Stream.failed in
     let known = g.H.Host.known in
     let found = c.in_ok-network in
     let through = c.serve_through-ended in
-    served_on c.args.serving c.args.gate_files.now (g.H.Host.file c.args.host.now) found.field-0.file (g.H.Side.SideJobs.whole found.field-0.side_jobs) line
+    served_on c.args.serving c.args.gate_files.now (g.H.Host.file c.args.host.now) found.field-0.file (g.H.Side.ServedFile.whole found.field-0.served_file) line
     (state g.S.Store) (known c.args.host.now) (known c.open.new.self) (known c.close.new.self)
-    (g.H.Port.Network.known found.field-0.network) (g.H.Port.Network.known through.new.network) c.args.office.now through.new.office (Ok c.in-Ok.field-0)
+    (g.H.Sockets.Network.known found.field-0.network) (g.H.Sockets.Network.known through.new.network) c.args.office.now through.new.office (Ok c.in-Ok.field-0)
     found.ensures.same found.ensures.known c.close.ensures.known c.close.ensures.others found.ensures.file c.in-Ok.ensures
 
 pub returns-in-Err : goal.returns-in-Err
 returns-in-Err g c =
-    let line = stream_of g.H.Port.Stream.Stream.held g.H.Port.Stream.Stream.taken g.H.Port.Stream.Stream.failed in
+    let line = stream_of g.H.Sockets.Stream.Stream.held g.H.Sockets.Stream.Stream.taken g.H.Sockets.Stream.Stream.failed in
     let known = g.H.Host.known in
     let found = c.in_ok-network in
     let through = c.serve_through-ended in
     subst (λ (why : Failure). MayServe (IsGivenBy c.args.serving c.args.gate_files.now (g.H.Host.file c.args.host.now)) line (state g.S.Store) c.args.serving.port
     (known c.args.host.now) (known c.close.new.self) c.args.serving.connections c.args.office.now through.new.office (Err why)) (sym c.failure_of.ensures)
-    (served_on c.args.serving c.args.gate_files.now (g.H.Host.file c.args.host.now) found.field-0.file (g.H.Side.SideJobs.whole found.field-0.side_jobs) line
+    (served_on c.args.serving c.args.gate_files.now (g.H.Host.file c.args.host.now) found.field-0.file (g.H.Side.ServedFile.whole found.field-0.served_file) line
     (state g.S.Store) (known c.args.host.now) (known c.open.new.self) (known c.close.new.self)
-    (g.H.Port.Network.known found.field-0.network) (g.H.Port.Network.known through.new.network) c.args.office.now through.new.office (Err c.in-Err.ended)
+    (g.H.Sockets.Network.known found.field-0.network) (g.H.Sockets.Network.known through.new.network) c.args.office.now through.new.office (Err c.in-Err.ended)
     found.ensures.same found.ensures.known c.close.ensures.known c.close.ensures.others found.ensures.file c.in-Err.ensures)

@@ -1,4 +1,4 @@
--- Why `serve_through` keeps its promise: the gate is the porter's, and as many clients are to come.
+-- Proof that `serve_through` meets its contract: the gate is that of the settings, and so is the number of clients.
 use Rattle.std.proofs.Common.{subst, ℕ}
 use Rattle.std.specs.Prelude.{Option}
 use Rattle.sqlite.specs.Held.{state}
@@ -12,7 +12,7 @@ pub returns : goal.returns
 returns g c =
     let settings = c.args.settings in
     let at = λ (gate : Option GateEntry) (most : Option ℕ). ServesAtNetwork
-    (settings_with (given_by settings.serving.origin) gate settings.file (g.A.SideJobs.whole c.args.side_jobs.now))
+    (settings_with (given_by settings.serving.origin) gate settings.file (g.A.ServedFile.whole c.args.served_file.now))
     (stream_of g.D.Stream.Stream.held g.D.Stream.Stream.taken g.D.Stream.Stream.failed) (state g.S.Store) (g.D.Network.known c.args.network.now)
     (g.D.Network.known c.serve_connections.new.network) most
     c.args.office.now c.serve_connections.new.office c.serve_connections.result in

@@ -1,4 +1,4 @@
--- Why `copied` keeps its promise.
+-- Proof that `copied` meets its contract.
 use Rattle.std.proofs.Common.{inl, inr, refl, sym, ap, subst, ◌∙◌}
 use Rattle.sqlite.specs.Held.{state}
 use Rattle.register.specs.Machine.{after}

@@ -1,4 +1,4 @@
--- Why `copied_open` keeps its promise.
+-- Proof that `copied_open` meets its contract.
 use Rattle.std.proofs.Common.{◌≡◌, inl, inr, Result, Ok, Err, refl, sym, ap, subst, ◌∙◌}
 use Rattle.sqlite.specs.Held.{state}
 use Rattle.tables.specs.declared.fault.Fault.TheVariants.{Memory, Closed}

@@ -1,4 +1,4 @@
--- Why `copy_office` keeps its promise.
+-- Proof that `copy_office` meets its contract.
 use Rattle.sqlite.specs.Held.{state}
 use Rattle.desk.specs.Pages.{outputs_of, page_of}
 use Rattle.desk.proofs.CopyingLemmas.{whole_told}

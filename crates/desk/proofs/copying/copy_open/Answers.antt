@@ -1,4 +1,4 @@
--- Why `copy_open` keeps its promise.
+-- Proof that `copy_open` meets its contract.
 use Rattle.sqlite.specs.Held.{state}
 use Rattle.desk.specs.Pages.{outputs_of, page_of}
 use Rattle.desk.proofs.CopyingLemmas.{whole_told}

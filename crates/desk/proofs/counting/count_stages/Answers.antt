@@ -1,7 +1,7 @@
--- Why `count_stages` keeps its promise.
+-- Proof that `count_stages` meets its contract.
 use Rattle.std.proofs.Common.{◌≡◌, ◌≢◌, ◌∙◌, ◌<◌, true, false, true≢false, length, ap, refl, sym, subst, arith}
 use Rattle.sqlite.specs.Held.{state}
-use Rattle.store.proofs.KeepLemmas.{wears_itself, wears_then}
+use Rattle.store.proofs.KeepLemmas.{connection_itself, connection_then}
 use Rattle.desk.specs.Pages.{below, cut_below, uncut, empty_page, fronted, page_of}
 use Rattle.desk.specs.Parts.{IsStage}
 use Rattle.desk.proofs.CauseLemmas.{since}
@@ -12,7 +12,7 @@ use Rattle.desk.proofs.counting.count_stages.Goals as goal
 
 pub loop-request-init : goal.loop-request-init
 loop-request-init g c = record {
-  wears = wears_itself (state g.S.Store c.args.office.now.held);
+  keeps_connection = connection_itself (state g.S.Store c.args.office.now.held);
   clean = λ clean. clean;
   so_far = record { said = _; shown = nothing_told _; is = λ clean is_open s at keep ward id are. none_counted keep _ s ward id _ _ _ (record { is_open = is_open; at = at }) are };
 }
@@ -33,7 +33,7 @@ loop-request-preserved g c =
     let next = state g.S.Store c.stage_of-outcome.new.office.held in
     let closed = c.stage_of-outcome.new.office.closed in
     record {
-      wears = wears_then first mid next c.stage_of-outcome.ensures.clean c.loop-request.invariant.wears c.stage_of-outcome.ensures.wears;
+      keeps_connection = connection_then first mid next c.stage_of-outcome.ensures.clean c.loop-request.invariant.keeps_connection c.stage_of-outcome.ensures.keeps_connection;
       clean = λ clean. c.loop-request.invariant.clean (c.stage_of-outcome.ensures.clean clean);
       so_far = record {
         said = below so_far.said (fronted line page);
@@ -48,7 +48,7 @@ loop-request-preserved g c =
       };
     }
 
--- a page that ends it with another status than 0
+-- a page that ends the sequence with a status other than 0
 pub returns-then-status-ne0-clause-counted : goal.returns-then-status-ne0-clause-counted
 returns-then-status-ne0-clause-counted g c =
     let rs = c.args.requests.now in
@@ -70,7 +70,7 @@ returns-then-status-ne0-clause-counted g c =
       is = λ clean is_open s at keep ward id are.
           let honest = c.stage_of-outcome.ensures.clean clean in
           let so = so_far.is honest is_open s at keep ward id are in
-          let tells = since first mid next honest c.loop-request.invariant.wears c.stage_of-outcome.ensures.wears in
+          let tells = since first mid next honest c.loop-request.invariant.keeps_connection c.stage_of-outcome.ensures.keeps_connection in
           let known_is = rw (c.as_str.ensures.value, c.first_id-first.ensures ward id are) at c.eq-is_first.ensures in
           let it = stage_since first mid closed next c.eq-is_first.result so.end c.request-item.result page c.stage_of-outcome.result.1 tells
           (c.stage_of-outcome.ensures.told clean so.open_at.is_open so.end so.open_at.at) in
@@ -80,12 +80,12 @@ returns-then-status-ne0-clause-counted g c =
           (_, _, counted.2);
     }
 
-pub returns-then-status-ne0-clause-wears : goal.returns-then-status-ne0-clause-wears
-returns-then-status-ne0-clause-wears g c = wears_then (state g.S.Store c.args.office.now.held) (state g.S.Store c.loop-request.office.held)
-    (state g.S.Store c.stage_of-outcome.new.office.held) c.stage_of-outcome.ensures.clean c.loop-request.invariant.wears
-    c.stage_of-outcome.ensures.wears
+pub returns-then-status-ne0-clause-keeps_connection : goal.returns-then-status-ne0-clause-keeps_connection
+returns-then-status-ne0-clause-keeps_connection g c = connection_then (state g.S.Store c.args.office.now.held) (state g.S.Store c.loop-request.office.held)
+    (state g.S.Store c.stage_of-outcome.new.office.held) c.stage_of-outcome.ensures.clean c.loop-request.invariant.keeps_connection
+    c.stage_of-outcome.ensures.keeps_connection
 
--- the count rests, which was told whole
+-- the count rests, and its page was written whole
 pub returns-then-not-more-clause-counted : goal.returns-then-not-more-clause-counted
 returns-then-not-more-clause-counted g c =
     let rs = c.args.requests.now in
@@ -109,7 +109,7 @@ returns-then-not-more-clause-counted g c =
       is = λ clean is_open s at keep ward id are.
           let honest = c.stage_of-outcome.ensures.clean clean in
           let so = so_far.is honest is_open s at keep ward id are in
-          let tells = since first mid next honest c.loop-request.invariant.wears c.stage_of-outcome.ensures.wears in
+          let tells = since first mid next honest c.loop-request.invariant.keeps_connection c.stage_of-outcome.ensures.keeps_connection in
           let known_is = rw (c.as_str.ensures.value, c.first_id-first.ensures ward id are) at c.eq-is_first.ensures in
           let it = stage_since first mid closed next c.eq-is_first.result so.end c.request-item.result page c.stage_of-outcome.result.1 tells
           (c.stage_of-outcome.ensures.told clean so.open_at.is_open so.end so.open_at.at) in
@@ -119,10 +119,10 @@ returns-then-not-more-clause-counted g c =
           (_, _, counted.2);
     }
 
-pub returns-then-not-more-clause-wears : goal.returns-then-not-more-clause-wears
-returns-then-not-more-clause-wears g c = wears_then (state g.S.Store c.args.office.now.held) (state g.S.Store c.loop-request.office.held)
-    (state g.S.Store c.stage_of-outcome.new.office.held) c.stage_of-outcome.ensures.clean c.loop-request.invariant.wears
-    c.stage_of-outcome.ensures.wears
+pub returns-then-not-more-clause-keeps_connection : goal.returns-then-not-more-clause-keeps_connection
+returns-then-not-more-clause-keeps_connection g c = connection_then (state g.S.Store c.args.office.now.held) (state g.S.Store c.loop-request.office.held)
+    (state g.S.Store c.stage_of-outcome.new.office.held) c.stage_of-outcome.ensures.clean c.loop-request.invariant.keeps_connection
+    c.stage_of-outcome.ensures.keeps_connection
 
 pub returns-clause-counted : goal.returns-clause-counted
 returns-clause-counted g c =

@@ -1,9 +1,9 @@
--- What holds each time round the loop of `count_stages`: the stages so far were counted, which was told.
+-- The invariant of the loop in `count_stages`: the stages so far were counted, and their pages printed.
 use Rattle.std.proofs.Common.{◌≡◌, ℕ, Bool, map}
 use Rattle.clap.specs.Words.{Text}
 use Rattle.sqlite.specs.State.{HasCleanDisk}
 use Rattle.sqlite.specs.Held.{state}
-use Rattle.store.specs.Offices.{Wears}
+use Rattle.store.specs.StateTables.{KeepsConnection}
 use Rattle.office.specs.Answers.{WhenOpenAt}
 use Rattle.desk.specs.Orders.{sent_as}
 use Rattle.desk.specs.Pages.{outputs_of}
@@ -14,7 +14,7 @@ use Rattle.desk.proofs.counting.count_stages.Given as goal
 
 abbrev pub invariant-loop-request : goal.invariant-loop-request
 invariant-loop-request g l = record {
-  wears : Wears (state g.S.Store l.initial.office.held) (state g.S.Store l.office.held);
+  keeps_connection : KeepsConnection (state g.S.Store l.initial.office.held) (state g.S.Store l.office.held);
   clean : HasCleanDisk (state g.S.Store l.office.held) → HasCleanDisk (state g.S.Store l.initial.office.held);
   so_far : ToldSo (outputs_of g.O.Sink.taken g.O.Sink.failed g.E.Sink.taken g.E.Sink.failed l.initial.out l.initial.err)
       (outputs_of g.O.Sink.taken g.O.Sink.failed g.E.Sink.taken g.E.Sink.failed l.out l.err) 0

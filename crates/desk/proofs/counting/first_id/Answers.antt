@@ -1,4 +1,4 @@
--- Why `first_id` keeps its promise: of so many requests one is the first.
+-- Proof that `first_id` meets its contract: one of these requests is the first.
 use Rattle.std.proofs.Common.{◌≡◌, ◌∙◌, [], length, map, refl, sym, ap, arith}
 use Rattle.desk.specs.Orders.{Sent, sent_as}
 use Rattle.desk.proofs.StageLemmas.{first_named, none_numbered}

@@ -1,4 +1,4 @@
--- Why `stage_of` keeps its promise.
+-- Proof that `stage_of` meets its contract.
 use Rattle.std.proofs.Common.{◌∙◌, ap, inl, inr, refl}
 use Rattle.std.specs.Prelude.{Bool, ◌==◌, ◌&&◌, not}
 use Rattle.desk.specs.Pages.{page_counted}

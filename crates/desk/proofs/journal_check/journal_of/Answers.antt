@@ -1,4 +1,4 @@
--- Why `journal_of` keeps its promise.
+-- Proof that `journal_of` meets its contract.
 use Rattle.std.proofs.Common.{inl, inr, refl}
 use Rattle.std.specs.Prelude.{string_bytes}
 use Rattle.tables.specs.declared.fault.Fault.TheVariants.{Memory}
@@ -11,6 +11,6 @@ returns-in-Ok-true g c clean blank =
     let lead = rw (c.in-Ok-true.is, c.in-Ok-true.field-0-test) at (c.leads_to-led.ensures.leads clean blank) in
     inl (string_bytes c.in-Ok.draft.text, refl, (c.in-Some.requests.items, script, rw c.deref.ensures.value at (lead refl)))
 
--- no memory for its text
+-- an allocation for its text failed
 pub returns-in-Err : goal.returns-in-Err
 returns-in-Err g c clean blank = inr (inr (Memory, refl, inl refl))

@@ -1,4 +1,4 @@
--- Why `journal_office` keeps its promise.
+-- Proof that `journal_office` meets its contract.
 use Rattle.desk.specs.Pages.{page_of}
 use Rattle.desk.proofs.journal_check.journal_office.Goals as goal
 

@@ -1,4 +1,4 @@
--- Why `journal_open` keeps its promise.
+-- Proof that `journal_open` meets its contract.
 use Rattle.desk.specs.Pages.{page_of}
 use Rattle.desk.proofs.journal_check.journal_open.Goals as goal
 

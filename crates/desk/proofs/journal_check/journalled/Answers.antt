@@ -1,4 +1,4 @@
--- Why `journalled` keeps its promise.
+-- Proof that `journalled` meets its contract.
 use Rattle.std.proofs.Common.{inl, inr, refl, subst}
 use Rattle.sqlite.specs.Held.{state}
 use Rattle.register.specs.Machine.{after}

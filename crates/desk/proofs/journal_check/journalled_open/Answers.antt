@@ -1,4 +1,4 @@
--- Why `journalled_open` keeps its promise.
+-- Proof that `journalled_open` meets its contract.
 use Rattle.std.proofs.Common.{inr, ap, refl, subst}
 use Rattle.register.specs.Offices.{OfficeState}
 use Rattle.tables.specs.declared.fault.Fault.TheVariants.{Closed}

@@ -1,11 +1,11 @@
--- Why `requests_in` keeps its promise.
+-- Proof that `requests_in` meets its contract.
 use Rattle.std.proofs.Common.{◌∙◌, ap, map, sym}
 use Rattle.desk.specs.Lexing.{line_entry, typed_line_entry}
 use Rattle.desk.specs.Scripts.{lines_of, numbered_from}
 use Rattle.desk.proofs.JournalLemmas.{script_found, turns_of_text}
 use Rattle.desk.proofs.journal_check.requests_in.Goals as goal
 
--- the lines of the text are those that were said, their turns are these, and they send the requests
+-- the lines are those of the text, their steps are these, and they send the requests
 pub returns-in-Ok : goal.returns-in-Ok
 returns-in-Ok c =
     let text = c.args.text.now in

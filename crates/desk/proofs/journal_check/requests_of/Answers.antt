@@ -1,10 +1,10 @@
--- Why `requests_of` keeps its promise.
+-- Proof that `requests_of` meets its contract.
 use Rattle.std.proofs.Common.{◌≡◌, ◌∙◌, ◌∷◌, [], ◌++◌, map, sym, ap, ap₂}
 use Rattle.std.proofs.lemmas.List.{map-append}
 use Rattle.desk.specs.declared.orders.Errand.TheVariants as errand
 use Rattle.desk.proofs.journal_check.requests_of.Goals as goal
 
--- one turn more, whose errand is to send the request that was put behind the others
+-- one more step, whose errand is to send the request that was appended
 pub loop-turn-preserved : goal.loop-turn-preserved
 loop-turn-preserved c =
     let done = c.loop-turn.yielded in

@@ -1,4 +1,4 @@
--- What holds each time round the loop of `requests_of`: the turns so far are the requests.
+-- The invariant of the loop in `requests_of`: the steps so far are the requests.
 use Rattle.desk.specs.Journals.{AreSent}
 use Rattle.desk.proofs.journal_check.requests_of.Given as goal
 

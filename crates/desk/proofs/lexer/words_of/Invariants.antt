@@ -1,4 +1,4 @@
--- What holds each time round the loop of `words_of`: the bytes that are left, cut behind those so far, give the line's words.
+-- The invariant of the loop in `words_of`: splitting the bytes that are left after those so far results in the line's words.
 use Rattle.std.proofs.Common.{◌≡◌, [], drop}
 use Rattle.std.specs.Prelude.{fold}
 use Rattle.desk.specs.Lexing.{lexer_entry}

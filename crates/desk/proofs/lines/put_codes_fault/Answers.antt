@@ -1,4 +1,4 @@
--- Why `put_codes_fault` keeps its promise.
+-- Proof that `put_codes_fault` meets its contract.
 use Rattle.std.specs.Prelude.{◌∷◌, ◌++◌, [], codes}
 use Rattle.codes.specs.Faults.{fault_line, fault_text as codes_text}
 use Rattle.desk.specs.Pages.{codes_place, joined}

@@ -1,4 +1,4 @@
--- Why `put_codes_text` keeps its promise.
+-- Proof that `put_codes_text` meets its contract.
 use Rattle.std.specs.Prelude.{◌∷◌, [], codes}
 use Rattle.codes.specs.Faults.{fault_text as codes_text}
 use Rattle.desk.specs.Pages.{joined}

@@ -1,4 +1,4 @@
--- Why `put_line` keeps its promise.
+-- Proof that `put_line` meets its contract.
 use Rattle.std.specs.List.{flat_map}
 use Rattle.desk.proofs.PageLemmas.{put_behind, put_failed}
 use Rattle.desk.proofs.lines.put_line.Goals as goal

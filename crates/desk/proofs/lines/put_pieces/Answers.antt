@@ -1,4 +1,4 @@
--- Why `put_pieces` keeps its promise.
+-- Proof that `put_pieces` meets its contract.
 use Rattle.desk.proofs.PageLemmas.{put_next_failed}
 use Rattle.desk.proofs.lines.put_pieces.Goals as goal
 

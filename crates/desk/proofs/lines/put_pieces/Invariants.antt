@@ -1,4 +1,4 @@
--- What holds each time round the loop of `put_pieces`: the pieces so far were put.
+-- The invariant of the loop in `put_pieces`: the pieces so far were written.
 use Rattle.std.proofs.Common.{take, Ok}
 use Rattle.std.specs.List.{flat_map}
 use Rattle.streams.specs.declared.streams.Broken.{Broken}

@@ -1,4 +1,4 @@
--- Why `tell` keeps its promise.
+-- Proof that `tell` meets its contract.
 use Rattle.std.proofs.Common.{refl}
 use Rattle.desk.specs.Pages.{failed, refused, unjournalled, unread}
 use Rattle.desk.specs.declared.lines.Failure.TheVariants.{Office}

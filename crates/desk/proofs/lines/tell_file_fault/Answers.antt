@@ -1,4 +1,4 @@
--- Why `tell_file_fault` keeps its promise.
+-- Proof that `tell_file_fault` meets its contract.
 use Rattle.std.specs.Prelude.{codes}
 use Rattle.keyfile.proofs.FlawLemmas.{flaw_in_pieces}
 use Rattle.desk.proofs.lines.tell_file_fault.Goals as goal

@@ -1,4 +1,4 @@
--- Why `tell_noted` keeps its promise.
+-- Proof that `tell_noted` meets its contract.
 use Rattle.std.proofs.Common.{refl}
 use Rattle.desk.specs.Pages.{noted}
 use Rattle.desk.proofs.PageLemmas.{both_cut, both_fronted}

@@ -1,4 +1,4 @@
--- Why `tell_words` keeps its promise.
+-- Proof that `tell_words` meets its contract.
 use Rattle.std.proofs.Common.{refl}
 use Rattle.desk.specs.Pages.{words_page}
 use Rattle.desk.specs.declared.words.WordsFault.TheVariants.{Digest, Origin, Verdict}

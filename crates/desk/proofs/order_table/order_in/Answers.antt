@@ -1,4 +1,4 @@
--- Why `order_in` keeps its promise: the name and the rows that are given are those of the matches' subcommand.
+-- Proof that `order_in` meets its contract: the name and the rows are those of the matches' subcommand.
 use Rattle.desk.proofs.OrdersNamed.{rows_given}
 use Rattle.clap.specs.Words.{found_of, rows_of}
 use Rattle.desk.proofs.order_table.order_in.Goals as goal

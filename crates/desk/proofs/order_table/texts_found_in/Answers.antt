@@ -1,4 +1,4 @@
--- Why `texts_found_in` keeps its promise: what `clap` gives is what the rows of its matches have.
+-- Proof that `texts_found_in` meets its contract: what `clap` returns is what the rows of its matches contain.
 use Rattle.std.proofs.Common.{◌∙◌}
 use Rattle.clap.proofs.WalkLemmas.{raw_values-rows}
 use Rattle.clap.specs.Words.{found_of}

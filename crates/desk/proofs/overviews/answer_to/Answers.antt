@@ -1,4 +1,4 @@
--- Why `answer_to` keeps its promise.
+-- Proof that `answer_to` meets its contract.
 use Rattle.sqlite.specs.Held.{state}
 use Rattle.register.specs.Offices.{receipt_entry}
 use Rattle.store.specs.Overviews.{batch_view, ward_view}

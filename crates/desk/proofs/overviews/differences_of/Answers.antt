@@ -1,4 +1,4 @@
--- Why `differences_of` keeps its promise where memory was wanting for the line, and where there is none.
+-- Proof that `differences_of` meets its contract if an allocation for the line failed, and if there is none.
 use Rattle.std.proofs.Common.{inl, inr, refl}
 use Rattle.sqlite.specs.Held.{state}
 use Rattle.tables.specs.declared.fault.Fault.TheVariants.{Memory}

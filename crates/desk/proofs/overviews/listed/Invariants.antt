@@ -1,4 +1,4 @@
--- What the loop of `listed` keeps.
+-- The invariant of the loop in `listed`.
 use Rattle.std.proofs.Common.{◌≡◌, ◌++◌, drop, string_bytes}
 use Rattle.std.specs.List.{flat_map}
 use Rattle.register.specs.Texts.{behind, listed}

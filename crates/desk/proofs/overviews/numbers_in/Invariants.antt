@@ -1,4 +1,4 @@
--- What the loop of `numbers_in` keeps: the numbers so far.
+-- The invariant of the loop in `numbers_in`: the numbers so far.
 use Rattle.std.proofs.Common.{◌≡◌, take}
 use Rattle.desk.proofs.overviews.numbers_in.Given as goal
 

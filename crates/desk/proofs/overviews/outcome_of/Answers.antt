@@ -1,4 +1,4 @@
--- Why `outcome_of` keeps its promise.
+-- Proof that `outcome_of` meets its contract.
 use Rattle.std.proofs.Common.{ap, inl}
 use Rattle.desk.specs.Pages.{printed}
 use Rattle.desk.proofs.overviews.outcome_of.Goals as goal

@@ -1,4 +1,4 @@
--- Why `papers_of` keeps its promise where memory was wanting for the lines, and where there are none.
+-- Proof that `papers_of` meets its contract if an allocation for the lines failed, and if there are none.
 use Rattle.std.proofs.Common.{inl, inr, refl}
 use Rattle.sqlite.specs.Held.{state}
 use Rattle.tables.specs.declared.fault.Fault.TheVariants.{Memory}

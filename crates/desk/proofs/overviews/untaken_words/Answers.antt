@@ -1,4 +1,4 @@
--- Why `untaken_words` keeps its promise.
+-- Proof that `untaken_words` meets its contract.
 use Rattle.desk.specs.Overviews.{untaken_words}
 use Rattle.desk.proofs.overviews.untaken_words.Goals as goal
 

@@ -1,6 +1,6 @@
--- Why `lines_of_doubtful` keeps its promise.
+-- Proof that `lines_of_doubtful` meets its contract.
 use Rattle.store.specs.Overviews.{doubtful_view}
-use Rattle.desk.specs.Names.{names_told}
+use Rattle.desk.specs.CandidateNames.{names_told}
 use Rattle.desk.specs.Overviews.{doubtful_line}
 use Rattle.desk.proofs.PaperLemmas.{line_more}
 use Rattle.desk.proofs.papers.lines_of_doubtful.Goals as goal

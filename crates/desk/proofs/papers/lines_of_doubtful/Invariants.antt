@@ -1,7 +1,7 @@
--- What the loop of `lines_of_doubtful` keeps: the lines so far, and those that are left, are all.
+-- The invariant of the loop in `lines_of_doubtful`: the lines so far, and those that are left, are all.
 use Rattle.std.proofs.Common.{◌≡◌, ◌++◌, drop, map, string_bytes}
 use Rattle.store.specs.Overviews.{doubtful_view}
-use Rattle.desk.specs.Names.{names_told}
+use Rattle.desk.specs.CandidateNames.{names_told}
 use Rattle.desk.specs.Overviews.{lines_of, doubtful_line}
 use Rattle.desk.proofs.papers.lines_of_doubtful.Given as goal
 

@@ -1,7 +1,7 @@
--- What the loop of `lines_of_papers` keeps: the lines so far, and those that are left, are all.
+-- The invariant of the loop in `lines_of_papers`: the lines so far, and those that are left, are all.
 use Rattle.std.proofs.Common.{◌≡◌, ◌++◌, drop, map, string_bytes}
 use Rattle.store.specs.Overviews.{paper_view}
-use Rattle.desk.specs.Names.{names_told}
+use Rattle.desk.specs.CandidateNames.{names_told}
 use Rattle.desk.specs.Overviews.{lines_of, paper_line}
 use Rattle.desk.proofs.papers.lines_of_papers.Given as goal
 

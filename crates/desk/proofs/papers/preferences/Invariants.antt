@@ -1,6 +1,6 @@
--- What the loop of `preferences` keeps: the text so far, and what is told of those that are left, are all.
+-- The invariant of the loop in `preferences`: the text so far, and that of the preferences that are left, are all.
 use Rattle.std.proofs.Common.{◌≡◌, ◌+◌, ◌++◌, drop, string_bytes}
-use Rattle.desk.specs.Names.{names_told}
+use Rattle.desk.specs.CandidateNames.{names_told}
 use Rattle.desk.specs.Overviews.{preferences_from}
 use Rattle.desk.proofs.papers.preferences.Given as goal
 

@@ -1,8 +1,8 @@
--- Why `in_office` keeps its promise.
+-- Proof that `in_office` meets its contract.
 use Rattle.std.proofs.Common.{[], inl, inr, refl, subst, sym}
 use Rattle.sqlite.specs.State.{HasCleanDisk}
 use Rattle.sqlite.specs.Held.{state}
-use Rattle.store.proofs.KeepLemmas.{reads_wear}
+use Rattle.store.proofs.KeepLemmas.{reads_connection}
 use Rattle.tables.specs.Reading.{FailsBy}
 use Rattle.desk.specs.Headline.{Headline, IsFailed}
 use Rattle.desk.specs.Pages.{failed}
@@ -29,7 +29,7 @@ returns-in-Ok g c =
           let first = state g.S.Store c.args.conn in
           let mid = state g.S.Store c.in-Ok.office.held in
           let next = state g.S.Store c.follow-status.new.office.held in
-          let tells = since first mid next opened (reads_wear first mid c.in-Ok.ensures.reads) c.follow-status.ensures.wears in
+          let tells = since first mid next opened (reads_connection first mid c.in-Ok.ensures.reads) c.follow-status.ensures.keeps_connection in
           let closed = c.follow-status.new.office.closed in
           subst (λ conn. Headline folder (InOffice job) told.cut told.page status first (state g.S.Store conn)) (sym c.into_connection.ensures) (record {
             in_office = λ db rests s left.

@@ -1,11 +1,11 @@
--- Why `make_office` keeps its promise.
+-- Proof that `make_office` meets its contract.
 use Rattle.std.proofs.Common.{◌≡◌, inl, inr, refl, ap, subst, sym}
 use Rattle.sqlite.specs.State.{HasCleanDisk}
 use Rattle.sqlite.specs.Held.{state}
 use Rattle.register.specs.Offices.{empty_office}
 use Rattle.tables.specs.Reading.{OnlyReads}
 use Rattle.tables.proofs.ReadLemmas.{only_reads_itself}
-use Rattle.store.specs.Offices.{IsAt, LeavesState}
+use Rattle.store.specs.StateTables.{IsAt, LeavesState}
 use Rattle.desk.specs.Pages.{failed, page_of}
 use Rattle.desk.specs.declared.lines.Failure.TheVariants.{Office}
 use Rattle.desk.specs.declared.lines.LineOutcome.TheVariants.{Ready}

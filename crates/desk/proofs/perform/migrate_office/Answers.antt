@@ -1,4 +1,4 @@
--- Why `migrate_office` keeps its promise.
+-- Proof that `migrate_office` meets its contract.
 use Rattle.std.proofs.Common.{◌≡◌, ◌⊎◌, inl, inr, refl, ap, subst}
 use Rattle.sqlite.specs.Tree.{Trees}
 use Rattle.sqlite.specs.State.{State}
@@ -13,7 +13,7 @@ use Rattle.tables.specs.Reading.{FailsToList}
 use Rattle.tables.specs.Contents.{Stores}
 use Rattle.store.specs.declared.older.OlderForm.{OlderForm}
 use Rattle.store.specs.Migrations.{FailsToMigrate, HoldsNoOlder, LeavesOldOrNew, WasAt, LeavesOlderOr}
-use Rattle.store.specs.Offices.{IsAt, tables_of}
+use Rattle.store.specs.StateTables.{IsAt, tables_of}
 use Rattle.store.specs.Openings.{HoldsNoState}
 use Rattle.store.proofs.ReopenLemmas.{left_holds, left_ours}
 use Rattle.office.specs.Answers.{IsMemoryOrStore}
@@ -24,30 +24,30 @@ use Rattle.desk.specs.declared.orders.Task.TheVariants.{Migrate}
 use Rattle.desk.proofs.KeptLemmas.{left_older, migration_told, performed, read_leaves, untouched}
 use Rattle.desk.proofs.perform.migrate_office.Goals as goal
 
--- a database of no state of either kind was at none
+-- a database with no state of either kind was at none
 at_none : (db : Database) (m : Migrated) (s : OfficeState) → HoldsNoState db → HoldsNoOlder db → WasAt db m s → ⊥
 at_none db Already s none older was = none s was
 at_none db Done s none older was = older was.0 s was.1
 
--- where no older office was, a stop leaves what it left before
+-- if there was no older office, a stop leaves what it could before
 none_moved : (db : Database) (old new : State) → HoldsNoOlder db → LeavesOlderOr db old new → (trees : Trees) → new.may_leave trees → old.may_leave trees
 none_moved db old new none leaves trees may = elim (leaves trees may) [
   | inl was ↦ was
   | inr made ↦ absurd (none made.1 made.0 made.2)
 ]
 
--- where no older office was, a migration fails as a listing does
+-- if there was no older office, a migration fails as a listing does
 only_listed : (db : Database) (old new : State) (fault : Fault) → HoldsNoOlder db → FailsToMigrate db old new fault → FailsToList db old new fault
 only_listed db old new fault none (inl listed) = listed
 only_listed db old new fault none (inr held) = absurd (none held.0 held.1 held.2)
 
--- a fault that leaves something is want of memory or a failing store
+-- a fault that may leave the database changed is Memory or Store
 plain_or : {P : Type 0} (fault : Fault) → (fault ≡ Memory) ⊎ ((fault ≡ Store) ⊎ P) → IsMemoryOrStore fault ⊎ P
 plain_or fault (inl memory) = inl (inl memory)
 plain_or fault (inr (inl store)) = inl (inr store)
 plain_or fault (inr (inr same)) = inr same
 
--- where the new tables are kept, a stop leaves them
+-- if the new tables are stored, a stop leaves them
 new_left : (form : OlderForm) (s : OfficeState) (old new : State) → IsAt s new → LeavesOldOrNew form s old new
 new_left form s old new at trees may = let it = at.leaves trees may in inr (subst (λ x. Stores (tables_of x) trees) it.1 it.2.stores)
 

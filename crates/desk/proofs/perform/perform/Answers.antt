@@ -1,4 +1,4 @@
--- Why `perform` keeps its promise.
+-- Proof that `perform` meets its contract.
 use Rattle.desk.proofs.perform.perform.Goals as goal
 
 pub returns-in-Init : goal.returns-in-Init

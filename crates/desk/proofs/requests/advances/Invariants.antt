@@ -1,4 +1,4 @@
--- What the loop of `advances` keeps: the requests so far are the first ones.
+-- The invariant of the loop in `advances`: the requests so far are the first ones.
 use Rattle.std.proofs.Common.{◌≡◌, map}
 use Rattle.desk.specs.Orders.{sent_as}
 use Rattle.desk.specs.Requests.{advances}

@@ -1,11 +1,11 @@
--- Why `files_named_in` keeps its promise.
+-- Proof that `files_named_in` meets its contract.
 use Rattle.std.proofs.Common.{ap, inr, map, string_bytes}
 use Rattle.desk.specs.Lexing.{line_entry, typed_line_entry}
 use Rattle.desk.specs.Scripts.{lines_of, numbered_from}
 use Rattle.desk.proofs.JournalLemmas.{files_found, flaw_of_text, turns_of_text}
 use Rattle.desk.proofs.script_files.files_named_in.Goals as goal
 
--- the lines of the text are those that were said, their turns are these, and they read the files
+-- the lines are those of the text, their steps are these, and they read the files
 pub returns-in-Ok : goal.returns-in-Ok
 returns-in-Ok c =
     let text = c.args.script.now in
@@ -16,7 +16,7 @@ returns-in-Ok c =
     (turns_of_text text read said turns c.in_ok-lines.ensures (rw c.deref.ensures.value at c.in_ok-said.ensures) (rw c.deref-2.ensures.value at c.in-Ok.ensures.ok))
     c.files_of.result (rw c.deref-in-Ok.ensures.value at c.files_of.ensures)
 
--- a line has a flaw, and it names none
+-- a line has a flaw, and the text names no file
 pub returns : goal.returns
 returns c =
     let text = c.args.script.now in

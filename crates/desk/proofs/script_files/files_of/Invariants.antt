@@ -1,4 +1,4 @@
--- What the loop of `files_of` keeps: the paths so far, and those of the turns that are left, are all.
+-- The invariant of the loop in `files_of`: the paths so far, and those of the steps that are left, are all.
 use Rattle.std.proofs.Common.{◌≡◌, ◌++◌, drop, map, string_bytes}
 use Rattle.desk.specs.ScriptFiles.{files_of}
 use Rattle.desk.proofs.script_files.files_of.Given as goal

@@ -1,4 +1,4 @@
--- Why `errand_in` keeps its promise: words that ask for help are told with status 0.
+-- Proof that `errand_in` meets its contract: words that ask for help are answered with status 0.
 use Rattle.std.proofs.Common.{◌≡◌, inl, arith}
 use Rattle.desk.proofs.ScriptLemmas.{told_help}
 use Rattle.desk.proofs.scripts.errand_in.Goals as goal

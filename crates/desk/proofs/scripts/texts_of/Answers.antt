@@ -1,4 +1,4 @@
--- Why `texts_of` keeps its promise.
+-- Proof that `texts_of` meets its contract.
 use Rattle.std.proofs.Common.{◌∙◌, refl, subst}
 use Rattle.std.specs.Prelude.{codes, IsUtf8}
 use Rattle.desk.proofs.ScriptLemmas.{not_text, text_more, words_more}

@@ -1,4 +1,4 @@
--- What holds each time round the loop of `texts_of`: the words so far are text.
+-- The invariant of the loop in `texts_of`: the words so far are UTF-8.
 use Rattle.std.proofs.Common.{◌≡◌, ◌∷◌, true, map, take}
 use Rattle.std.specs.Prelude.{codes}
 use Rattle.std.specs.List.{list_all}

@@ -1,4 +1,4 @@
--- Why `turns_in` keeps its promise.
+-- Proof that `turns_in` meets its contract.
 use Rattle.std.proofs.Common.{◌∙◌, sym}
 use Rattle.desk.specs.Lexing.{typed_line_entry}
 use Rattle.desk.proofs.ScriptLemmas.{fault_behind, pushed, turns_so}

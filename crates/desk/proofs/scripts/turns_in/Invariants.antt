@@ -1,4 +1,4 @@
--- What holds each time round the loop of `turns_in`: the lines so far are the turns.
+-- The invariant of the loop in `turns_in`: the lines so far are the steps.
 use Rattle.std.proofs.Common.{map, take}
 use Rattle.desk.specs.Lexing.{typed_line_entry}
 use Rattle.desk.specs.Scripts.{AreTurns}

@@ -1,4 +1,4 @@
--- Why `kept_before` keeps its promise.
+-- Proof that `kept_before` meets its contract.
 use Rattle.std.proofs.Common.{◌∙◌, ap, inl, inr, refl, Ok}
 use Rattle.tables.specs.declared.fault.Fault.TheVariants.{Memory}
 use Rattle.desk.proofs.NoteLemmas.{note_told}

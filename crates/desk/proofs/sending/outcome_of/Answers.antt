@@ -1,7 +1,7 @@
--- Why `outcome_of` keeps its promise.
+-- Proof that `outcome_of` meets its contract.
 use Rattle.std.proofs.Common.{◌≡◌, ◌∙◌, ap, inl, inr, refl, subst, sym, string_bytes}
 use Rattle.sqlite.specs.Held.{state}
-use Rattle.store.proofs.KeepLemmas.{reads_wear, wears_then}
+use Rattle.store.proofs.KeepLemmas.{reads_connection, connection_then}
 use Rattle.register.specs.Machine.{step_of}
 use Rattle.desk.specs.Pages.{page_for}
 use Rattle.desk.proofs.CauseLemmas.{since}
@@ -21,14 +21,14 @@ returns-in-Ok-Kept-clause-told g c = λ clean is_open s at.
     let next = state g.S.Store c.kept_before.new.office.held in
     let honest = c.kept_before.ensures.same.clean clean in
     let handled = rw c.in-Ok-Kept.field-0-is at (rw c.as_str.ensures.value at (c.in-Ok-Kept.ensures.handled honest is_open s at)) in
-    let tells = since first mid next honest c.in-Ok-Kept.ensures.wears (reads_wear mid next c.kept_before.ensures.same) in
+    let tells = since first mid next honest c.in-Ok-Kept.ensures.keeps_connection (reads_connection mid next c.kept_before.ensures.same) in
     answered_before first mid next c.handle.new.self.closed c.kept_before.new.office.closed s r (string_bytes c.in-Ok-Kept.reply) _ tells handled.0 handled.1 (c.kept_before.ensures.found clean)
 
-pub returns-in-Ok-Kept-clause-wears : goal.returns-in-Ok-Kept-clause-wears
-returns-in-Ok-Kept-clause-wears g c =
+pub returns-in-Ok-Kept-clause-keeps_connection : goal.returns-in-Ok-Kept-clause-keeps_connection
+returns-in-Ok-Kept-clause-keeps_connection g c =
     let mid = state g.S.Store c.handle.new.self.held in
     let next = state g.S.Store c.kept_before.new.office.held in
-    wears_then (state g.S.Store c.args.office.now.held) mid next c.kept_before.ensures.same.clean c.in-Ok-Kept.ensures.wears (reads_wear mid next c.kept_before.ensures.same)
+    connection_then (state g.S.Store c.args.office.now.held) mid next c.kept_before.ensures.same.clean c.in-Ok-Kept.ensures.keeps_connection (reads_connection mid next c.kept_before.ensures.same)
 
 pub returns-in-Ok-Kept-clause-clean : goal.returns-in-Ok-Kept-clause-clean
 returns-in-Ok-Kept-clause-clean g c = λ clean. c.in-Ok-Kept.ensures.clean (c.kept_before.ensures.same.clean clean)

@@ -1,7 +1,7 @@
--- Why `send_all` keeps its promise.
+-- Proof that `send_all` meets its contract.
 use Rattle.std.proofs.Common.{◌≡◌, ◌∙◌, ◌<◌, ◌+◌, ◌∷◌, [], true, false, drop, take, length, ap, refl, sym, arith}
 use Rattle.sqlite.specs.Held.{state}
-use Rattle.store.proofs.KeepLemmas.{wears_itself, wears_then}
+use Rattle.store.proofs.KeepLemmas.{connection_itself, connection_then}
 use Rattle.desk.specs.Headline.{ended, told_above}
 use Rattle.desk.specs.Pages.{below, cut_below, uncut, empty_page, fronted, goes_on, page_of, page_for}
 use Rattle.desk.proofs.CauseLemmas.{since}
@@ -12,7 +12,7 @@ use Rattle.desk.proofs.sending.send_all.Goals as goal
 
 pub loop-request-init : goal.loop-request-init
 loop-request-init g c = record {
-  wears = wears_itself (state g.S.Store c.args.office.now.held);
+  keeps_connection = connection_itself (state g.S.Store c.args.office.now.held);
   clean = λ clean. clean;
   so_far = record { said = _; shown = nothing_told _; is = λ clean is_open s at. none_sent _ _ _ s _ _ _ (record { is_open = is_open; at = at }) };
 }
@@ -33,7 +33,7 @@ loop-request-preserved g c =
     let mid = state g.S.Store c.loop-request.office.held in
     let next = state g.S.Store c.outcome_of.new.office.held in
     record {
-      wears = wears_then first mid next c.outcome_of.ensures.clean c.loop-request.invariant.wears c.outcome_of.ensures.wears;
+      keeps_connection = connection_then first mid next c.outcome_of.ensures.clean c.loop-request.invariant.keeps_connection c.outcome_of.ensures.keeps_connection;
       clean = λ clean. c.loop-request.invariant.clean (c.outcome_of.ensures.clean clean);
       so_far = record {
         said = below so_far.said (fronted line page);
@@ -71,7 +71,7 @@ returns-then-not-goes_on-clause-sent g c =
       is = λ clean is_open s at.
           let honest = c.outcome_of.ensures.clean clean in
           let so = so_far.is honest is_open s at in
-          let tells = since first mid next honest c.loop-request.invariant.wears c.outcome_of.ensures.wears in
+          let tells = since first mid next honest c.loop-request.invariant.keeps_connection c.outcome_of.ensures.keeps_connection in
           let it = c.outcome_of.ensures.told clean so.open_at.is_open so.end so.open_at.at in
           let here = answered_since first mid closed next page_for so.end r it.0 page tells it.1 in
           let course = told_above (take i rs) so_far.said (ended line (r ∷ drop (i + 1) rs) it.0 page told.0) in (
@@ -82,10 +82,10 @@ returns-then-not-goes_on-clause-sent g c =
           );
     }
 
-pub returns-then-not-goes_on-clause-wears : goal.returns-then-not-goes_on-clause-wears
-returns-then-not-goes_on-clause-wears g c = wears_then (state g.S.Store c.args.office.now.held) (state g.S.Store c.loop-request.office.held)
-    (state g.S.Store c.outcome_of.new.office.held) c.outcome_of.ensures.clean c.loop-request.invariant.wears
-    c.outcome_of.ensures.wears
+pub returns-then-not-goes_on-clause-keeps_connection : goal.returns-then-not-goes_on-clause-keeps_connection
+returns-then-not-goes_on-clause-keeps_connection g c = connection_then (state g.S.Store c.args.office.now.held) (state g.S.Store c.loop-request.office.held)
+    (state g.S.Store c.outcome_of.new.office.held) c.outcome_of.ensures.clean c.loop-request.invariant.keeps_connection
+    c.outcome_of.ensures.keeps_connection
 
 pub returns-clause-sent : goal.returns-clause-sent
 returns-clause-sent g c =

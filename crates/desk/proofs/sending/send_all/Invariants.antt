@@ -1,7 +1,7 @@
--- What holds each time round the loop of `send_all`: the requests so far were gone past, which was told.
+-- The invariant of the loop in `send_all`: the requests so far were answered, and their pages printed.
 use Rattle.sqlite.specs.State.{HasCleanDisk}
 use Rattle.sqlite.specs.Held.{state}
-use Rattle.store.specs.Offices.{Wears}
+use Rattle.store.specs.StateTables.{KeepsConnection}
 use Rattle.office.specs.Answers.{WhenOpenAt}
 use Rattle.desk.specs.Pages.{outputs_of, page_for}
 use Rattle.desk.proofs.CourseLemmas.{SentSo}
@@ -10,7 +10,7 @@ use Rattle.desk.proofs.sending.send_all.Given as goal
 
 abbrev pub invariant-loop-request : goal.invariant-loop-request
 invariant-loop-request g l = record {
-  wears : Wears (state g.S.Store l.initial.office.held) (state g.S.Store l.office.held);
+  keeps_connection : KeepsConnection (state g.S.Store l.initial.office.held) (state g.S.Store l.office.held);
   clean : HasCleanDisk (state g.S.Store l.office.held) → HasCleanDisk (state g.S.Store l.initial.office.held);
   so_far : ToldSo (outputs_of g.O.Sink.taken g.O.Sink.failed g.E.Sink.taken g.E.Sink.failed l.initial.out l.initial.err)
       (outputs_of g.O.Sink.taken g.O.Sink.failed g.E.Sink.taken g.E.Sink.failed l.out l.err) l.ends

@@ -1,4 +1,4 @@
--- Why `standing_of` keeps its promise where memory was wanting for the words.
+-- Proof that `standing_of` meets its contract if an allocation for the words failed.
 use Rattle.std.proofs.Common.{inl, inr, refl}
 use Rattle.tables.specs.declared.fault.Fault.TheVariants.{Memory}
 use Rattle.desk.proofs.ward_status.standing_of.Goals as goal

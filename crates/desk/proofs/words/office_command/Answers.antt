@@ -1,4 +1,4 @@
--- Why `office_command` keeps its promise: the orders of both tables are all.
+-- Proof that `office_command` meets its contract: the orders of both tables are all.
 use Rattle.std.proofs.Common.{◌∙◌, ap, map}
 use Rattle.clap.specs.Words.{App, app_of}
 use Rattle.desk.specs.Orders.{words_of}

@@ -19,7 +19,7 @@ returns-in-Err-try_get_matches_from-clause-denies c =
     refusal_told (kind_of parse.error) c.kind.result _ c.denied.result c.kind.ensures c.denied.ensures.told
     (refused_is_wrong c.in-Ok.command (map (λ s. s.now) c.args.words.now) parse.error c.in-Ok.ensures.app parse.ensures.kinds)
 
--- what `clap` refuses is told by its own text
+-- what `clap` rejects is reported by its own text
 pub returns-in-Err-try_get_matches_from-clause-none : goal.returns-in-Err-try_get_matches_from-clause-none
 returns-in-Err-try_get_matches_from-clause-none c = refusal_means_no_none c.kind.result _ c.denied.result c.denied.ensures.told
 

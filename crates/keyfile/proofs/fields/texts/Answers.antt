@@ -1,4 +1,4 @@
--- Why `texts` keeps its promise.
+-- Proof that `texts` meets its contract.
 use Rattle.std.proofs.Common.{◌<◌, ◌∙◌, length, inr, subst, refl, arith}
 use Rattle.std.specs.Prelude.{IsUtf8}
 use Rattle.csv.specs.Records.{fields_of}

@@ -1,4 +1,4 @@
--- What holds each time round the loop of `texts`.
+-- The invariant of the loop in `texts`.
 use Rattle.std.proofs.Common.{◌≡◌, true, map, take}
 use Rattle.std.specs.List.{list_all}
 use Rattle.std.specs.Str.{is_utf8}

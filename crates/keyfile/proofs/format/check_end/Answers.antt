@@ -1,4 +1,4 @@
--- Why `check_end` keeps its promise.
+-- Proof that `check_end` meets its contract.
 use Rattle.std.proofs.Common.{refl}
 use Rattle.csv.specs.Records.{fields_of}
 use Rattle.keyfile.specs.Files.{fault_at}

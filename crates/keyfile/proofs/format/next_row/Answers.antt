@@ -1,4 +1,4 @@
--- Why `next_row` keeps its promise.
+-- Proof that `next_row` meets its contract.
 use Rattle.std.proofs.Common.{inl, inr, ap}
 use Rattle.csv.specs.Records.{fields_of}
 use Rattle.keyfile.specs.Faults.{is_stop}

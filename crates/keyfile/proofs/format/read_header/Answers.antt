@@ -1,4 +1,4 @@
--- Why `read_header` keeps its promise.
+-- Proof that `read_header` meets its contract.
 use Rattle.std.proofs.Common.{[], inl, inr, ap}
 use Rattle.std.proofs.lemmas.Result.{IfErr-weaker}
 use Rattle.csv.specs.Records.{fields_of}

@@ -1,4 +1,4 @@
--- Why `read_rows` keeps its promise.
+-- Proof that `read_rows` meets its contract.
 use Rattle.std.proofs.Common.{◌≡◌, ◌+◌, ℕ, map, refl, subst, arith}
 use Rattle.csv.specs.Reading.{reader_source}
 use Rattle.keyfile.specs.Files.{fault_at}

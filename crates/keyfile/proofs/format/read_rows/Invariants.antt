@@ -1,4 +1,4 @@
--- What holds each time round the loop of `read_rows`.
+-- The invariant of the loop in `read_rows`.
 use Rattle.std.proofs.Common.{map}
 use Rattle.csv.specs.Reading.{reader_source}
 use Rattle.keyfile.specs.Inside.{StandsAt}

@@ -1,4 +1,4 @@
--- Why `named_in` keeps its promise.
+-- Proof that `named_in` meets its contract.
 use Rattle.std.proofs.Common.{◌≡◌, ◌∙◌, refl}
 use Rattle.keyfile.specs.Headers.{numbers_in}
 use Rattle.keyfile.proofs.HeaderLemmas.{names_numbers}

@@ -1,4 +1,4 @@
--- Why `parted` keeps its promise.
+-- Proof that `parted` meets its contract.
 use Rattle.std.proofs.Common.{◌+◌, Some, None, length, sym, arith}
 use Rattle.std.proofs.lemmas.List.{drop_all, take_all}
 use Rattle.std.proofs.lemmas.Str.Pattern.{split_once_first}

@@ -1,4 +1,4 @@
--- Why `are_columns` keeps its promise.
+-- Proof that `are_columns` meets its contract.
 use Rattle.std.proofs.Common.{◌∙◌}
 use Rattle.keyfile.proofs.MapLemmas.{are_columns-short, are_columns-end}
 use Rattle.keyfile.proofs.keying.are_columns.Goals as goal

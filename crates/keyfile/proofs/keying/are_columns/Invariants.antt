@@ -1,4 +1,4 @@
--- What holds each time round the loop of `are_columns`.
+-- The invariant of the loop in `are_columns`.
 use Rattle.std.proofs.Common.{◌≡◌, map, drop}
 use Rattle.keyfile.specs.Keying.{are_columns}
 use Rattle.keyfile.proofs.keying.are_columns.Given as goal

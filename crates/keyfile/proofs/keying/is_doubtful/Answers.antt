@@ -1,4 +1,4 @@
--- Why `is_doubtful` keeps its promise.
+-- Proof that `is_doubtful` meets its contract.
 use Rattle.std.proofs.Common.{◌∙◌}
 use Rattle.keyfile.proofs.MarkLemmas.{doubtful_by_others}
 use Rattle.keyfile.proofs.keying.is_doubtful.Goals as goal

@@ -1,4 +1,4 @@
--- Why `joined` keeps its promise.
+-- Proof that `joined` meets its contract.
 use Rattle.std.proofs.Common.{string_bytes}
 use Rattle.keyfile.proofs.MarkLemmas.{joined_more}
 use Rattle.keyfile.proofs.keying.joined.Goals as goal

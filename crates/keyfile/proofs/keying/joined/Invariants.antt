@@ -1,4 +1,4 @@
--- What holds each time round the loop of `joined`.
+-- The invariant of the loop in `joined`.
 use Rattle.std.proofs.Common.{◌≡◌, map, take, string_bytes}
 use Rattle.std.specs.List.{join_with_byte}
 use Rattle.keyfile.proofs.keying.joined.Given as goal

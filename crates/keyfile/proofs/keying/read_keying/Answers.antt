@@ -1,4 +1,4 @@
--- Why `read_keying` keeps its promise.
+-- Proof that `read_keying` meets its contract.
 use Rattle.keyfile.proofs.KeyedLemmas.{read_as_keyed}
 use Rattle.keyfile.proofs.keying.read_keying.Goals as goal
 

@@ -1,4 +1,4 @@
--- Why `next_record` keeps its promise.
+-- Proof that `next_record` meets its contract.
 use Rattle.std.proofs.Common.{rules, refl, sym, subst}
 use Rattle.csv.specs.Records.{fields_of}
 use Rattle.keyfile.specs.Inside.{EndsBefore}

@@ -1,4 +1,4 @@
--- Why `open` keeps its promise.
+-- Proof that `open` meets its contract.
 use Rattle.std.proofs.Common.{inr, ◌∙◌}
 use Rattle.keyfile.proofs.ReadLemmas.{opened}
 use Rattle.keyfile.proofs.records.open.Goals as goal

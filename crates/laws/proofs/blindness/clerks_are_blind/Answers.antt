@@ -1,4 +1,4 @@
--- Why `clerks_are_blind` keeps its promise.
+-- Proof that `clerks_are_blind` meets its contract.
 use Rattle.laws.proofs.ObservationLemmas.{alike_offices_answer_alike, clerks_blind, decided_by_observed, own_observed, seen_alike, seen_is_observed}
 use Rattle.laws.proofs.blindness.clerks_are_blind.Goals as goal
 

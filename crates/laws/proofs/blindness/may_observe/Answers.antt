@@ -1,4 +1,4 @@
--- Why `may_observe` keeps its promise.
+-- Proof that `may_observe` meets its contract.
 use Rattle.std.proofs.Common.{◌∙◌, sym}
 use Rattle.std.proofs.lemmas.Bool.{and_left, and_right}
 use Rattle.register.specs.Ranges.{is_office}

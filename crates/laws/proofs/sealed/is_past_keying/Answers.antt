@@ -1,4 +1,4 @@
--- Why `is_past_keying` keeps its promise.
+-- Proof that `is_past_keying` meets its contract.
 use Rattle.std.proofs.Common.{◌∙◌, refl}
 use Rattle.register.specs.declared.phase.Phase.TheVariants.{Sealed, Declared}
 use Rattle.laws.proofs.SealedLemmas.{phase_stays}

@@ -1,4 +1,4 @@
--- Why `sealed_wards_stay` keeps its promise.
+-- Proof that `sealed_wards_stay` meets its contract.
 use Rattle.laws.proofs.SealedLemmas.{papers_stay, wards_stay}
 use Rattle.laws.proofs.sealed.sealed_wards_stay.Goals as goal
 

@@ -1,4 +1,4 @@
--- Why `has_rows` keeps its promise.
+-- Proof that `has_rows` meets its contract.
 use Rattle.std.proofs.Common.{sym, ◌∙◌, true≢false}
 use Rattle.office.proofs.playing.has_rows.Goals as goal
 

@@ -1,4 +1,4 @@
--- What the loop of `candidate_lines` keeps.
+-- The invariant of the loop in `candidate_lines`.
 use Rattle.std.proofs.Common.{◌≡◌, true, ◌++◌, map, drop, string_bytes}
 use Rattle.std.specs.List.{list_all}
 use Rattle.register.specs.Offices.{candidate_entry}

@@ -1,4 +1,4 @@
--- Why `texts_are_there` keeps its promise.
+-- Proof that `texts_are_there` meets its contract.
 use Rattle.office.proofs.SheetLemmas.{state_is_textual}
 use Rattle.office.proofs.sheets.texts_are_there.Goals as goal
 

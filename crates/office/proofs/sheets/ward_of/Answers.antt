@@ -1,4 +1,4 @@
--- Why `ward_of` keeps its promise.
+-- Proof that `ward_of` meets its contract.
 use Rattle.std.proofs.Common.{rules, ◌≡◌}
 use Rattle.sheet.specs.declared.ward.Ward.{Ward}
 use Rattle.sheet.specs.Entries.{shown}

@@ -1,4 +1,4 @@
--- Of the proof of `inserted`: what is shown by hand.
+-- Parts of the proof of `inserted` that are done by hand.
 use Rattle.std.proofs.Common.{arith}
 use Rattle.paper.proofs.PaddedLists.{padded-inserted}
 use Rattle.paper.proofs.columns.inserted.Goals as goal

@@ -1,4 +1,4 @@
--- Of the proof of `read_field`: what is shown by hand.
+-- Parts of the proof of `read_field` that are done by hand.
 use Rattle.std.proofs.Common.{sym, ◌∙◌}
 use Rattle.paper.proofs.Fields.{mark_in-long}
 use Rattle.paper.proofs.marks.read_field.Goals as goal

@@ -1,4 +1,4 @@
--- Of the proof of `read_fields`: what is shown by hand.
+-- Parts of the proof of `read_fields` that are done by hand.
 use Rattle.std.proofs.Common.{◌≡◌, ◌<◌, length, take, Ok, sym, ap, ◌∙◌, arith, length-set}
 use Rattle.std.proofs.lemmas.List.{take_more_set}
 use Rattle.std.proofs.lemmas.Result.{err_from_is_err_and}

@@ -1,4 +1,4 @@
--- Of the proof of `read_fields`: what holds at each round of its loop.
+-- The invariant of the loop in `read_fields`.
 use Rattle.std.proofs.Common.{◌≡◌, ◌-◌, ◌<◌, length, take, drop, replicate}
 use Rattle.paper.specs.Columns.{max_candidates}
 use Rattle.paper.specs.MarksText.{fields, marks_in}

@@ -1,4 +1,4 @@
--- Of the proof of `padded_cmp`: what is shown by hand.
+-- Parts of the proof of `padded_cmp` that are done by hand.
 use Rattle.std.proofs.Common.{◌∙◌, sym}
 use Rattle.paper.proofs.ByteOrder.{beginnings-order}
 use Rattle.paper.proofs.padded.padded_cmp.Goals as goal

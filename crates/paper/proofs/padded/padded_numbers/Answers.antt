@@ -1,4 +1,4 @@
--- Of the proof of `padded_numbers`: what is shown by hand.
+-- Parts of the proof of `padded_numbers` that are done by hand.
 use Rattle.std.proofs.Common.{◌++◌, length, ap}
 use Rattle.std.proofs.lemmas.List.{drop-replicate}
 use Rattle.paper.specs.Columns.{max_candidates}

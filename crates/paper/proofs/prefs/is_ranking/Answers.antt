@@ -1,4 +1,4 @@
--- Of the proof of `is_ranking`: what is shown by hand.
+-- Parts of the proof of `is_ranking` that are done by hand.
 use Rattle.std.proofs.Common.{◌≡◌, [], sym, subst}
 use Rattle.std.proofs.lemmas.List.{nil_from_length}
 use Rattle.paper.specs.Ranking.{IsRanking}

@@ -1,4 +1,4 @@
--- Of the proof of `is_ranking`: what holds at each round of its loop, and what gets less.
+-- The invariant and the variant of the loop in `is_ranking`.
 use Rattle.std.proofs.Common.{◌↔◌, length}
 use Rattle.paper.specs.Ranking.{IsRanking}
 use Rattle.paper.proofs.prefs.is_ranking.Given as goal

@@ -1,4 +1,4 @@
--- Of the proof of `available_from`: what is shown by hand.
+-- Parts of the proof of `available_from` that are done by hand.
 use Rattle.std.proofs.Common.{ap, ◌∙◌, drop}
 use Rattle.std.proofs.lemmas.List.{take_rest, drop_min}
 use Rattle.paper.specs.Standing.{is_continuing}

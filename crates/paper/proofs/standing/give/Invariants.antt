@@ -1,4 +1,4 @@
--- Of the proof of `give`: what holds at each round of its loop.
+-- The invariant of the loop in `give`.
 use Rattle.std.proofs.Common.{◌+◌, ◌≡◌, ℕ, nat_eq, cond, length, take}
 use Rattle.std.specs.List.{list_any}
 use Rattle.paper.specs.Columns.{max_candidates}

@@ -1,4 +1,4 @@
--- Of the proof of `next_available`: what is shown by hand.
+-- Parts of the proof of `next_available` that are done by hand.
 use Rattle.std.proofs.Common.{ap, ◌∙◌, drop}
 use Rattle.std.specs.List.{slice_get}
 use Rattle.paper.specs.Standing.{is_continuing}

@@ -1,4 +1,4 @@
--- Of the proof of `judge`: what is shown by hand.
+-- Parts of the proof of `judge` that are done by hand.
 use Rattle.std.proofs.Common.{sym, ap, ◌∙◌, subst, arith}
 use Rattle.paper.specs.Padded.{listed, padded}
 use Rattle.paper.specs.Preferences.{IsPreferences, preferences}

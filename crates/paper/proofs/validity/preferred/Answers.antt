@@ -1,4 +1,4 @@
--- Of the proof of `preferred`: what is shown by hand.
+-- Parts of the proof of `preferred` that are done by hand.
 use Rattle.std.proofs.Common.{◌+◌, ◌≤◌, sym, ◌∙◌, inl, inr, arith, length-set}
 use Rattle.paper.specs.Columns.{max_candidates}
 use Rattle.paper.proofs.Fields.{zeros-less}

@@ -1,4 +1,4 @@
--- Of the proof of `preferred`: what holds at each round of its loop.
+-- The invariant of the loop in `preferred`.
 use Rattle.std.proofs.Common.{◌≡◌, ◌+◌, ◌-◌, ◌++◌, length, take, drop, replicate}
 use Rattle.paper.specs.Bearers.{AreBearers}
 use Rattle.paper.specs.Columns.{max_candidates}

@@ -1,4 +1,4 @@
--- Of the proof of `addition_of`: what is shown by hand.
+-- Parts of the proof of `addition_of` that are done by hand.
 use Rattle.std.proofs.Common.{◌≡◌, ℕ, List, map, refl, sym, subst, ◌∙◌}
 use Rattle.std.specs.Prelude.{IsSome}
 use Rattle.std.proofs.lemmas.Result.{IfOk-weaker}

@@ -1,4 +1,4 @@
--- Of the proof of `moved_bundles`: what holds at each round of its loop.
+-- The invariant of the loop in `moved_bundles`.
 use Rattle.std.proofs.Common.{◌≡◌, ◌++◌, map}
 use Rattle.register.specs.Tabulated.{placed_entry}
 use Rattle.register.specs.Walks.{moved_bundles}

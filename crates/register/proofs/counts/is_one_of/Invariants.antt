@@ -1,4 +1,4 @@
--- What the loop of `is_one_of` keeps.
+-- The invariant of the loop in `is_one_of`.
 use Rattle.std.proofs.Common.{◌≡◌, nat_eq, drop}
 use Rattle.std.specs.List.{list_any}
 use Rattle.register.proofs.counts.is_one_of.Given as goal

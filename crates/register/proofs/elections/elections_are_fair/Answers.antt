@@ -1,4 +1,4 @@
--- Why `elections_are_fair` keeps its promise.
+-- Proof that `elections_are_fair` meets its contract.
 use Rattle.register.proofs.ContestLemmas.{contest_is_fair, seats_and_papers_are_few}
 use Rattle.register.proofs.TotalLemmas.{polls_add_up}
 use Rattle.register.proofs.elections.elections_are_fair.Goals as goal

@@ -1,9 +1,9 @@
--- What the loop of `lot_pairs` keeps.
+-- The invariant of the loop in `lot_pairs`.
 use Rattle.std.proofs.Common.{◌≡◌, true, ◌++◌, map, drop}
 use Rattle.std.specs.List.{list_all}
 use Rattle.register.specs.Offices.{lot_entry}
 use Rattle.register.specs.Elections.{lot_pair}
-use Rattle.register.specs.Items.{is_lot}
+use Rattle.register.specs.StateConditions.{is_lot}
 use Rattle.register.proofs.elections.lot_pairs.Given as goal
 
 abbrev pub invariant-loop-lot : goal.invariant-loop-lot

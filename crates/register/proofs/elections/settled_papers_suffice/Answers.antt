@@ -1,7 +1,7 @@
--- Why `settled_papers_suffice` keeps its promise.
+-- Proof that `settled_papers_suffice` meets its contract.
 use Rattle.register.proofs.ElectionLemmas.{settled_in_count}
 use Rattle.register.proofs.PollLemmas.{settled_alone}
-use Rattle.register.specs.Papers.{batches_of}
+use Rattle.register.specs.Agreement.{batches_of}
 use Rattle.register.proofs.elections.settled_papers_suffice.Goals as goal
 
 pub returns : goal.returns

@@ -1,4 +1,4 @@
--- What the loop of `keyed_papers` keeps.
+-- The invariant of the loop in `keyed_papers`.
 use Rattle.std.proofs.Common.{◌≡◌, ◌+◌, ◌++◌, map, drop, string_bytes}
 use Rattle.register.specs.Offices.{keyed_entry}
 use Rattle.register.specs.Keyings.{papers_from}

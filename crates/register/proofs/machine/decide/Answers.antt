@@ -1,8 +1,8 @@
 use Rattle.std.proofs.Common.{◌≡◌, option_map, sym, ap, subst, ◌∙◌}
 use Rattle.std.proofs.lemmas.Result.{IfOk-weaker}
 use Rattle.register.specs.Offices.{OfficeState, receipt_entry}
-use Rattle.register.specs.Parts.{part_entries}
-use Rattle.register.specs.Items.{IsState}
+use Rattle.register.specs.CommandInputs.{input_entries}
+use Rattle.register.specs.StateConditions.{IsState}
 use Rattle.register.specs.Machine.{outcome_at, ruling_at, step}
 use Rattle.register.specs.Tabulated.{AddsWhatIsCounted}
 use Rattle.register.specs.Additions.{DecidesAddition, AddsNoMore}
@@ -18,7 +18,7 @@ returns-clause-decides c =
     let view = c.args.view.now in
     let command = c.args.command.now in
     IfOk-weaker c.decided.result (λ d. ruling_of d ≡ decided_on view command) (λ d. (s : OfficeState) → IsViewOf s command view → outcome_of s d ≡ step s view.actor view.id.now command)
-    (λ d same s shows. ap (outcome_at s) same ∙ step_on s view.actor view.id.now command (option_map receipt_entry view.receipt) (part_entries view.part) shows.receipt shows.part)
+    (λ d same s shows. ap (outcome_at s) same ∙ step_on s view.actor view.id.now command (option_map receipt_entry view.receipt) (input_entries view.part) shows.receipt shows.part)
     c.decided.ensures.ruling
 
 pub returns-clause-told_alike : goal.returns-clause-told_alike
@@ -26,7 +26,7 @@ returns-clause-told_alike c =
     let view = c.args.view.now in
     let command = c.args.command.now in
     IfOk-weaker c.decided.result (λ d. ruling_of d ≡ decided_on view command) (λ d. IsToldAlike command (ruling_of d))
-    (λ d same. subst (IsToldAlike command) (sym same) (told_alike view.actor view.id.now command (option_map receipt_entry view.receipt) (part_entries view.part)))
+    (λ d same. subst (IsToldAlike command) (sym same) (told_alike view.actor view.id.now command (option_map receipt_entry view.receipt) (input_entries view.part)))
     c.decided.ensures.ruling
 
 pub returns-clause-kept_again : goal.returns-clause-kept_again
@@ -64,7 +64,7 @@ returns-clause-blind c other_actor =
     let command = c.args.command.now in
     IfOk-weaker c.decided.result (λ d. ruling_of d ≡ decided_on view command)
     (λ d. (s : OfficeState) → IsViewOf s command view → ruling_of d ≡ ruling_at (seen_by view.actor s) view.actor view.id.now command)
-    (λ d same s shows. same ∙ ruling_on s view.actor view.id.now command (option_map receipt_entry view.receipt) (part_entries view.part) shows.receipt shows.part
+    (λ d same s shows. same ∙ ruling_on s view.actor view.id.now command (option_map receipt_entry view.receipt) (input_entries view.part) shows.receipt shows.part
     ∙ sym (ruling_on_seen s view.actor view.id.now command other_actor))
     c.decided.ensures.ruling
 

@@ -1,4 +1,4 @@
-use Rattle.register.proofs.WorkedRows.{ward_rows, nomination_rows, keyed_rows, third_rows, uncontested_rows, keeping_rows}
+use Rattle.register.proofs.WorkedRows.{ward_rows, nomination_rows, keyed_rows, third_rows, uncontested_rows, repeat_rows}
 use Rattle.register.proofs.machine.rows_are_worked.Goals as goal
 
 pub returns-clause-wards : goal.returns-clause-wards
@@ -16,5 +16,5 @@ returns-clause-third c = third_rows
 pub returns-clause-uncontested : goal.returns-clause-uncontested
 returns-clause-uncontested c = uncontested_rows
 
-pub returns-clause-keepings : goal.returns-clause-keepings
-returns-clause-keepings c = keeping_rows
+pub returns-clause-repeats : goal.returns-clause-repeats
+returns-clause-repeats c = repeat_rows

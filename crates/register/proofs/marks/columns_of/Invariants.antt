@@ -1,4 +1,4 @@
--- What the loop of `columns_of` keeps.
+-- The invariant of the loop in `columns_of`.
 use Rattle.std.proofs.Common.{◌≡◌, [], map, take, fold}
 use Rattle.register.specs.Offices.{candidate_entry}
 use Rattle.register.specs.Marks.{and_column}

@@ -1,4 +1,4 @@
--- What the loop of `first_bad_marks` keeps.
+-- The invariant of the loop in `first_bad_marks`.
 use Rattle.std.proofs.Common.{◌≡◌, ◌+◌, map, drop, string_bytes}
 use Rattle.register.specs.Marks.{first_bad_marks}
 use Rattle.register.proofs.marks.first_bad_marks.Given as goal

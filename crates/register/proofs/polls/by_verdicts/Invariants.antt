@@ -1,4 +1,4 @@
--- What the loop of `by_verdicts` keeps.
+-- The invariant of the loop in `by_verdicts`.
 use Rattle.std.proofs.Common.{◌≡◌, ◌==◌, map, drop, find}
 use Rattle.register.specs.Offices.{JudgedEntry, judged_entry}
 use Rattle.register.specs.Polls.{by_verdict}

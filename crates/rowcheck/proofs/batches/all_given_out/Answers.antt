@@ -1,6 +1,6 @@
 use Rattle.std.proofs.lemmas.List.Folds.{list_all-map}
 use Rattle.register.specs.Offices.{ThirdEntry, batch_entry, third_entry, batch_at}
-use Rattle.register.specs.Keyed.{is_given_out, is_third_for}
+use Rattle.register.specs.BatchConditions.{is_given_out, is_third_for}
 use Rattle.rowcheck.specs.States.{state_of}
 use Rattle.rowcheck.proofs.batches.all_given_out.Goals as goal
 

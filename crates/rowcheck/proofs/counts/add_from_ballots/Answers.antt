@@ -1,4 +1,4 @@
--- Why `add_from_ballots` keeps its promise.
+-- Proof that `add_from_ballots` meets its contract.
 use Rattle.std.proofs.Common.{rules, IsSome, subst, ap, ◌∙◌, map}
 use Rattle.count.specs.Bundles.{papers_of}
 use Rattle.count.specs.Law.Contest.{contest_for, IsContest}

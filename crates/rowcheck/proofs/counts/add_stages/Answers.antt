@@ -1,4 +1,4 @@
--- Why `add_stages` keeps its promise.
+-- Proof that `add_stages` meets its contract.
 use Rattle.std.proofs.Common.{◌++◌, map, Result, Ok, Err, OnOk, reverse, sym, ap, ◌∙◌}
 use Rattle.count.specs.Law.Places.{place}
 use Rattle.register.specs.Offices.{ward_entry}

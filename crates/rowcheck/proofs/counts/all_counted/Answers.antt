@@ -1,4 +1,4 @@
--- Why `all_counted` keeps its promise.
+-- Proof that `all_counted` meets its contract.
 use Rattle.std.proofs.Common.{◌≡◌, Option, Some, None, Result, Ok, Err, is_some, ap, refl, sym, ◌∙◌, IfOk, IfSome, subst}
 use Rattle.std.specs.List.{list_all}
 use Rattle.std.proofs.lemmas.List.Folds.{list_all-map}
@@ -6,8 +6,8 @@ use Rattle.register.specs.declared.wards.Ward.{Ward}
 use Rattle.register.specs.declared.counts.DrawnLot.{DrawnLot}
 use Rattle.register.specs.Offices.{LotEntry, ward_entry, lot_entry, ward_at}
 use Rattle.register.specs.Elections.{election_of, is_counted_right}
-use Rattle.register.specs.Items.{all_counted}
-use Rattle.register.specs.declared.tabulated.Tabulation.{Tabulation}
+use Rattle.register.specs.StateConditions.{all_counted}
+use Rattle.register.specs.declared.tabulations.Tabulation.{Tabulation}
 use Rattle.register.specs.Tabulated.{tabulation_entries}
 use Rattle.rowcheck.specs.States.{state_of}
 use Rattle.rowcheck.proofs.FairLemmas.{lots_in_range, all_fair, by_ward}

@@ -1,4 +1,4 @@
--- Why `count_done` keeps its promise.
+-- Proof that `count_done` meets its contract.
 use Rattle.std.proofs.Common.{◌≡◌, ◌+◌, ◌==◌, map, reverse, length, ap, subst, sym, ◌∙◌, eqb-true}
 use Rattle.std.specs.List.{range_with_len}
 use Rattle.std.proofs.lemmas.Bool.{and_parts}
@@ -13,7 +13,7 @@ use Rattle.rowcheck.specs.Walks.Counts.{IsOnBundlesOf}
 use Rattle.rowcheck.proofs.StagesDoneLemmas.{map-alike, count-same, count-order, count-stages, count-due, told_right, told_stages}
 use Rattle.rowcheck.proofs.counts.count_done.Goals as goal
 
--- the stages of the book are those of the election, and few
+-- the stages of the book are those of the election, and within the limit
 counted : (c : goal.After-drop-dues) (e : ElectionEntry) → IsOnBundlesOf e (ward_entry c.args.ward.now) c.args.lots.now c.args.book.now.contest
     → reverse c.stages.result.now ≡ stages_to (contest_of e) e.lots c.stages_asked-asked.result
 counted c e of = c.stages.ensures.is ∙ c.in_ok-dues.ensures.counted ∙ count-stages e (ward_entry c.args.ward.now) c.args.lots.now c.args.book.now.contest of c.stages_asked-asked.result

@@ -1,4 +1,4 @@
--- What the loop of `tabulation_in` keeps.
+-- The invariant of the loop in `tabulation_in`.
 use Rattle.std.proofs.Common.{◌≡◌, take, drop}
 use Rattle.std.specs.List.{list_all, flat_map, AllByRecursion}
 use Rattle.register.specs.declared.wards.Ward.{Ward}

@@ -1,6 +1,6 @@
 use Rattle.std.proofs.Common.{ap, ◌∙◌}
 use Rattle.register.specs.Offices.{batch_entry}
-use Rattle.register.specs.Papers.{clerks}
+use Rattle.register.specs.Agreement.{clerks}
 use Rattle.rowcheck.specs.States.{state_of}
 use Rattle.rowcheck.proofs.finding.keyings_in.Goals as goal
 

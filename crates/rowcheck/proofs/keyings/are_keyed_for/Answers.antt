@@ -1,7 +1,7 @@
 use Rattle.std.proofs.Common.{◌&&◌, nat_le, option_map, sym}
 use Rattle.std.proofs.lemmas.List.Folds.{list_all-map}
 use Rattle.register.specs.Offices.{KeyedEntry, batch_entry, third_entry, keyed_entry}
-use Rattle.register.specs.Papers.{is_its_clerk}
+use Rattle.register.specs.Agreement.{is_its_clerk}
 use Rattle.register.specs.Marks.{is_readable}
 use Rattle.rowcheck.proofs.keyings.are_keyed_for.Goals as goal
 

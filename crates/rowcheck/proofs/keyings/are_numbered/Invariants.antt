@@ -1,7 +1,7 @@
--- What the loop of `are_numbered` keeps.
+-- The invariant of the loop in `are_numbered`.
 use Rattle.std.proofs.Common.{◌≡◌, ◌+◌, map, drop}
 use Rattle.register.specs.Offices.{keyed_entry}
-use Rattle.register.specs.Keyed.{are_numbered}
+use Rattle.register.specs.BatchConditions.{are_numbered}
 use Rattle.rowcheck.proofs.keyings.are_numbered.Given as goal
 
 abbrev pub invariant-loop-place : goal.invariant-loop-place

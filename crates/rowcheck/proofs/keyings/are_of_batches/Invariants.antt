@@ -1,4 +1,4 @@
--- What the loop of `are_of_batches` keeps.
+-- The invariant of the loop in `are_of_batches`.
 use Rattle.std.proofs.Common.{◌≡◌, true, drop, is_some, IfSome}
 use Rattle.std.specs.List.{list_all}
 use Rattle.register.specs.declared.keyings.KeyedPaper.{KeyedPaper}

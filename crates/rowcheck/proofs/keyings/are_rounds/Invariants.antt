@@ -1,7 +1,7 @@
--- What the loop of `are_rounds` keeps.
+-- The invariant of the loop in `are_rounds`.
 use Rattle.std.proofs.Common.{◌≡◌, ◌-◌}
 use Rattle.register.specs.Offices.{batch_entry}
-use Rattle.register.specs.Keyed.{are_rounds_to}
+use Rattle.register.specs.BatchConditions.{are_rounds_to}
 use Rattle.rowcheck.specs.States.{state_of}
 use Rattle.rowcheck.proofs.keyings.are_rounds.Given as goal
 

@@ -1,4 +1,4 @@
--- What the loop of `number_up_to` keeps.
+-- The invariant of the loop in `number_up_to`.
 use Rattle.std.proofs.Common.{◌≡◌, ◌≤◌, drop}
 use Rattle.rowcheck.proofs.PlainLemmas.{up_to}
 use Rattle.rowcheck.proofs.plain.number_up_to.Given as goal

@@ -1,7 +1,7 @@
 use Rattle.std.proofs.lemmas.List.Folds.{list_all-map}
 use Rattle.register.specs.Offices.{WardEntry, ward_entry}
 use Rattle.register.specs.Elections.{election_of, is_agreed}
-use Rattle.register.specs.Items.{all_agreed}
+use Rattle.register.specs.StateConditions.{all_agreed}
 use Rattle.rowcheck.specs.States.{state_of}
 use Rattle.rowcheck.proofs.polls.all_agreed.Goals as goal
 

@@ -1,4 +1,4 @@
--- What the loop of `ballots_among` keeps.
+-- The invariant of the loop in `ballots_among`.
 use Rattle.std.proofs.Common.{map, take}
 use Rattle.register.specs.Offices.{batch_entry}
 use Rattle.register.specs.Polls.{ballots_in, StandFor, are_bundled}

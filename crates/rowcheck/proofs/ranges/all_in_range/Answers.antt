@@ -1,6 +1,6 @@
 use Rattle.std.proofs.lemmas.List.Folds.{list_all-map}
 use Rattle.register.specs.Offices.{ward_entry, candidate_entry, batch_entry, third_entry, keyed_entry, judged_entry, lot_entry, receipt_entry}
-use Rattle.register.specs.Items.{is_ward, is_candidate, is_batch, is_third, is_keyed_paper, is_judged_paper, is_lot, is_receipt}
+use Rattle.register.specs.StateConditions.{is_ward, is_candidate, is_batch, is_third, is_keyed_paper, is_judged_paper, is_lot, is_receipt}
 use Rattle.rowcheck.proofs.ranges.all_in_range.Goals as goal
 
 pub returns : goal.returns

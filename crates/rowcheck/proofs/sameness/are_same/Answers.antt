@@ -1,4 +1,4 @@
--- Why `are_same` keeps its promise.
+-- Proof that `are_same` meets its contract.
 use Rattle.std.proofs.Common.{◌∙◌, sym, ap}
 use Rattle.std.proofs.lemmas.Bool.{and_from, and_parts}
 use Rattle.register.specs.Offices.{ward_entry, candidate_entry, batch_entry, third_entry, keyed_entry, judged_entry, lot_entry, receipt_entry}
@@ -14,7 +14,7 @@ use Rattle.rowcheck.proofs.SamenessLemmas.{entries_one, ward_one, candidate_one,
 use Rattle.rowcheck.proofs.SamenessLemmas.{rows_one, ward_whole, candidate_whole, batch_whole, third_whole, keyed_whole, judged_whole, lot_whole, receipt_whole}
 use Rattle.rowcheck.proofs.sameness.are_same.Goals as goal
 
--- each `==` said yes, so each map is the same
+-- each `==` confirmed it, so each map is the same
 pub returns-clause-same : goal.returns-clause-same
 returns-clause-same c same =
     let rows = c.args.rows.now in
@@ -37,7 +37,7 @@ returns-clause-same c same =
       receipts = entries_one (receipt_eq.ghosts).eq receipt_entry receipt_one rows.receipts.items others.receipts.items (sym c.eq-receipts.ensures ∙ lots.1) i;
     }
 
--- each map is the same, so each `==` said yes
+-- each map is the same, so each `==` confirmed it
 pub returns-clause-whole : goal.returns-clause-whole
 returns-clause-whole c is =
     let rows = c.args.rows.now in

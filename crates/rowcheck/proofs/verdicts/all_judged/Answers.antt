@@ -1,7 +1,7 @@
 use Rattle.std.proofs.Common.{is_some}
 use Rattle.std.proofs.lemmas.List.Folds.{list_all-map}
 use Rattle.register.specs.Offices.{BatchEntry, JudgedEntry, batch_entry, judged_entry, batch_at, verdicts_of}
-use Rattle.register.specs.Keyed.{is_judged}
+use Rattle.register.specs.BatchConditions.{is_judged}
 use Rattle.rowcheck.specs.States.{state_of}
 use Rattle.rowcheck.proofs.verdicts.all_judged.Goals as goal
 

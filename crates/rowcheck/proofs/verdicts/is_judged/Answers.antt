@@ -1,7 +1,7 @@
 use Rattle.std.proofs.Common.{map, sym}
 use Rattle.std.proofs.lemmas.List.Folds.{list_all-map}
 use Rattle.register.specs.Offices.{judged_entry, keyed_entry}
-use Rattle.register.specs.Keyed.{is_verdict_on}
+use Rattle.register.specs.BatchConditions.{is_verdict_on}
 use Rattle.rowcheck.proofs.verdicts.is_judged.Goals as goal
 
 pub returns : goal.returns

@@ -5,8 +5,8 @@ use Rattle.desk.specs.declared.lines.Failure.TheVariants.{CopyFailed}
 use Rattle.desk.proofs.PageLemmas.{error_shown}
 use Rattle.server.proofs.order_response.copy_for_order.Goals as goal
 
-pub returns-in-Err-clause-told : goal.returns-in-Err-clause-told
-returns-in-Err-clause-told g c =
+pub returns-in-None-clause-told : goal.returns-in-None-clause-told
+returns-in-None-clause-told g c =
     let shows = error_shown g.O.Sink.taken g.O.Sink.failed g.E.Sink.taken g.E.Sink.failed c.args.out.now c.args.err.now c.tell_failure.new.err
     (failed CopyFailed) c.tell_failure.result refl c.tell_failure.ensures in
     record {

@@ -21,7 +21,7 @@ returns-in-Ended-clause-come g c =
     come_ended its (g.L.Stream.held client.stream) client.got.items parsed.result (c.in_ok-received.ensures.ended (ap Ok c.in-Ended.is))
     (subst (λ (xs : List ℕ). IsParsed its xs parsed.result) c.as_slice-got.ensures.value parsed.ensures.is)
 
--- the body came, too
+-- the body arrived, too
 pub returns-then-branch-clause-come : goal.returns-then-branch-clause-come
 returns-then-branch-clause-come g c =
     let client = c.receive.new.self in

@@ -17,9 +17,10 @@ use Rattle.server.proofs.servicing.service.Goals as goal
 -- it has its response already, and gets more of it
 pub returns-then-is_some-clause-turn : goal.returns-then-is_some-clause-turn
 returns-then-is_some-clause-turn g c =
-    attends_none (stream_of g.L.Stream.held g.L.Stream.taken g.L.Stream.failed) (settings_in g.A.SideJobs.whole c.args.server_settings)
+    attends_none (stream_of g.L.Stream.held g.L.Stream.taken g.L.Stream.failed) (settings_in g.A.ServedFile.whole c.args.server_settings)
     (state g.S.Store) c.args.now c.send_more-told.result c.args.client c.send_more-told.new.client
-    (served_office c.args.office.now (memory_entry c.args.kept.now)) (served_office c.args.office.now (memory_entry c.args.kept.now)) c.send_more-told.ensures.apart refl c.send_more-told.ensures.his
+    (served_office c.args.office.now (memory_entry c.args.kept.now)) (served_office c.args.office.now (memory_entry c.args.kept.now)) c.send_more-told.ensures.apart refl
+    c.send_more-told.ensures.belongs
 
 pub service_order-requires-clause-unanswered : goal.service_order-requires-clause-unanswered
 service_order-requires-clause-unanswered g c = none_from c.args.client.answer (sym c.is_some.ensures ∙ c.if-is_some.false)
@@ -30,7 +31,7 @@ service_order-requires-clause-fresh g c = c.requires.untold (none_from c.args.cl
 pub receive_request-requires : goal.receive_request-requires
 receive_request-requires g c = none_from c.args.client.answer (sym c.is_some.ensures ∙ c.if-is_some.false)
 
--- what was parsed are the bytes that came
+-- what was parsed are the bytes that arrived
 pub answer_client-answer-requires : goal.answer_client-answer-requires
 answer_client-answer-requires g c =
     subst (λ (xs : List ℕ). IsParsed (settings_entry c.args.server_settings.http) xs c.in-Ok-Some.parsed) (sym c.as_slice-got.ensures.value) (rw c.in-Ok-Some.field-0-is at c.in-Ok-Some.ensures.come).1
@@ -47,7 +48,7 @@ returns-in-Ok-Some-clause-is g c = λ start own. c.begin_answer.ensures.is start
 pub returns-in-Ok-Some-clause-turn : goal.returns-in-Ok-Some-clause-turn
 returns-in-Ok-Some-clause-turn g c =
     let received = c.in-Ok-Some.ensures in
-    let settings = settings_in g.A.SideJobs.whole c.args.server_settings in
+    let settings = settings_in g.A.ServedFile.whole c.args.server_settings in
     let stream = stream_of g.L.Stream.held g.L.Stream.taken g.L.Stream.failed in
     let mid = c.receive_request.new.client in
     let answered = c.answer_client-answer in
@@ -66,7 +67,7 @@ returns-in-Ok-Some-clause-turn g c =
       subst (λ (xs : List ℕ). RespondsToClient settings (state g.S.Store) at
           (record { listener = Clients; number = mid.number; moment = c.args.now; got = xs; answer = answered.result.bytes.items }) behind) c.as_slice-got.ensures.value
           (answered.ensures.meets mid.number),
-      c.begin_answer.ensures.his,
+      c.begin_answer.ensures.belongs,
     ))
 
 pub returns-in-Err-clause-leaves : goal.returns-in-Err-clause-leaves

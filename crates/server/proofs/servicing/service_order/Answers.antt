@@ -12,7 +12,7 @@ use Rattle.server.specs.Servicing.{HasComeAt}
 use Rattle.server.proofs.ServicingLemmas.{attends_turn, ends_lost, has_turn, left_as}
 use Rattle.server.proofs.servicing.service_order.Goals as goal
 
--- its message came whole
+-- its message arrived completely
 pub answer_order-stream-requires-clause-whole : goal.answer_order-stream-requires-clause-whole
 answer_order-stream-requires-clause-whole g c =
     subst HasCameWhole (sym c.as_slice.ensures.value) (c.receive_message.ensures.come (c.in-Ok-true.is ∙ ap Ok c.in-Ok-true.field-0-test))
@@ -26,7 +26,7 @@ returns-in-Ok-true-clause-is g c = λ start own. c.begin_answer.ensures.is start
 pub returns-in-Ok-true-clause-turn : goal.returns-in-Ok-true-clause-turn
 returns-in-Ok-true-clause-turn g c =
     let received = c.receive_message.ensures in
-    let settings = settings_in g.A.SideJobs.whole c.args.server_settings in
+    let settings = settings_in g.A.ServedFile.whole c.args.server_settings in
     let stream = stream_of g.L.Stream.held g.L.Stream.taken g.L.Stream.failed in
     let mid = c.receive_message.new.client in
     let answered = c.answer_order-stream in
@@ -46,7 +46,7 @@ returns-in-Ok-true-clause-turn g c =
         c.empty.ensures,
         refl,
       ),
-      c.begin_answer.ensures.his,
+      c.begin_answer.ensures.belongs,
     ))
 
 pub returns-in-Err-clause-leaves : goal.returns-in-Err-clause-leaves

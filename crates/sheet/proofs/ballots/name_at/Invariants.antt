@@ -1,4 +1,4 @@
--- What holds each time round the loop of `name_at`.
+-- The invariant of the loop in `name_at`.
 use Rattle.std.proofs.Common.{◌≡◌, map, drop, string_bytes}
 use Rattle.sheet.specs.Ballots.{name_at}
 use Rattle.sheet.proofs.ballots.name_at.Given as goal

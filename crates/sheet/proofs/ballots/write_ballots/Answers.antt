@@ -1,4 +1,4 @@
--- Why `write_ballots` keeps its promise.
+-- Proof that `write_ballots` meets its contract.
 use Rattle.sheet.proofs.Writing.{Writes-then, Writes-failed, Writes-front}
 use Rattle.sheet.proofs.ballots.write_ballots.Goals as goal
 

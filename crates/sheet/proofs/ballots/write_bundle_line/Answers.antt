@@ -1,4 +1,4 @@
--- Why `write_bundle_line` keeps its promise.
+-- Proof that `write_bundle_line` meets its contract.
 use Rattle.sheet.proofs.ballots.write_bundle_line.Goals as goal
 
 pub returns : goal.returns

@@ -1,4 +1,4 @@
--- Why `write_bundle_lines` keeps its promise.
+-- Proof that `write_bundle_lines` meets its contract.
 use Rattle.std.proofs.Common.{rules, ◌≡◌, [], ◌∷◌, ◌++◌, ap, ◌∙◌, append-nil}
 use Rattle.sheet.proofs.Bundles.{Writes-bundle, Writes-bundle_cut}
 use Rattle.sheet.proofs.Writing.{Writes-none}

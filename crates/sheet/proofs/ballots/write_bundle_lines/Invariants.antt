@@ -1,4 +1,4 @@
--- What holds each time round the loop of `write_bundle_lines`.
+-- The invariant of the loop in `write_bundle_lines`.
 use Rattle.std.proofs.Common.{Ok}
 use Rattle.streams.specs.declared.streams.Broken.{Broken}
 use Rattle.sheet.proofs.Bundles.{AreWritten}

@@ -1,4 +1,4 @@
--- Why `write_candidate_names` keeps its promise.
+-- Proof that `write_candidate_names` meets its contract.
 use Rattle.std.proofs.Common.{arith, ◌<◌, ◌≤◌}
 use Rattle.std.proofs.lemmas.List.{take_all}
 use Rattle.sheet.specs.Ballots.{highest_number, name_line, numbers_of}

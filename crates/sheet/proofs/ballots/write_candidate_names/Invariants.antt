@@ -1,4 +1,4 @@
--- What holds each time round the loop of `write_candidate_names`.
+-- The invariant of the loop in `write_candidate_names`.
 use Rattle.std.proofs.Common.{take, Ok}
 use Rattle.std.specs.List.{flat_map}
 use Rattle.streams.specs.declared.streams.Broken.{Broken}

@@ -1,4 +1,4 @@
--- Why `write_comments` keeps its promise.
+-- Proof that `write_comments` meets its contract.
 use Rattle.sheet.proofs.Writing.{Writes-then, Writes-failed, Writes-front}
 use Rattle.sheet.proofs.ballots.write_comments.Goals as goal
 

@@ -1,4 +1,4 @@
--- Why `write_lot_comment` keeps its promise.
+-- Proof that `write_lot_comment` meets its contract.
 use Rattle.sheet.proofs.ballots.write_lot_comment.Goals as goal
 
 pub returns : goal.returns

@@ -1,4 +1,4 @@
--- Why `write_lot_comments` keeps its promise.
+-- Proof that `write_lot_comments` meets its contract.
 use Rattle.std.proofs.lemmas.List.{take_all, get_or_default}
 use Rattle.std.proofs.Common.{get_or}
 use Rattle.sheet.specs.Ballots.{lot_comment}

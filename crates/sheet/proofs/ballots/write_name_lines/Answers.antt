@@ -1,4 +1,4 @@
--- Why `write_name_lines` keeps its promise.
+-- Proof that `write_name_lines` meets its contract.
 use Rattle.sheet.proofs.Writing.{Writes-then, Writes-failed, Writes-front}
 use Rattle.sheet.proofs.ballots.write_name_lines.Goals as goal
 

@@ -1,4 +1,4 @@
--- Why `write_papers` keeps its promise.
+-- Proof that `write_papers` meets its contract.
 use Rattle.sheet.proofs.Writing.{Writes-then, Writes-failed, Writes-front}
 use Rattle.sheet.proofs.ballots.write_papers.Goals as goal
 

@@ -1,4 +1,4 @@
--- Why `write_rejected_comment` keeps its promise.
+-- Proof that `write_rejected_comment` meets its contract.
 use Rattle.sheet.proofs.Writing.{Writes-then, Writes-failed, Writes-front}
 use Rattle.sheet.proofs.ballots.write_rejected_comment.Goals as goal
 

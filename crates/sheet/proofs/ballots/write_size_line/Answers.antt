@@ -1,4 +1,4 @@
--- Why `write_size_line` keeps its promise.
+-- Proof that `write_size_line` meets its contract.
 use Rattle.sheet.proofs.ballots.write_size_line.Goals as goal
 
 pub returns : goal.returns

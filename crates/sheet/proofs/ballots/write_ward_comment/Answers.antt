@@ -1,4 +1,4 @@
--- Why `write_ward_comment` keeps its promise.
+-- Proof that `write_ward_comment` meets its contract.
 use Rattle.sheet.proofs.ballots.write_ward_comment.Goals as goal
 
 pub returns : goal.returns

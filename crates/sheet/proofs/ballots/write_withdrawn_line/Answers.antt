@@ -1,4 +1,4 @@
--- Why `write_withdrawn_line` keeps its promise.
+-- Proof that `write_withdrawn_line` meets its contract.
 use Rattle.std.proofs.Common.{rules, arith, ◌≡◌, ◌<◌, ◌+◌, ◌≤◌, true, false, refl, ap, sym, ◌∙◌, append-nil}
 use Rattle.sheet.specs.Entries.{shown}
 use Rattle.sheet.specs.Ballots.{highest_number, withdrawn, withdrawn_line}

@@ -1,4 +1,4 @@
--- What holds each time round the loop of `write_withdrawn_line`.
+-- The invariant of the loop in `write_withdrawn_line`.
 use Rattle.std.proofs.Common.{◌≡◌, Ok}
 use Rattle.streams.specs.declared.streams.Broken.{Broken}
 use Rattle.sheet.specs.Entries.{shown}

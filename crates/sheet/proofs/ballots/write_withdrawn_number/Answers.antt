@@ -1,4 +1,4 @@
--- Why `write_withdrawn_number` keeps its promise.
+-- Proof that `write_withdrawn_number` meets its contract.
 use Rattle.sheet.proofs.Writing.{Writes-then, Writes-failed, Writes-front}
 use Rattle.sheet.proofs.ballots.write_withdrawn_number.Goals as goal
 

@@ -1,4 +1,4 @@
--- Why `write_cells` keeps its promise.
+-- Proof that `write_cells` meets its contract.
 use Rattle.std.proofs.Common.{arith, ◌≤◌}
 use Rattle.std.proofs.lemmas.List.{take_all}
 use Rattle.sheet.specs.Cells.{cell_text}

@@ -1,4 +1,4 @@
--- What holds each time round the loop of `write_cells`.
+-- The invariant of the loop in `write_cells`.
 use Rattle.std.proofs.Common.{take, Ok}
 use Rattle.streams.specs.declared.streams.Broken.{Broken}
 use Rattle.sheet.specs.Cells.{from_place}

@@ -1,4 +1,4 @@
--- Why `write_column_head` keeps its promise.
+-- Proof that `write_column_head` meets its contract.
 use Rattle.sheet.proofs.cells.write_column_head.Goals as goal
 
 pub returns : goal.returns

@@ -1,4 +1,4 @@
--- What holds each time round the loop of `greatest_of`.
+-- The invariant of the loop in `greatest_of`.
 use Rattle.std.proofs.Common.{◌≡◌, drop}
 use Rattle.sheet.specs.Chart.{greatest}
 use Rattle.sheet.proofs.chart.greatest_of.Given as goal

@@ -1,4 +1,4 @@
--- What holds each time round the loop of `greatest_of_stages`.
+-- The invariant of the loop in `greatest_of_stages`.
 use Rattle.std.proofs.Common.{◌≡◌, drop}
 use Rattle.sheet.specs.Chart.{greatest_at}
 use Rattle.sheet.proofs.chart.greatest_of_stages.Given as goal

@@ -1,4 +1,4 @@
--- What holds each time round the loop of `most_votes`.
+-- The invariant of the loop in `most_votes`.
 use Rattle.std.proofs.Common.{◌≡◌, drop}
 use Rattle.sheet.specs.Chart.{most_votes}
 use Rattle.sheet.proofs.chart.most_votes.Given as goal

@@ -1,4 +1,4 @@
--- Why `write_bar` keeps its promise.
+-- Proof that `write_bar` meets its contract.
 use Rattle.sheet.proofs.chart.write_bar.Goals as goal
 
 pub returns : goal.returns

@@ -1,4 +1,4 @@
--- Why `write_chart` keeps its promise.
+-- Proof that `write_chart` meets its contract.
 use Rattle.sheet.proofs.Writing.{Writes-then, Writes-failed, Writes-front}
 use Rattle.sheet.proofs.chart.write_chart.Goals as goal
 

@@ -1,4 +1,4 @@
--- Why `write_chart_head` keeps its promise.
+-- Proof that `write_chart_head` meets its contract.
 use Rattle.sheet.proofs.chart.write_chart_head.Goals as goal
 
 pub returns : goal.returns

@@ -1,4 +1,4 @@
--- Why `write_chart_line` keeps its promise.
+-- Proof that `write_chart_line` meets its contract.
 use Rattle.sheet.proofs.Writing.{Writes-then, Writes-failed, Writes-front}
 use Rattle.sheet.proofs.chart.write_chart_line.Goals as goal
 

@@ -1,4 +1,4 @@
--- Why `write_figures` keeps its promise.
+-- Proof that `write_figures` meets its contract.
 use Rattle.sheet.proofs.chart.write_figures.Goals as goal
 
 pub returns : goal.returns

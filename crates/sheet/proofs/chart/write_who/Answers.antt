@@ -1,4 +1,4 @@
--- Why `write_who` keeps its promise.
+-- Proof that `write_who` meets its contract.
 use Rattle.sheet.proofs.chart.write_who.Goals as goal
 
 pub returns : goal.returns

@@ -1,4 +1,4 @@
--- Why `write_declaration` keeps its promise.
+-- Proof that `write_declaration` meets its contract.
 use Rattle.sheet.proofs.Writing.{Writes-then, Writes-failed, Writes-front}
 use Rattle.sheet.proofs.declaration.write_declaration.Goals as goal
 

@@ -1,4 +1,4 @@
--- What holds each time round the loop of `seats_left`.
+-- The invariant of the loop in `seats_left`.
 use Rattle.std.proofs.Common.{◌≡◌, drop}
 use Rattle.sheet.specs.Page.{seats_left}
 use Rattle.sheet.proofs.elected.seats_left.Given as goal

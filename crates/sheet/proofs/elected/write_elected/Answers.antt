@@ -1,4 +1,4 @@
--- Why `write_elected` keeps its promise.
+-- Proof that `write_elected` meets its contract.
 use Rattle.sheet.proofs.Writing.{Writes-then, Writes-failed, Writes-front}
 use Rattle.sheet.proofs.elected.write_elected.Goals as goal
 

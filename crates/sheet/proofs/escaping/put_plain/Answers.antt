@@ -1,4 +1,4 @@
--- Why `put_plain` keeps its promise.
+-- Proof that `put_plain` meets its contract.
 use Rattle.std.proofs.Common.{slice_index}
 use Rattle.std.proofs.lemmas.List.{take_all, get_or_default}
 use Rattle.sheet.specs.Lines.{plain_byte}

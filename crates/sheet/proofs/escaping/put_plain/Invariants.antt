@@ -1,4 +1,4 @@
--- What holds each time round the loop of `put_plain`.
+-- The invariant of the loop in `put_plain`.
 use Rattle.std.proofs.Common.{take, Ok}
 use Rattle.std.specs.List.{flat_map}
 use Rattle.streams.specs.declared.streams.Broken.{Broken}

@@ -1,4 +1,4 @@
--- What holds each time round the loop of `ascend_above`.
+-- The invariant of the loop in `ascend_above`.
 use Rattle.std.proofs.Common.{◌↔◌, map, drop}
 use Rattle.sheet.specs.Wards.{Ascend}
 use Rattle.sheet.proofs.fitness.ascend_above.Given as goal

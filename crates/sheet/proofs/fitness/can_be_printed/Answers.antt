@@ -1,4 +1,4 @@
--- Why `can_be_printed` keeps its promise.
+-- Proof that `can_be_printed` meets its contract.
 use Rattle.std.proofs.Common.{rules, arith}
 use Rattle.sheet.specs.Wards.{HasFewPapers}
 use Rattle.sheet.proofs.Candidates.{CanBePrinted-made, CanBePrinted-ascends}

@@ -1,4 +1,4 @@
--- Why `write_elected_name` keeps its promise.
+-- Proof that `write_elected_name` meets its contract.
 use Rattle.sheet.proofs.index.write_elected_name.Goals as goal
 
 pub returns : goal.returns

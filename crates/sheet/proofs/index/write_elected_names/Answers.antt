@@ -1,4 +1,4 @@
--- Why `write_elected_names` keeps its promise.
+-- Proof that `write_elected_names` meets its contract.
 use Rattle.std.proofs.lemmas.List.{take_all}
 use Rattle.std.proofs.lemmas.List.Folds.{flat_map-map}
 use Rattle.sheet.specs.Index.{elected_name, elected_shown}

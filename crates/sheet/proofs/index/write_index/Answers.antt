@@ -1,4 +1,4 @@
--- Why `write_index` keeps its promise.
+-- Proof that `write_index` meets its contract.
 use Rattle.sheet.proofs.Writing.{Writes-then, Writes-failed, Writes-front}
 use Rattle.sheet.proofs.index.write_index.Goals as goal
 

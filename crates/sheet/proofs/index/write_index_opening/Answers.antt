@@ -1,4 +1,4 @@
--- Why `write_index_opening` keeps its promise.
+-- Proof that `write_index_opening` meets its contract.
 use Rattle.sheet.proofs.index.write_index_opening.Goals as goal
 
 pub returns : goal.returns

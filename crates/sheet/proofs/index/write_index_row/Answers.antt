@@ -1,4 +1,4 @@
--- Why `write_index_row` keeps its promise.
+-- Proof that `write_index_row` meets its contract.
 use Rattle.sheet.proofs.Writing.{Writes-then, Writes-failed, Writes-front}
 use Rattle.sheet.proofs.index.write_index_row.Goals as goal
 

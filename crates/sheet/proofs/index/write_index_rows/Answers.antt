@@ -1,4 +1,4 @@
--- Why `write_index_rows` keeps its promise.
+-- Proof that `write_index_rows` meets its contract.
 use Rattle.std.proofs.lemmas.List.{take_all}
 use Rattle.std.proofs.lemmas.List.Folds.{flat_map-map}
 use Rattle.sheet.specs.Index.{index_row, listed}

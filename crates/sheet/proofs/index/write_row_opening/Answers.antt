@@ -1,4 +1,4 @@
--- Why `write_row_opening` keeps its promise.
+-- Proof that `write_row_opening` meets its contract.
 use Rattle.sheet.proofs.index.write_row_opening.Goals as goal
 
 pub returns : goal.returns

@@ -1,4 +1,4 @@
--- Why `put_escaped` keeps its promise.
+-- Proof that `put_escaped` meets its contract.
 use Rattle.std.proofs.Common.{slice_index}
 use Rattle.std.proofs.lemmas.List.{take_all, get_or_default}
 use Rattle.sheet.specs.Lines.{escaped}

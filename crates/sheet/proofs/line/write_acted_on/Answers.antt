@@ -1,4 +1,4 @@
--- Why `write_acted_on` keeps its promise.
+-- Proof that `write_acted_on` meets its contract.
 use Rattle.sheet.proofs.Writing.{Writes-then, Writes-failed, Writes-front}
 use Rattle.sheet.proofs.line.write_acted_on.Goals as goal
 

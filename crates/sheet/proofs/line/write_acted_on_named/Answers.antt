@@ -1,4 +1,4 @@
--- Why `write_acted_on_named` keeps its promise.
+-- Proof that `write_acted_on_named` meets its contract.
 use Rattle.sheet.proofs.Writing.{Writes-then, Writes-failed, Writes-front}
 use Rattle.sheet.proofs.line.write_acted_on_named.Goals as goal
 

@@ -1,4 +1,4 @@
--- Why `write_action` keeps its promise.
+-- Proof that `write_action` meets its contract.
 use Rattle.std.proofs.Common.{codes}
 use Rattle.sheet.proofs.Writing.{Writes-then, Writes-failed, Writes-front}
 use Rattle.sheet.proofs.line.write_action.Goals as goal

@@ -1,4 +1,4 @@
--- Why `write_action_named` keeps its promise.
+-- Proof that `write_action_named` meets its contract.
 use Rattle.std.proofs.Common.{codes}
 use Rattle.sheet.proofs.Writing.{Writes-then, Writes-failed, Writes-front}
 use Rattle.sheet.proofs.line.write_action_named.Goals as goal

@@ -1,4 +1,4 @@
--- Why `write_line` keeps its promise.
+-- Proof that `write_line` meets its contract.
 use Rattle.sheet.proofs.Joined.{line_joined}
 use Rattle.sheet.proofs.Writing.{Writes-then, Writes-failed, Writes-front}
 use Rattle.sheet.proofs.line.write_line.Goals as goal

@@ -1,4 +1,4 @@
--- Why `write_named` keeps its promise.
+-- Proof that `write_named` meets its contract.
 use Rattle.sheet.proofs.Writing.{Writes-then, Writes-failed, Writes-front}
 use Rattle.sheet.proofs.line.write_named.Goals as goal
 
@@ -14,11 +14,11 @@ returns-in_err-write_text g c =
     let failure = c.from_residual-in_err-write_text.ensures.0 in
     Writes-front _ r failure (Writes-front _ r failure (Writes-failed r failure (Writes-then _ c.in_ok-write_any_number.ensures c.in_err-write_text.ensures)))
 
-pub returns-in_err-write_plain : goal.returns-in_err-write_plain
-returns-in_err-write_plain g c =
-    let r = c.from_residual-in_err-write_plain.result in
-    let failure = c.from_residual-in_err-write_plain.ensures.0 in
-    Writes-front _ r failure (Writes-failed r failure (Writes-then _ (Writes-then _ c.in_ok-write_any_number.ensures c.in_ok-write_text.ensures) c.in_err-write_plain.ensures))
+pub returns-in_err-write_escaped : goal.returns-in_err-write_escaped
+returns-in_err-write_escaped g c =
+    let r = c.from_residual-in_err-write_escaped.result in
+    let failure = c.from_residual-in_err-write_escaped.ensures.0 in
+    Writes-front _ r failure (Writes-failed r failure (Writes-then _ (Writes-then _ c.in_ok-write_any_number.ensures c.in_ok-write_text.ensures) c.in_err-write_escaped.ensures))
 
 pub returns : goal.returns
-returns g c = Writes-then _ (Writes-then _ (Writes-then _ c.in_ok-write_any_number.ensures c.in_ok-write_text.ensures) c.in_ok-write_plain.ensures) c.write_text-2.ensures
+returns g c = Writes-then _ (Writes-then _ (Writes-then _ c.in_ok-write_any_number.ensures c.in_ok-write_text.ensures) c.in_ok-write_escaped.ensures) c.write_text-2.ensures

@@ -1,4 +1,4 @@
--- Why `write_number_column` keeps its promise.
+-- Proof that `write_number_column` meets its contract.
 use Rattle.sheet.proofs.Writing.{Writes-then}
 use Rattle.sheet.proofs.line.write_number_column.Goals as goal
 

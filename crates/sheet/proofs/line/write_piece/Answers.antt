@@ -1,4 +1,4 @@
--- Why `write_piece` keeps its promise.
+-- Proof that `write_piece` meets its contract.
 use Rattle.sheet.proofs.Joined.{right_in_none}
 use Rattle.sheet.proofs.line.write_piece.Goals as goal
 

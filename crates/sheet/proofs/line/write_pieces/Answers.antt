@@ -1,4 +1,4 @@
--- Why `write_pieces` keeps its promise.
+-- Proof that `write_pieces` meets its contract.
 use Rattle.std.proofs.lemmas.List.{take_all}
 use Rattle.sheet.specs.Pieces.{piece_text}
 use Rattle.sheet.proofs.Joined.{joined-map}

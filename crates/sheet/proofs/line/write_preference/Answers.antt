@@ -1,4 +1,4 @@
--- Why `write_preference` keeps its promise.
+-- Proof that `write_preference` meets its contract.
 use Rattle.sheet.proofs.Writing.{Writes-then, Writes-failed, Writes-front}
 use Rattle.sheet.proofs.line.write_preference.Goals as goal
 

@@ -1,4 +1,4 @@
--- Why `write_preferences` keeps its promise.
+-- Proof that `write_preferences` meets its contract.
 use Rattle.std.proofs.Common.{slice_index}
 use Rattle.std.proofs.lemmas.List.{take_all, get_or_default}
 use Rattle.sheet.specs.Lines.{preference}

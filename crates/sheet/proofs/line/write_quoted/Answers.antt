@@ -1,4 +1,4 @@
--- Why `write_quoted` keeps its promise.
+-- Proof that `write_quoted` meets its contract.
 use Rattle.sheet.proofs.Quoted.{IsUtf8-escaped}
 use Rattle.sheet.proofs.Writing.{Writes-then, Writes-failed, Writes-front, Writes-puts}
 use Rattle.sheet.proofs.line.write_quoted.Goals as goal

@@ -1,4 +1,4 @@
--- Why `write_spaces` keeps its promise.
+-- Proof that `write_spaces` meets its contract.
 use Rattle.std.proofs.lemmas.List.{take-replicate}
 use Rattle.sheet.proofs.Utf8.{IsUtf8-spaces}
 use Rattle.sheet.proofs.Writing.{Writes-put}

@@ -1,4 +1,4 @@
--- Why `write_span` keeps its promise.
+-- Proof that `write_span` meets its contract.
 use Rattle.std.specs.Prelude.{codes, decimal}
 use Rattle.std.proofs.Common.{◌≡◌, ◌==◌, true, false, eq-eqb}
 use Rattle.std.proofs.lemmas.Bool.{ne_eqb}

@@ -1,4 +1,4 @@
--- Why `write_value` keeps its promise.
+-- Proof that `write_value` meets its contract.
 use Rattle.std.proofs.Common.{refl}
 use Rattle.sheet.proofs.Writing.{Writes-put, Writes-then}
 use Rattle.sheet.proofs.line.write_value.Goals as goal

@@ -1,4 +1,4 @@
--- Why `legend` keeps its promise.
+-- Proof that `legend` meets its contract.
 use Rattle.std.proofs.Common.{refl}
 use Rattle.sheet.specs.Look.{legend}
 use Rattle.sheet.proofs.look.legend.Goals as goal

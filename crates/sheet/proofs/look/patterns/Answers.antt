@@ -1,4 +1,4 @@
--- Why `patterns` keeps its promise.
+-- Proof that `patterns` meets its contract.
 use Rattle.std.proofs.Common.{refl}
 use Rattle.sheet.specs.Look.{patterns}
 use Rattle.sheet.proofs.look.patterns.Goals as goal

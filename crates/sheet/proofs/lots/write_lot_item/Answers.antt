@@ -1,4 +1,4 @@
--- Why `write_lot_item` keeps its promise.
+-- Proof that `write_lot_item` meets its contract.
 use Rattle.sheet.proofs.Writing.{Writes-then, Writes-failed, Writes-front}
 use Rattle.sheet.proofs.lots.write_lot_item.Goals as goal
 

@@ -1,4 +1,4 @@
--- Why `write_lots` keeps its promise.
+-- Proof that `write_lots` meets its contract.
 use Rattle.std.proofs.Common.{◌≡◌, ◌==◌, true, false, length, sym, ◌∙◌}
 use Rattle.sheet.proofs.Writing.{Writes-then, Writes-failed, Writes-front}
 use Rattle.sheet.proofs.lots.write_lots.Goals as goal

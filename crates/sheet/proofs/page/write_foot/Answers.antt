@@ -1,4 +1,4 @@
--- Why `write_foot` keeps its promise.
+-- Proof that `write_foot` meets its contract.
 use Rattle.sheet.proofs.page.write_foot.Goals as goal
 
 pub returns : goal.returns

@@ -1,4 +1,4 @@
--- Why `write_grounds` keeps its promise.
+-- Proof that `write_grounds` meets its contract.
 use Rattle.sheet.proofs.Writing.{Writes-then, Writes-failed, Writes-front}
 use Rattle.sheet.proofs.page.write_grounds.Goals as goal
 

@@ -1,4 +1,4 @@
--- Why `write_opening` keeps its promise.
+-- Proof that `write_opening` meets its contract.
 use Rattle.sheet.proofs.page.write_opening.Goals as goal
 
 pub returns : goal.returns

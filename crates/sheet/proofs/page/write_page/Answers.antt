@@ -1,4 +1,4 @@
--- Why `write_page` keeps its promise.
+-- Proof that `write_page` meets its contract.
 use Rattle.sheet.proofs.Writing.{Writes-then, Writes-failed, Writes-front}
 use Rattle.sheet.proofs.page.write_page.Goals as goal
 

@@ -1,4 +1,4 @@
--- Why `write_papers_table` keeps its promise.
+-- Proof that `write_papers_table` meets its contract.
 use Rattle.sheet.proofs.page.write_papers_table.Goals as goal
 
 pub returns : goal.returns

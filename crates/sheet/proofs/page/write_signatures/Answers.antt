@@ -1,4 +1,4 @@
--- Why `write_signatures` keeps its promise.
+-- Proof that `write_signatures` meets its contract.
 use Rattle.sheet.proofs.Writing.{Writes-then, Writes-failed, Writes-front}
 use Rattle.sheet.proofs.page.write_signatures.Goals as goal
 

@@ -1,4 +1,4 @@
--- Why `write_stages_part` keeps its promise.
+-- Proof that `write_stages_part` meets its contract.
 use Rattle.std.proofs.Common.{◌≡◌, ◌==◌, true, false, length, sym, ◌∙◌}
 use Rattle.sheet.proofs.Writing.{Writes-then, Writes-failed, Writes-front}
 use Rattle.sheet.proofs.page.write_stages_part.Goals as goal

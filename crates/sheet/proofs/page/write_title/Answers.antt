@@ -1,4 +1,4 @@
--- Why `write_title` keeps its promise.
+-- Proof that `write_title` meets its contract.
 use Rattle.std.proofs.Common.{◌≡◌, ◌==◌, true, false, length, sym, ◌∙◌}
 use Rattle.sheet.proofs.Writing.{Writes-none}
 use Rattle.sheet.proofs.page.write_title.Goals as goal

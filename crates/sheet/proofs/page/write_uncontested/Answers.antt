@@ -1,4 +1,4 @@
--- Why `write_uncontested` keeps its promise.
+-- Proof that `write_uncontested` meets its contract.
 use Rattle.sheet.proofs.page.write_uncontested.Goals as goal
 
 pub returns : goal.returns

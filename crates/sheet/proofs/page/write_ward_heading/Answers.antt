@@ -1,4 +1,4 @@
--- Why `write_ward_heading` keeps its promise.
+-- Proof that `write_ward_heading` meets its contract.
 use Rattle.sheet.proofs.page.write_ward_heading.Goals as goal
 
 pub returns : goal.returns

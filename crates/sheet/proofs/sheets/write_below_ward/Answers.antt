@@ -1,4 +1,4 @@
--- Why `write_below_ward` keeps its promise.
+-- Proof that `write_below_ward` meets its contract.
 use Rattle.sheet.proofs.Writing.{Writes-then, Writes-failed, Writes-front}
 use Rattle.sheet.proofs.sheets.write_below_ward.Goals as goal
 

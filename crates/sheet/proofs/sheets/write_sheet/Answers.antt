@@ -1,4 +1,4 @@
--- Why `write_sheet` keeps its promise.
+-- Proof that `write_sheet` meets its contract.
 use Rattle.sheet.proofs.Writing.{Writes-then, Writes-failed, Writes-front}
 use Rattle.sheet.proofs.sheets.write_sheet.Goals as goal
 

@@ -1,4 +1,4 @@
--- Why `write_stages` keeps its promise.
+-- Proof that `write_stages` meets its contract.
 use Rattle.std.proofs.Common.{arith, ◌≤◌}
 use Rattle.std.proofs.lemmas.List.{take_all}
 use Rattle.sheet.specs.Entries.{shown}

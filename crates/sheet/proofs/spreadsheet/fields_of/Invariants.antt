@@ -1,4 +1,4 @@
--- What the loop of `fields_of` keeps.
+-- The invariant of the loop in `fields_of`.
 use Rattle.std.proofs.Common.{◌≡◌, ◌++◌, map, drop, string_bytes}
 use Rattle.sheet.proofs.spreadsheet.fields_of.Given as goal
 

@@ -1,4 +1,4 @@
--- Why `line_of` keeps its promise.
+-- Proof that `line_of` meets its contract.
 use Rattle.std.proofs.Common.{◌≢◌, ◌∙◌}
 use Rattle.csv.specs.declared.writer.QuoteStyle.TheVariants as style
 use Rattle.sheet.proofs.spreadsheet.line_of.Goals as goal

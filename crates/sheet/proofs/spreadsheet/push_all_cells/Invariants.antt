@@ -1,4 +1,4 @@
--- What the loop of `push_all_cells` keeps.
+-- The invariant of the loop in `push_all_cells`.
 use Rattle.std.proofs.Common.{◌≡◌, ◌++◌, [], map, take, drop, string_bytes}
 use Rattle.sheet.specs.Cells.{each_after}
 use Rattle.sheet.specs.Spreadsheet.{stage_cells}

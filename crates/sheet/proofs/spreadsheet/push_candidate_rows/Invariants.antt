@@ -1,4 +1,4 @@
--- What the loop of `push_candidate_rows` keeps.
+-- The invariant of the loop in `push_candidate_rows`.
 use Rattle.std.proofs.Common.{◌≡◌, ◌++◌, map, drop, string_bytes}
 use Rattle.std.specs.List.{flat_map}
 use Rattle.csv.specs.Writing.{row_text}

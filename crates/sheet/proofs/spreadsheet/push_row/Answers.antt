@@ -1,4 +1,4 @@
--- Why `push_row` keeps its promise.
+-- Proof that `push_row` meets its contract.
 use Rattle.std.proofs.Common.{◌≡◌, map, string_bytes, IsUtf8, sym, subst}
 use Rattle.csv.specs.Writing.{row_text}
 use Rattle.sheet.specs.Spreadsheet.{writer}

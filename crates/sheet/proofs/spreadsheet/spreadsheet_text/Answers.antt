@@ -1,4 +1,4 @@
--- Why `spreadsheet_text` keeps its promise.
+-- Proof that `spreadsheet_text` meets its contract.
 use Rattle.std.specs.Prelude.{codes, map}
 use Rattle.sheet.specs.declared.spreadsheet.Line.TheVariants.{NonTransferable, Lost}
 use Rattle.sheet.specs.Entries.{shown}

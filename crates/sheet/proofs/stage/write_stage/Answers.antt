@@ -1,4 +1,4 @@
--- Why `write_stage` keeps its promise.
+-- Proof that `write_stage` meets its contract.
 use Rattle.sheet.proofs.Writing.{Writes-then, Writes-failed, Writes-front}
 use Rattle.sheet.proofs.stage.write_stage.Goals as goal
 

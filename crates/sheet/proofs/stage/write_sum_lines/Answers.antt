@@ -1,4 +1,4 @@
--- Why `write_sum_lines` keeps its promise.
+-- Proof that `write_sum_lines` meets its contract.
 use Rattle.sheet.proofs.Writing.{Writes-then, Writes-failed, Writes-front}
 use Rattle.sheet.proofs.stage.write_sum_lines.Goals as goal
 

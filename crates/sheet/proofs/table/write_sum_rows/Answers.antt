@@ -1,4 +1,4 @@
--- Why `write_sum_rows` keeps its promise.
+-- Proof that `write_sum_rows` meets its contract.
 use Rattle.sheet.proofs.Writing.{Writes-then, Writes-failed, Writes-front}
 use Rattle.sheet.proofs.table.write_sum_rows.Goals as goal
 

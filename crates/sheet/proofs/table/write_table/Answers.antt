@@ -1,4 +1,4 @@
--- Why `write_table` keeps its promise.
+-- Proof that `write_table` meets its contract.
 use Rattle.sheet.proofs.Writing.{Writes-then, Writes-failed, Writes-front}
 use Rattle.sheet.proofs.table.write_table.Goals as goal
 

@@ -1,4 +1,4 @@
--- Why `write_table_at` keeps its promise.
+-- Proof that `write_table_at` meets its contract.
 use Rattle.std.proofs.Common.{◌≡◌, ◌==◌, ◌%◌, true, eq-eqb}
 use Rattle.sheet.proofs.table.write_table_at.Goals as goal
 

@@ -1,4 +1,4 @@
--- Why `write_tables` keeps its promise.
+-- Proof that `write_tables` meets its contract.
 use Rattle.std.proofs.Common.{length}
 use Rattle.sheet.specs.Entries.{shown}
 use Rattle.sheet.specs.Table.{table_at}

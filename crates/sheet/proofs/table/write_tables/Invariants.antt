@@ -1,4 +1,4 @@
--- What holds each time round the loop of `write_tables`.
+-- The invariant of the loop in `write_tables`.
 use Rattle.std.proofs.Common.{take, length, Ok}
 use Rattle.std.specs.List.{flat_map, range_with_len}
 use Rattle.streams.specs.declared.streams.Broken.{Broken}

@@ -1,11 +1,11 @@
--- Why `commit_copy` keeps its promise.
+-- Proof that `commit_copy` meets its contract.
 use Rattle.std.proofs.Common.{rules, ◌≡◌, arith}
 use Rattle.sqlite.specs.Held.{state}
 use Rattle.sqlite.specs.State.{HasCleanDisk, Survives}
 use Rattle.tables.specs.Contents.{Rests, Sees, Stores}
 use Rattle.tables.specs.Making.{SeesNothing}
 use Rattle.rowcheck.specs.States.{state_of, tabulated}
-use Rattle.store.specs.Offices.{tables_with}
+use Rattle.store.specs.StateTables.{tables_with}
 use Rattle.tables.proofs.StopLemmas.{rests_committed, survives_storing}
 use Rattle.store.proofs.copying.commit_copy.Goals as goal
 
@@ -13,7 +13,7 @@ pub returns-in_err-write_whole_office : goal.returns-in_err-write_whole_office
 returns-in_err-write_whole_office g c = record {
   done = λ clean x was. search rules;
   survives = λ x was. search rules;
-  wears = search rules;
+  keeps_connection = search rules;
   clean
       = search rules;
   outside = search rules;
@@ -34,7 +34,7 @@ returns-in_err-commit g c =
           survives_storing (tables_with (state_of c.args.rows.now) (tabulated c.args.rows.now)) (state g.T.Store c.args.copy.now)
           (state g.T.Store c.write_whole_office.new.tx.conn.now) (state g.T.Store c.commit.new.self.0) both (λ honest. c.in_ok-write_whole_office.ensures.writes (before honest) tt begun) in
           search (rules, it);
-      wears = search rules;
+      keeps_connection = search rules;
       clean = search rules;
       outside = search rules;
       cause = search rules;
@@ -63,7 +63,7 @@ returns g c =
           survives_storing (tables_with (state_of c.args.rows.now) (tabulated c.args.rows.now)) (state g.T.Store c.args.copy.now)
           (state g.T.Store c.write_whole_office.new.tx.conn.now) (state g.T.Store c.commit.new.self.0) both (λ honest. c.in_ok-write_whole_office.ensures.writes (before honest) tt begun) in
           search (rules, it);
-      wears = search rules;
+      keeps_connection = search rules;
       clean = search rules;
       outside = search rules;
       cause = search rules;

@@ -1,10 +1,10 @@
--- Why `copy` keeps its promise.
+-- Proof that `copy` meets its contract.
 use Rattle.std.proofs.Common.{◌≡◌, inl, ap, ◌∙◌, subst, rules}
 use Rattle.sqlite.specs.Held.{state}
 use Rattle.register.specs.Offices.{OfficeState}
 use Rattle.rowcheck.specs.States.{state_of, tabulated}
 use Rattle.store.specs.Copies.{LeavesNoneOrAll, holdings_of}
-use Rattle.store.specs.Offices.{IsAt}
+use Rattle.store.specs.StateTables.{IsAt}
 use Rattle.store.proofs.ReopenLemmas.{at_left, left_ours, left_told, left_failed}
 use Rattle.store.proofs.CopyLemmas.{copy_is_at, copy_stops, copy_whole, read_left}
 use Rattle.store.proofs.copying.copy.Goals as goal
@@ -60,7 +60,7 @@ returns-in-Ok-commit_copy g c =
       taken = search rules;
       inside = search rules;
       inside_too = search rules;
-      wears = c.commit_copy.ensures.wears;
+      keeps_connection = c.commit_copy.ensures.keeps_connection;
       clean = c.commit_copy.ensures.clean;
       outside = λ was. c.checked_rows.ensures.outside;
       outside_too = λ was. c.commit_copy.ensures.outside;
@@ -97,7 +97,7 @@ returns-in-Ok g c =
       taken = search rules;
       inside = search rules;
       inside_too = search rules;
-      wears = c.commit_copy.ensures.wears;
+      keeps_connection = c.commit_copy.ensures.keeps_connection;
       clean = c.commit_copy.ensures.clean;
       outside = λ was. c.checked_rows.ensures.outside;
       outside_too = λ was. c.commit_copy.ensures.outside;
@@ -122,7 +122,7 @@ returns g c =
       taken = search rules;
       inside = search rules;
       inside_too = search rules;
-      wears = search rules;
+      keeps_connection = search rules;
       clean = λ honest. honest;
       outside = λ was. c.checked_rows.ensures.outside;
       outside_too = λ was. was;

@@ -1,4 +1,4 @@
--- What the loop of `keyings_among` keeps.
+-- The invariant of the loop in `keyings_among`.
 use Rattle.std.proofs.Common.{◌≡◌, ◌≤◌, ◌+◌, length, map, drop}
 use Rattle.std.specs.List.{filter}
 use Rattle.register.specs.Offices.{keyed_entry}

@@ -1,4 +1,4 @@
--- Why `all_papers` keeps its promise.
+-- Proof that `all_papers` meets its contract.
 use Rattle.std.proofs.Common.{refl, arith}
 use Rattle.tables.specs.declared.table.Table.TheVariants.{Batch, Keying, Verdict}
 use Rattle.store.specs.EntryRows.{IsBatchRow, IsKeyedRow, IsJudgedRow}

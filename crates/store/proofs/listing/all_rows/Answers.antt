@@ -1,4 +1,4 @@
--- Why `all_rows` keeps its promise.
+-- Proof that `all_rows` meets its contract.
 use Rattle.std.proofs.Common.{arith, refl}
 use Rattle.tables.specs.declared.table.Table.TheVariants.{Third}
 use Rattle.store.specs.EntryRows.{IsThirdRow}

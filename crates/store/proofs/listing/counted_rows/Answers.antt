@@ -1,4 +1,4 @@
--- Why `counted_rows` keeps its promise.
+-- Proof that `counted_rows` meets its contract.
 use Rattle.std.proofs.Common.{refl, arith}
 use Rattle.tables.specs.declared.table.Table.TheVariants.{Bundle, Vote}
 use Rattle.store.specs.EntryRows.{IsPlacedRow, IsFigureRow}

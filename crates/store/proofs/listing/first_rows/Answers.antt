@@ -1,4 +1,4 @@
--- Why `first_rows` keeps its promise.
+-- Proof that `first_rows` meets its contract.
 use Rattle.std.proofs.Common.{refl, arith}
 use Rattle.tables.specs.declared.table.Table.TheVariants.{Ward, Candidate, Lot, Receipt}
 use Rattle.store.specs.EntryRows.{IsWardRow, IsCandidateRow, IsLotRow, IsReceiptRow}

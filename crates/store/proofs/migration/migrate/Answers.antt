@@ -1,4 +1,4 @@
--- Why `migrate` keeps its promise.
+-- Proof that `migrate` meets its contract.
 use Rattle.std.proofs.Common.{rules}
 use Rattle.sqlite.specs.Held.{state}
 use Rattle.store.proofs.MigrationLemmas.{moved_from, stops_from, refuses_from, already_from}
@@ -22,7 +22,7 @@ returns g c =
       told = e.told;
       fails = e.fails;
       unchanged = e.unchanged;
-      wears = e.wears;
+      keeps_connection = e.keeps_connection;
       clean = e.clean;
       inside = search rules;
       outside = λ _. e.outside;

@@ -1,8 +1,8 @@
--- Why `migrate_older` keeps its promise.
+-- Proof that `migrate_older` meets its contract.
 use Rattle.std.proofs.Common.{inl, inr}
 use Rattle.std.proofs.lemmas.Result.{err_from_is_err_and}
 use Rattle.sqlite.specs.Held.{state}
-use Rattle.store.proofs.KeepLemmas.{rests_is_at, reads_wear, wears_then}
+use Rattle.store.proofs.KeepLemmas.{rests_is_at, reads_connection, connection_then}
 use Rattle.store.proofs.MigrationLemmas.{rests_older, older_leaves, store_older, broken}
 use Rattle.store.proofs.migration.migrate_older.Goals as goal
 
@@ -60,14 +60,15 @@ returns-in_err-commit_migration-clause-unchanged g c =
     let p = err_from_is_err_and c.from_residual-in_err-commit_migration.result c.from_residual-in_err-commit_migration.ensures.1 in
     rw (p.1, p.2) (broken _ _ _ c.in_err-commit_migration.ensures.cause)
 
-pub returns-clause-wears : goal.returns-clause-wears
-returns-clause-wears g c = wears_then _ _ _ c.commit_migration.ensures.clean (reads_wear _ _ c.read_older.ensures.reads) c.commit_migration.ensures.wears
+pub returns-clause-keeps_connection : goal.returns-clause-keeps_connection
+returns-clause-keeps_connection g c = connection_then _ _ _ c.commit_migration.ensures.clean (reads_connection _ _ c.read_older.ensures.reads) c.commit_migration.ensures.keeps_connection
 
-pub returns-in_err-commit_migration-clause-wears : goal.returns-in_err-commit_migration-clause-wears
-returns-in_err-commit_migration-clause-wears g c = wears_then _ _ _ c.commit_migration.ensures.clean (reads_wear _ _ c.read_older.ensures.reads) c.commit_migration.ensures.wears
+pub returns-in_err-commit_migration-clause-keeps_connection : goal.returns-in_err-commit_migration-clause-keeps_connection
+returns-in_err-commit_migration-clause-keeps_connection g c = connection_then _ _ _ c.commit_migration.ensures.clean (reads_connection _ _ c.read_older.ensures.reads)
+    c.commit_migration.ensures.keeps_connection
 
-pub returns-in_err-older-clause-wears : goal.returns-in_err-older-clause-wears
-returns-in_err-older-clause-wears g c = reads_wear _ _ c.read_older.ensures.reads
+pub returns-in_err-older-clause-keeps_connection : goal.returns-in_err-older-clause-keeps_connection
+returns-in_err-older-clause-keeps_connection g c = reads_connection _ _ c.read_older.ensures.reads
 
 pub returns-in_err-older-clause-fails : goal.returns-in_err-older-clause-fails
 returns-in_err-older-clause-fails g c clean db is office rests =

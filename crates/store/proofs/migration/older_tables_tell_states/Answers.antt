@@ -1,4 +1,4 @@
--- Why `older_tables_tell_states` keeps its promise.
+-- Proof that `older_tables_tell_states` meets its contract.
 use Rattle.store.proofs.MigrationLemmas.{same_older, older_once, older_again}
 use Rattle.store.proofs.migration.older_tables_tell_states.Goals as goal
 

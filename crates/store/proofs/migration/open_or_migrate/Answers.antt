@@ -1,7 +1,7 @@
--- Why `open_or_migrate` keeps its promise.
+-- Proof that `open_or_migrate` meets its contract.
 use Rattle.std.proofs.Common.{inl, inr}
 use Rattle.sqlite.specs.Held.{state}
-use Rattle.store.proofs.KeepLemmas.{opened_is_at, reads_wear, wears_then}
+use Rattle.store.proofs.KeepLemmas.{opened_is_at, reads_connection, connection_then}
 use Rattle.store.proofs.TellLemmas.{state_version}
 use Rattle.store.proofs.MigrationLemmas.{leaves_later, told_at_once, if_told_later, if_failed_later, if_read_first, two_versions, state_ours}
 use Rattle.store.proofs.migration.open_or_migrate.Goals as goal
@@ -14,8 +14,8 @@ returns-in-Ok-clause-opened g c clean db ours is rests =
 pub returns-in-Ok-clause-leaves : goal.returns-in-Ok-clause-leaves
 returns-in-Ok-clause-leaves g c clean db ours is rests trees may = inl (c.check.ensures.reads.leaves clean trees may)
 
-pub returns-in-Ok-clause-wears : goal.returns-in-Ok-clause-wears
-returns-in-Ok-clause-wears g c = reads_wear _ _ c.check.ensures.reads
+pub returns-in-Ok-clause-keeps_connection : goal.returns-in-Ok-clause-keeps_connection
+returns-in-Ok-clause-keeps_connection g c = reads_connection _ _ c.check.ensures.reads
 
 pub returns-in-OlderSchema-clause-opened : goal.returns-in-OlderSchema-clause-opened
 returns-in-OlderSchema-clause-opened g c clean db ours is rests =
@@ -49,8 +49,8 @@ pub returns-in-OlderSchema-clause-unchanged : goal.returns-in-OlderSchema-clause
 returns-in-OlderSchema-clause-unchanged g c = if_read_first c.migrate_older.result (state g.S.Store c.args.conn.now) (state g.S.Store c.check.new.conn)
     (state g.S.Store c.migrate_older.new.conn) c.check.ensures.reads c.migrate_older.ensures.unchanged
 
-pub returns-in-OlderSchema-clause-wears : goal.returns-in-OlderSchema-clause-wears
-returns-in-OlderSchema-clause-wears g c = wears_then _ _ _ c.migrate_older.ensures.clean (reads_wear _ _ c.check.ensures.reads) c.migrate_older.ensures.wears
+pub returns-in-OlderSchema-clause-keeps_connection : goal.returns-in-OlderSchema-clause-keeps_connection
+returns-in-OlderSchema-clause-keeps_connection g c = connection_then _ _ _ c.migrate_older.ensures.clean (reads_connection _ _ c.check.ensures.reads) c.migrate_older.ensures.keeps_connection
 
 pub returns-in_default-clause-leaves : goal.returns-in_default-clause-leaves
 returns-in_default-clause-leaves g c clean db ours is rests trees may = inl (c.check.ensures.reads.leaves clean trees may)
@@ -61,8 +61,8 @@ returns-in_default-clause-told g c clean db ours is rests = told_at_once db c.in
 pub returns-in_default-clause-unchanged : goal.returns-in_default-clause-unchanged
 returns-in_default-clause-unchanged g c = inr (inr c.check.ensures.reads)
 
-pub returns-in_default-clause-wears : goal.returns-in_default-clause-wears
-returns-in_default-clause-wears g c = reads_wear _ _ c.check.ensures.reads
+pub returns-in_default-clause-keeps_connection : goal.returns-in_default-clause-keeps_connection
+returns-in_default-clause-keeps_connection g c = reads_connection _ _ c.check.ensures.reads
 
 pub returns-in-OlderSchema-clause-fails : goal.returns-in-OlderSchema-clause-fails
 returns-in-OlderSchema-clause-fails g c clean db ours is rests =
@@ -70,7 +70,7 @@ returns-in-OlderSchema-clause-fails g c clean db ours is rests =
     let told = rw c.in-OlderSchema.is at (c.in-Err.ensures.told before db ours rests) in
     let mid = c.check.ensures.reads.rests before (c.in-Err.ensures.older before db ours rests c.in-OlderSchema.is) db rests in
     if_failed_later c.migrate_older.result db (state g.S.Store c.args.conn.now) (state g.S.Store c.check.new.conn) (state g.S.Store c.migrate_older.new.conn)
-    c.check.ensures.reads before c.migrate_older.ensures.wears.counts (c.migrate_older.ensures.fails clean db is told.1 mid)
+    c.check.ensures.reads before c.migrate_older.ensures.keeps_connection.counts (c.migrate_older.ensures.fails clean db is told.1 mid)
 
 pub returns-in_default-clause-fails : goal.returns-in_default-clause-fails
 returns-in_default-clause-fails g c clean db ours is rests = inl (c.in-Err.ensures.fails clean db ours rests)

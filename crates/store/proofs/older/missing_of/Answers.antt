@@ -1,4 +1,4 @@
--- Why `missing_of` keeps its promise.
+-- Proof that `missing_of` meets its contract.
 use Rattle.std.proofs.Common.{◌≡◌, true, false, sym, ◌∙◌, rules}
 use Rattle.register.specs.Tabulated.{tabulation_entries}
 use Rattle.store.proofs.MigrationLemmas.{asked, if_lacking}

@@ -1,4 +1,4 @@
--- Why `older_rows` keeps its promise.
+-- Proof that `older_rows` meets its contract.
 use Rattle.store.proofs.older.older_rows.Goals as goal
 
 pub returns-in-WithCounts-clause-lists : goal.returns-in-WithCounts-clause-lists

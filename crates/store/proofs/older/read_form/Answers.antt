@@ -1,4 +1,4 @@
--- Why `read_form` keeps its promise.
+-- Proof that `read_form` meets its contract.
 use Rattle.std.proofs.lemmas.Result.{err_from_is_err_and}
 use Rattle.rowcheck.specs.States.{state_of, tabulated}
 use Rattle.tables.proofs.MakeLemmas.{first_begins}

@@ -1,4 +1,4 @@
--- Why `check_office` keeps its promise.
+-- Proof that `check_office` meets its contract.
 use Rattle.std.proofs.Common.{subst}
 use Rattle.std.proofs.lemmas.Result.{err_from_is_err_and}
 use Rattle.store.specs.EntryRows.{this_version}

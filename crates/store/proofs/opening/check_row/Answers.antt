@@ -1,4 +1,4 @@
--- Why `check_row` keeps its promise.
+-- Proof that `check_row` meets its contract.
 use Rattle.std.proofs.Common.{◌≡◌, pos, ◌<ℤ◌, arith, rules, FitsSigned, w64}
 use Rattle.std.proofs.lemmas.Int.{ints}
 use Rattle.store.specs.EntryRows.{this_version}

@@ -1,4 +1,4 @@
--- Why `checked_rows` keeps its promise.
+-- Proof that `checked_rows` meets its contract.
 use Rattle.std.proofs.Common.{◌≡◌, true, false, subst, rules}
 use Rattle.std.proofs.lemmas.Result.{err_from_is_err_and}
 use Rattle.sqlite.specs.Held.{state}

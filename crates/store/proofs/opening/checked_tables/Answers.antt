@@ -1,4 +1,4 @@
--- Why `checked_tables` keeps its promise.
+-- Proof that `checked_tables` meets its contract.
 use Rattle.std.proofs.Common.{◌≡◌, true, false, sym, ◌∙◌, rules}
 use Rattle.std.proofs.lemmas.Result.{err_from_is_err_and}
 use Rattle.rowcheck.specs.States.{state_of, tabulated}

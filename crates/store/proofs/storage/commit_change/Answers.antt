@@ -1,4 +1,4 @@
--- Why `commit_change` keeps its promise.
+-- Proof that `commit_change` meets its contract.
 use Rattle.std.proofs.Common.{rules, ◌≡◌, arith}
 use Rattle.sqlite.specs.Held.{state}
 use Rattle.sqlite.specs.State.{HasCleanDisk, Survives}

@@ -1,4 +1,4 @@
--- Why `commit_new_office` keeps its promise.
+-- Proof that `commit_new_office` meets its contract.
 use Rattle.std.proofs.Common.{rules, ◌≡◌, arith}
 use Rattle.sqlite.specs.Held.{state}
 use Rattle.sqlite.specs.State.{HasCleanDisk, Survives}
@@ -6,7 +6,7 @@ use Rattle.tables.specs.Contents.{Rests, Sees, Stores}
 use Rattle.tables.specs.Making.{SeesNothing}
 use Rattle.tables.proofs.StopLemmas.{rests_committed, survives_storing}
 use Rattle.register.specs.Offices.{empty_office}
-use Rattle.store.specs.Offices.{tables_of}
+use Rattle.store.specs.StateTables.{tables_of}
 use Rattle.store.proofs.storage.commit_new_office.Goals as goal
 
 pub returns-in_err-commit-clause-survives : goal.returns-in_err-commit-clause-survives

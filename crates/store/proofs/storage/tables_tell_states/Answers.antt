@@ -1,4 +1,4 @@
--- Why `tables_tell_states` keeps its promise.
+-- Proof that `tables_tell_states` meets its contract.
 use Rattle.store.proofs.StateLemmas.{equal_states, one_state}
 use Rattle.store.proofs.storage.tables_tell_states.Goals as goal
 

@@ -1,4 +1,4 @@
--- Why `read_office` keeps its promise.
+-- Proof that `read_office` meets its contract.
 use Rattle.std.proofs.Common.{rules}
 use Rattle.sqlite.specs.Held.{state}
 use Rattle.rowcheck.specs.States.{state_of}

@@ -1,4 +1,4 @@
--- Why `write_change` keeps its promise.
+-- Proof that `write_change` meets its contract.
 use Rattle.std.proofs.Common.{sym, subst}
 use Rattle.sqlite.specs.Held.{state}
 use Rattle.register.specs.Offices.{OfficeState, receipt_entry}
@@ -7,7 +7,7 @@ use Rattle.register.specs.Tabulated.{TabulationEntries, tabulation_of, addition_
 use Rattle.tables.specs.Contents.{Contents, Sees}
 use Rattle.tables.proofs.SameLemmas.{sees_same}
 use Rattle.tables.proofs.AlterLemmas.{alters_told, alters_both, alters_failed, alters_cut}
-use Rattle.store.specs.Offices.{tables_of, tables_with, SeesState}
+use Rattle.store.specs.StateTables.{tables_of, tables_with, SeesState}
 use Rattle.store.proofs.WriteLemmas.{receipt_put}
 use Rattle.store.proofs.writing.write_change.Goals as goal
 

@@ -1,4 +1,4 @@
--- Why `write_effect` keeps its promise.
+-- Proof that `write_effect` meets its contract.
 use Rattle.std.proofs.Common.{List, map, subst}
 use Rattle.sqlite.specs.Order.{Row}
 use Rattle.register.specs.Offices.{ward_entry, candidate_entry, batch_entry, third_entry, keyed_entry, judged_entry, lot_entry}
@@ -8,7 +8,7 @@ use Rattle.tables.specs.Contents.{SameContents, added_all}
 use Rattle.tables.proofs.ListLemmas.{mapped_twice}
 use Rattle.tables.proofs.AlterLemmas.{alters_same}
 use Rattle.store.specs.EntryRows.{row_of_keyed}
-use Rattle.store.specs.Offices.{tables_with}
+use Rattle.store.specs.StateTables.{tables_with}
 use Rattle.store.proofs.WriteLemmas.{ward_put, phase_put, done_put, candidate_put, candidate_gone, batch_put, round_put, third_put, papers_put, verdict_put, lot_put}
 use Rattle.store.proofs.writing.write_effect.Goals as goal
 

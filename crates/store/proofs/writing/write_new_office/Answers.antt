@@ -1,4 +1,4 @@
--- Why `write_new_office` keeps its promise.
+-- Proof that `write_new_office` meets its contract.
 use Rattle.sqlite.specs.Held.{state}
 use Rattle.tables.specs.Making.{no_contents}
 use Rattle.tables.proofs.SameLemmas.{sees_same}

@@ -1,4 +1,4 @@
--- Why `execute` keeps its promise.
+-- Proof that `execute` meets its contract.
 use Rattle.std.proofs.Common.{Ok, Err, ap}
 use Rattle.sqlite.specs.Held.{state}
 use Rattle.tables.proofs.ContentsLemmas.{keeps}

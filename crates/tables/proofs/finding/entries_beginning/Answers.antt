@@ -1,4 +1,4 @@
--- Why `entries_beginning` keeps its promise.
+-- Proof that `entries_beginning` meets its contract.
 use Rattle.std.proofs.Common.{inl}
 use Rattle.std.proofs.lemmas.Result.{err_from_is_err_and}
 use Rattle.sqlite.specs.Held.{state}

@@ -1,4 +1,4 @@
--- Why `entries_referring` keeps its promise.
+-- Proof that `entries_referring` meets its contract.
 use Rattle.std.proofs.Common.{inl, subst}
 use Rattle.std.proofs.lemmas.Result.{err_from_is_err_and}
 use Rattle.sqlite.specs.Held.{state}

@@ -1,4 +1,4 @@
--- Why `find_entry` keeps its promise.
+-- Proof that `find_entry` meets its contract.
 use Rattle.std.proofs.Common.{inl, inr, ◌∙◌}
 use Rattle.std.proofs.lemmas.Result.{err_from_is_err_and}
 use Rattle.sqlite.specs.Held.{state}

@@ -1,4 +1,4 @@
--- Why `insert` keeps its promise.
+-- Proof that `insert` meets its contract.
 use Rattle.std.proofs.Common.{Ok}
 use Rattle.sqlite.specs.Values.{bound}
 use Rattle.sqlite.specs.Held.{state}

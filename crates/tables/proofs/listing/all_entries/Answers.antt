@@ -1,4 +1,4 @@
--- Why `all_entries` keeps its promise.
+-- Proof that `all_entries` meets its contract.
 use Rattle.std.proofs.Common.{◌≡◌, inl, inr, [], map, refl, sym, subst, ◌∙◌}
 use Rattle.std.proofs.lemmas.Result.{err_from_is_err_and}
 use Rattle.std.specs.List.Sorted.{IsStrictlySortedBy}

@@ -1,4 +1,4 @@
--- Why `entries_of` keeps its promise.
+-- Proof that `entries_of` meets its contract.
 use Rattle.std.proofs.Common.{sym, arith, [], subst, ◌∙◌, inl, inr}
 use Rattle.std.proofs.lemmas.Result.{err_from_is_err_and}
 use Rattle.tables.proofs.ListLemmas.{get_any}

@@ -1,4 +1,4 @@
--- What the loop of `entries_of` keeps.
+-- The invariant of the loop in `entries_of`.
 use Rattle.std.proofs.Common.{◌≡◌, map, take}
 use Rattle.tables.specs.Rows.{at, column_places}
 use Rattle.tables.proofs.listing.entries_of.Given as goal

@@ -1,4 +1,4 @@
--- Why `keyed_rows` keeps its promise.
+-- Proof that `keyed_rows` meets its contract.
 use Rattle.std.proofs.Common.{inl, inr, sym, ◌∙◌, true≢false}
 use Rattle.std.proofs.lemmas.Result.{err_from_is_err_and}
 use Rattle.sqlite.specs.Held.{state}

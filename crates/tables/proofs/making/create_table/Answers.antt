@@ -1,4 +1,4 @@
--- Why `create_table` keeps its promise.
+-- Proof that `create_table` meets its contract.
 use Rattle.std.proofs.Common.{Ok}
 use Rattle.sqlite.specs.Held.{state}
 use Rattle.tables.proofs.MakeLemmas.{table_made}

@@ -1,4 +1,4 @@
--- Why `create_tables` keeps its promise.
+-- Proof that `create_tables` meets its contract.
 use Rattle.std.proofs.Common.{◌≡◌, ◌+◌, ℕ, sym, subst, arith}
 use Rattle.sqlite.specs.Held.{state}
 use Rattle.tables.specs.Making.{no_contents, SeesMade}

@@ -1,4 +1,4 @@
--- What the loop of `create_tables` keeps.
+-- The invariant of the loop in `create_tables`.
 use Rattle.std.proofs.Common.{Ok}
 use Rattle.std.specs.Prelude.{⊤}
 use Rattle.tables.specs.Making.{no_contents, SeesMade}

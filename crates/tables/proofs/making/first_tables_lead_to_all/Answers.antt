@@ -1,4 +1,4 @@
--- Why `first_tables_lead_to_all` keeps its promise.
+-- Proof that `first_tables_lead_to_all` meets its contract.
 use Rattle.sqlite.specs.Held.{state}
 use Rattle.tables.proofs.MakeLemmas.{first_from, first_at, first_begins, begun_first, all_made, first_found}
 use Rattle.tables.proofs.making.first_tables_lead_to_all.Goals as goal

@@ -1,4 +1,4 @@
--- Why `keys_rise` keeps its promise.
+-- Proof that `keys_rise` meets its contract.
 use Rattle.std.proofs.Common.{◌≡◌, false, not, ◌==◌, sym, ap, ◌∙◌, true≢false, arith}
 use Rattle.std.specs.Ordering.{ordering_index}
 use Rattle.tables.proofs.OrderLemmas.{rise_all, fails_there}

@@ -1,4 +1,4 @@
--- What the loop of `keys_rise` keeps.
+-- The invariant of the loop in `keys_rise`.
 use Rattle.std.proofs.Common.{◌≡◌, ℕ, ◌+◌, ◌<◌, get_or, [], Less}
 use Rattle.tables.specs.Rows.{row_cmp}
 use Rattle.tables.proofs.order.keys_rise.Given as goal

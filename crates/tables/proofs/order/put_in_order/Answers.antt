@@ -1,4 +1,4 @@
--- Why `put_in_order` keeps its promise.
+-- Proof that `put_in_order` meets its contract.
 use Rattle.std.proofs.Common.{rules, is_lt}
 use Rattle.std.proofs.lemmas.Result.{on_ok_weaker}
 use Rattle.std.proofs.lemmas.List.Sorted.{ranks_by}

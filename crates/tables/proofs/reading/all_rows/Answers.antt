@@ -1,4 +1,4 @@
--- Why `all_rows` keeps its promise.
+-- Proof that `all_rows` meets its contract.
 use Rattle.std.proofs.Common.{inr}
 use Rattle.std.proofs.lemmas.Result.{err_from_is_err_and}
 use Rattle.tables.proofs.ListingLemmas.{in_order_listed}

@@ -1,4 +1,4 @@
--- Why `query` keeps its promise.
+-- Proof that `query` meets its contract.
 use Rattle.sqlite.specs.Held.{state}
 use Rattle.tables.proofs.ReadLemmas.{only_reads, shown_same}
 use Rattle.tables.proofs.reading.query.Goals as goal

@@ -1,4 +1,4 @@
--- Why `rows_beginning` keeps its promise.
+-- Proof that `rows_beginning` meets its contract.
 use Rattle.std.proofs.Common.{drop, length, ap, sym, ◌∙◌}
 use Rattle.sqlite.specs.Held.{state}
 use Rattle.sqlite.specs.Values.{bound}

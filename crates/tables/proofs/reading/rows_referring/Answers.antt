@@ -1,4 +1,4 @@
--- Why `rows_referring` keeps its promise.
+-- Proof that `rows_referring` meets its contract.
 use Rattle.std.proofs.Common.{[], ◌∷◌}
 use Rattle.sqlite.specs.Held.{state}
 use Rattle.sqlite.specs.Value.{owned}

@@ -1,4 +1,4 @@
--- Why `scanned_rows` keeps its promise.
+-- Proof that `scanned_rows` meets its contract.
 use Rattle.sqlite.specs.Held.{state}
 use Rattle.tables.proofs.Queries.{scan_query}
 use Rattle.tables.proofs.ListingLemmas.{if_scanned}

@@ -1,4 +1,4 @@
--- Why `replace` keeps its promise.
+-- Proof that `replace` meets its contract.
 use Rattle.std.proofs.Common.{Ok}
 use Rattle.sqlite.specs.Values.{bound}
 use Rattle.sqlite.specs.Held.{state}

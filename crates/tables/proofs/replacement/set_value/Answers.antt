@@ -1,4 +1,4 @@
--- Why `set_value` keeps its promise.
+-- Proof that `set_value` meets its contract.
 use Rattle.std.proofs.Common.{Ok}
 use Rattle.sqlite.specs.Values.{bound}
 use Rattle.sqlite.specs.Held.{state}

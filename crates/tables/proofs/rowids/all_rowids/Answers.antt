@@ -1,4 +1,4 @@
--- Why `all_rowids` keeps its promise.
+-- Proof that `all_rowids` meets its contract.
 use Rattle.sqlite.specs.Held.{state}
 use Rattle.tables.proofs.Queries.{rowids_query}
 use Rattle.tables.proofs.ListingLemmas.{if_rowids_listed}

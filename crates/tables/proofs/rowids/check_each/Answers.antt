@@ -1,4 +1,4 @@
--- Why `check_each` keeps its promise.
+-- Proof that `check_each` meets its contract.
 use Rattle.std.proofs.Common.{◌-◌, ◌<◌, length, inr, refl, arith, rules, FitsSigned, w64}
 use Rattle.std.proofs.lemmas.Int.{ints}
 use Rattle.tables.proofs.RowidLemmas.{rowid_there, ints_more, rise_more, fall_there}

@@ -1,4 +1,4 @@
--- What the loop of `check_each` keeps.
+-- The invariant of the loop in `check_each`.
 use Rattle.std.proofs.Common.{◌≡◌, ℕ, ◌+◌, ◌<◌, get_or, [], true, Less}
 use Rattle.sqlite.specs.Order.{value_cmp}
 use Rattle.sqlite.specs.View.{is_int}

@@ -1,4 +1,4 @@
--- Why `check_rowids` keeps its promise.
+-- Proof that `check_rowids` meets its contract.
 use Rattle.std.proofs.Common.{◌≡◌, inl, inr, sym, ◌∙◌}
 use Rattle.std.proofs.lemmas.Result.{err_from_is_err_and}
 use Rattle.sqlite.specs.Held.{state}

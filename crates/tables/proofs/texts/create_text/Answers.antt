@@ -1,4 +1,4 @@
--- Why `create_text` keeps its promise.
+-- Proof that `create_text` meets its contract.
 use Rattle.std.proofs.Common.{refl}
 use Rattle.tables.specs.Texts.{create_text}
 use Rattle.tables.proofs.texts.create_text.Goals as goal

@@ -1,4 +1,4 @@
--- Why `update_text` keeps its promise.
+-- Proof that `update_text` meets its contract.
 use Rattle.std.proofs.Common.{refl}
 use Rattle.tables.specs.Texts.{update_text}
 use Rattle.tables.proofs.texts.update_text.Goals as goal

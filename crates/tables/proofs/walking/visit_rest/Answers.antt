@@ -1,4 +1,4 @@
--- Why `visit_rest` keeps its promise.
+-- Proof that `visit_rest` meets its contract.
 use Rattle.std.proofs.Common.{refl, rules, ◌∙◌}
 use Rattle.std.proofs.lemmas.Result.{err_from_is_err_and}
 use Rattle.sqlite.specs.Held.{state}
@@ -11,7 +11,7 @@ rows-init g c = record {
   same_reference = refl;
   outside = λ outside. outside;
   reads = only_reads_itself (state g.S.Store c.args.rows.now.conn.now);
-  walked = λ clean. none_walked g.S.Store g.E.Entries.TABLE g.E.Entries.row_of g.V.Visitor.HasTaken c.args.rows.now.conn.now c.args.visitor.now;
+  walked = λ clean. none_walked g.S.Store g.E.Entries.TABLE g.E.Entries.row_of g.V.Visitor.HasVisited c.args.rows.now.conn.now c.args.visitor.now;
 }
 
 pub rows-preserved : goal.rows-preserved
@@ -23,7 +23,7 @@ rows-preserved g c =
       outside = λ outside. step.outside (inv.outside outside);
       reads = only_reads_then _ _ _ inv.reads step.reads;
       walked = λ clean.
-          next_walked g.S.Store g.E.Entries.TABLE g.E.Entries.row_of g.V.Visitor.HasTaken
+          next_walked g.S.Store g.E.Entries.TABLE g.E.Entries.row_of g.V.Visitor.HasVisited
           c.args.rows.now.conn.now c.rows.rows.conn.now c.visit_next.new.rows.conn.now c.args.visitor.now c.rows.visitor c.visit_next.new.visitor
           (inv.walked (step.reads.clean clean)) (rw c.if-not-branch.false at (c.in_ok-visit_next.ensures.visits clean));
     }
@@ -36,7 +36,7 @@ returns-in_err-visit_next-clause-cause g c clean key low begun contents rests ki
     let inv = c.rows.invariant in
     let step = c.visit_next.ensures in
     let p = err_from_is_err_and c.from_residual.result c.from_residual.ensures.1 in
-    rw (p.1, p.2) (walk_fails g.S.Store g.E.Entries.TABLE g.E.Entries.row_of g.V.Visitor.HasTaken key low contents
+    rw (p.1, p.2) (walk_fails g.S.Store g.E.Entries.TABLE g.E.Entries.row_of g.V.Visitor.HasVisited key low contents
     c.args.rows.now.conn.now c.args.visitor.now begun rests g.E.Entries.is_row g.V.Visitor.Stops
     c.rows.rows.conn.now c.visit_next.new.rows.conn.now c.rows.visitor (inv.walked (step.reads.clean clean)) inv.reads step.reads clean all _ kinds (c.in_err-visit_next.ensures.cause clean))
 
@@ -45,7 +45,7 @@ returns-in_err-visit_next-clause-cause_alone g c clean key low begun contents re
     let inv = c.rows.invariant in
     let step = c.visit_next.ensures in
     let p = err_from_is_err_and c.from_residual.result c.from_residual.ensures.1 in
-    rw (p.1, p.2) (walk_cause g.S.Store g.E.Entries.TABLE g.E.Entries.row_of g.V.Visitor.HasTaken key low contents
+    rw (p.1, p.2) (walk_cause g.S.Store g.E.Entries.TABLE g.E.Entries.row_of g.V.Visitor.HasVisited key low contents
     c.args.rows.now.conn.now c.args.visitor.now begun rests g.E.Entries.is_row g.V.Visitor.Stops
     c.rows.rows.conn.now c.visit_next.new.rows.conn.now c.rows.visitor (inv.walked (step.reads.clean clean)) inv.reads step.reads clean all _ (c.in_err-visit_next.ensures.cause clean))
 
@@ -63,7 +63,7 @@ returns-then-not-branch-clause-finds g c clean key low begun contents rests =
     let inv = c.rows.invariant in
     let step = c.visit_next.ensures in
     let before = step.reads.clean clean in
-    all_walked g.S.Store g.E.Entries.TABLE g.E.Entries.row_of g.V.Visitor.HasTaken key low contents
+    all_walked g.S.Store g.E.Entries.TABLE g.E.Entries.row_of g.V.Visitor.HasVisited key low contents
     c.args.rows.now.conn.now c.args.visitor.now begun rests c.rows.rows.conn.now c.visit_next.new.rows.conn.now c.rows.visitor
     c.visit_next.new.visitor (inv.walked before) inv.reads before (step.reads.was_open clean (c.in_ok-visit_next.ensures.opens clean))
     (rw c.if-not-branch.true at (c.in_ok-visit_next.ensures.visits clean))

@@ -1,4 +1,4 @@
--- What the loop of `visit_rest` keeps.
+-- The invariant of the loop in `visit_rest`.
 use Rattle.std.proofs.Common.{◌≡◌, false}
 use Rattle.sqlite.specs.State.{HasCleanDisk}
 use Rattle.sqlite.specs.Held.{state}
@@ -12,5 +12,5 @@ invariant-rows g l = record {
   outside : l.initial.rows.conn.now.in_transaction ≡ false → l.rows.conn.now.in_transaction ≡ false;
   reads : OnlyReads (state g.S.Store l.initial.rows.conn.now) (state g.S.Store l.rows.conn.now);
   walked : HasCleanDisk (state g.S.Store l.rows.conn.now)
-      → HasWalked g.S.Store g.E.Entries.TABLE g.E.Entries.row_of g.V.Visitor.HasTaken l.initial.rows.conn.now l.rows.conn.now l.initial.visitor l.visitor;
+      → HasWalked g.S.Store g.E.Entries.TABLE g.E.Entries.row_of g.V.Visitor.HasVisited l.initial.rows.conn.now l.rows.conn.now l.initial.visitor l.visitor;
 }

@@ -1,4 +1,4 @@
--- Why `walk_beginning` keeps its promise.
+-- Proof that `walk_beginning` meets its contract.
 use Rattle.std.proofs.Common.{◌≡◌, ◌⊎◌, inl, length, true, rules}
 use Rattle.std.specs.List.{AllByRecursion}
 use Rattle.std.proofs.lemmas.Result.{err_from_is_err_and}
@@ -88,7 +88,7 @@ returns-clause-finds g c clean contents rests =
     let last = c.visit_rest.new.rows.conn.now in
     let honest : HasCleanDisk (state g.S.Store last) = search rules in
     walk_tells g.S.Store t n key (mapped_length _ c.args.key.now) c.requires.key c.args.conn.now c.in_ok-rows.rows.conn.now last begins survives c.visit_rest.ensures.reads
-    (λ k d. TakesFound g.V.Visitor.HasTaken g.E.Entries.row_of t (begins_with k) d c.args.visitor c.visit_rest.new.visitor) contents honest rests (c.in_ok-visit_rest.ensures.finds honest)
+    (λ k d. TakesFound g.V.Visitor.HasVisited g.E.Entries.row_of t (begins_with k) d c.args.visitor c.visit_rest.new.visitor) contents honest rests (c.in_ok-visit_rest.ensures.finds honest)
 
 pub returns-clause-reads : goal.returns-clause-reads
 returns-clause-reads g c =

@@ -1,4 +1,4 @@
--- Why `add_both` keeps its promise.
+-- Proof that `add_both` meets its contract.
 use Rattle.tables.proofs.AlterLemmas.{alters_sees, alters_failed}
 use Rattle.tables.proofs.writing.add_both.Goals as goal
 

@@ -1,4 +1,4 @@
--- What the loop of `add_entries` keeps.
+-- The invariant of the loop in `add_entries`.
 use Rattle.std.proofs.Common.{Ok, map, take}
 use Rattle.tables.specs.Contents.{Sees, added_all}
 use Rattle.tables.specs.Writing.{Alters}

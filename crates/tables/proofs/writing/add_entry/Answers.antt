@@ -1,4 +1,4 @@
--- Why `add_entry` keeps its promise.
+-- Proof that `add_entry` meets its contract.
 use Rattle.tables.proofs.AlterLemmas.{alters_refused}
 use Rattle.tables.proofs.writing.add_entry.Goals as goal
 

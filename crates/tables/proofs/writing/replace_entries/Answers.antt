@@ -1,4 +1,4 @@
--- Why `replace_entries` keeps its promise.
+-- Proof that `replace_entries` meets its contract.
 use Rattle.std.proofs.Common.{◌≡◌, List, [], map, get_or, sym, ap, subst, ◌∙◌, arith}
 use Rattle.std.proofs.lemmas.List.{take_all}
 use Rattle.sqlite.specs.Order.{Row}

@@ -1,4 +1,4 @@
--- What the loop of `replace_entries` keeps.
+-- The invariant of the loop in `replace_entries`.
 use Rattle.std.proofs.Common.{Ok, map, take}
 use Rattle.tables.specs.Contents.{Sees, replaced_all}
 use Rattle.tables.specs.Writing.{Alters}

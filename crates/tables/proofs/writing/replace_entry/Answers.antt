@@ -1,4 +1,4 @@
--- Why `replace_entry` keeps its promise.
+-- Proof that `replace_entry` meets its contract.
 use Rattle.tables.proofs.AlterLemmas.{alters_refused}
 use Rattle.tables.proofs.writing.replace_entry.Goals as goal
 

@@ -1,4 +1,4 @@
--- Of the proof of `quota`: what is shown by hand.
+-- Parts of the proof of `quota` that are done by hand.
 use Rattle.std.proofs.Common.{rules, ◌≡◌, ◌+◌, ◌*◌, ◌/◌, subst}
 use Rattle.votes.specs.Units.{one_vote, IsQuota, quota_of}
 use Rattle.votes.proofs.Quotas.{quota_of-IsQuota}

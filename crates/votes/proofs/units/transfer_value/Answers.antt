@@ -1,4 +1,4 @@
--- Of the proof of `transfer_value`: what is shown by hand.
+-- Parts of the proof of `transfer_value` that are done by hand.
 use Rattle.std.proofs.Common.{arith}
 use Rattle.votes.proofs.Cuts.{cuts_within}
 use Rattle.votes.proofs.units.transfer_value.Goals as goal

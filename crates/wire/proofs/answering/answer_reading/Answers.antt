@@ -1,13 +1,16 @@
 -- Why `answer_reading` keeps its promise.
-use Rattle.std.proofs.Common.{ap}
+use Rattle.std.proofs.Common.{ap, sym}
+use Rattle.sqlite.specs.Held.{state}
 use Rattle.std.specs.Prelude.{string_bytes}
-use Rattle.register.specs.Standings.{paper_entry}
+use Rattle.register.specs.Status.{paper_entry}
 use Rattle.office.specs.Reads.{paper_told}
 use Rattle.office.specs.Sheets.{text_told}
 use Rattle.office.specs.declared.sheets.Text.TheVariants as text
 use Rattle.wire.specs.Responses.{text_response}
 use Rattle.wire.specs.Serving.{paper_response, reading_response}
-use Rattle.wire.proofs.AnswerLemmas.{Readies-read}
+use Rattle.wire.specs.Requests.{reading}
+use Rattle.wire.specs.declared.target.Resource.TheVariants.{Office}
+use Rattle.wire.proofs.AnswerLemmas.{Readies-read, Readies-same}
 use Rattle.wire.proofs.answering.answer_reading.Goals as goal
 
 pub returns-in-Sheet-clause-answers : goal.returns-in-Sheet-clause-answers
@@ -24,3 +27,8 @@ pub returns-in-Candidates-clause-answers : goal.returns-in-Candidates-clause-ans
 returns-in-Candidates-clause-answers g c = λ clean open_before s at.
     Readies-read s c.args.what (paper_response c.in-Candidates.batch) paper_entry (paper_told s c.in-Candidates.clerk c.in-Candidates.batch) c.paper.result c.answer_paper.result _ _
     (ap (reading_response s) c.in-Candidates.is) (c.paper.ensures.reads clean open_before s at) c.answer_paper.ensures
+
+pub returns-in-Office-clause-answers : goal.returns-in-Office-clause-answers
+returns-in-Office-clause-answers g c = λ clean open_before s at.
+    Readies-same s (reading (Office c.in-Office.read)) (reading c.args.what) c.answer_office.result c.answer_office.new.office.closed (state g.S.Store c.answer_office.new.office.held)
+    (ap reading (sym c.in-Office.is)) (c.answer_office.ensures.answers clean open_before s at)

@@ -2,7 +2,7 @@
 use Rattle.std.proofs.Common.{◌∙◌, ap}
 use Rattle.std.proofs.lemmas.Result.{IfOk-weaker}
 use Rattle.serde_json.specs.Written.{compact_text, has_float}
-use Rattle.register.specs.Standings.{paper_entry}
+use Rattle.register.specs.Status.{paper_entry}
 use Rattle.wire.proofs.ReplyLemmas.{paper-float}
 use Rattle.wire.proofs.candidates.paper_body.Goals as goal
 

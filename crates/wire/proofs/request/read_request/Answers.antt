@@ -3,7 +3,7 @@ use Rattle.wire.specs.Gates.{settings_entry}
 use Rattle.wire.proofs.RequestLemmas.{AsksOneThing-all, DeniesForeign-all, TakesOwn-all}
 use Rattle.wire.proofs.GateLemmas.{AsksByHolder-all}
 use Rattle.wire.proofs.PathLemmas.{NamesItsOwn-all}
-use Rattle.wire.proofs.ServingLemmas.{IsDeniedAlike-all, IsShownAlike-all}
+use Rattle.wire.proofs.ServingLemmas.{IsConsoleAlike-all, IsDeniedAlike-all, IsShownAlike-all}
 use Rattle.wire.proofs.request.read_request.Goals as goal
 
 pub returns-clause-one : goal.returns-clause-one
@@ -26,3 +26,6 @@ returns-clause-held g c = AsksByHolder-all
 
 pub returns-clause-shown : goal.returns-clause-shown
 returns-clause-shown g c = IsShownAlike-all
+
+pub returns-clause-console : goal.returns-clause-console
+returns-clause-console g c = IsConsoleAlike-all

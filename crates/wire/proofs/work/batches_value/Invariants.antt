@@ -1,7 +1,7 @@
 -- What holds each time round the loop of `batches_value`.
 use Rattle.std.proofs.Common.{◌≡◌, map, take}
 use Rattle.serde_json.specs.View.{view}
-use Rattle.register.specs.Standings.{work_entry}
+use Rattle.register.specs.Status.{work_entry}
 use Rattle.wire.specs.Replies.{work_data}
 use Rattle.wire.proofs.work.batches_value.Given as goal
 

@@ -2,7 +2,7 @@
 use Rattle.std.proofs.Common.{◌∙◌, ap, map}
 use Rattle.std.proofs.lemmas.Result.{IfOk-weaker}
 use Rattle.serde_json.specs.Written.{compact_text, has_float}
-use Rattle.register.specs.Standings.{work_entry}
+use Rattle.register.specs.Status.{work_entry}
 use Rattle.wire.proofs.ReplyLemmas.{clerk-float}
 use Rattle.wire.proofs.work.work_body.Goals as goal
 

@@ -1,9 +1,9 @@
--- Why `add` keeps its promise.
+-- Proof that `add` meets its contract.
 use Rattle.std.proofs.Common.{◌≡◌, ◌∙◌, true, false, ap, subst, sym, arith}
 use Rattle.std.specs.Prelude.{◌==◌}
 use Rattle.std.specs.List.{list_any}
 use Rattle.paper.specs.Ranking.{IsRanking}
-use Rattle.checker.specs.Views.{ranks_of}
+use Rattle.checker.specs.Values.{ranks_of}
 use Rattle.checker.proofs.RankLemmas.{named_twice, ranking_more}
 use Rattle.checker.proofs.ranks.Ranks.add.Goals as goal
 

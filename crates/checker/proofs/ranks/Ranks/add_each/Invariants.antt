@@ -1,8 +1,8 @@
--- What holds each time round the loop of `add_each`: the words that are left, behind those so far, name whom all do.
+-- The invariant of the loop in `add_each`: those so far and the remaining words make up all of them.
 use Rattle.std.proofs.Common.{◌≡◌, map, drop}
 use Rattle.paper.specs.Ranking.{IsRanking}
 use Rattle.checker.specs.Ranks.{with_each}
-use Rattle.checker.specs.Views.{ranks_of}
+use Rattle.checker.specs.Values.{ranks_of}
 use Rattle.checker.proofs.ranks.Ranks.add_each.Given as goal
 
 abbrev pub invariant-loop-word : goal.invariant-loop-word

@@ -1,4 +1,4 @@
--- Why `BundleBook::places` keeps its promise.
+-- Proof that `BundleBook::places` meets its contract.
 use Rattle.std.proofs.Common.{reverse, sym, subst, ap, ◌∙◌}
 use Rattle.std.specs.List.Sorted.{IsPermutation}
 use Rattle.count.specs.Books.{BundledBook}

@@ -1,9 +1,9 @@
--- Of the proof of `resume`: what is shown by hand.
+-- Parts of the proof of `resume` that are done by hand.
 use Rattle.std.proofs.Common.{◌≡◌, ◌∙◌, List, reverse, refl, sym, ap, subst}
 use Rattle.count.specs.Bundles.{papers_of}
 use Rattle.count.specs.Law.Contest.{Contest, contest_for, IsContest}
 use Rattle.count.specs.Law.Right.{IsRightByItself}
-use Rattle.count.specs.Kept.{places_after}
+use Rattle.count.specs.StoredCounts.{places_after}
 use Rattle.count.specs.Inside.Placing.{contest_on}
 use Rattle.count.specs.declared.stages.Stage.{Stage}
 use Rattle.count.proofs.BundleBookLemmas.{some-own}

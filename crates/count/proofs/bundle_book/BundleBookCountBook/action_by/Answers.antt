@@ -1,4 +1,4 @@
--- Of the proof of `action_by`: what is shown by hand.
+-- Parts of the proof of `action_by` that are done by hand.
 use Rattle.std.proofs.Common.{◌<◌, List, length, sym, subst}
 use Rattle.count.specs.Inside.Placing.{contest_on}
 use Rattle.count.specs.declared.stages.Stage.{Stage}

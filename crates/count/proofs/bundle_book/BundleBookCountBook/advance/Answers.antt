@@ -1,4 +1,4 @@
--- Of the proof of `advance`: what is shown by hand.
+-- Parts of the proof of `advance` that are done by hand.
 use Rattle.std.proofs.Common.{◌≡◌, ◌<◌, ◌≤◌, List, length, reverse, Some, sym, subst}
 use Rattle.std.specs.List.{AllByRecursion}
 use Rattle.votes.specs.Units.{max_units}
@@ -15,7 +15,7 @@ use Rattle.count.proofs.BundleBookLemmas.{bundled-few, adds-bundled, book-sound,
 use Rattle.count.proofs.bundle_book.BundleBookCountBook.advance.Goals as goal
 use Rattle.count.proofs.bundle_book.BundleBookCountBook.advance.Goals.{In_ok-action, In-Ok}
 
--- the action was drawn by the lot, over the stages that were lent
+-- the action was drawn by the lot, for the borrowed stages
 was : (c : In_ok-action) → let contest : Contest = contest_on c.self.inside.terms c.self.inside.bundles.now in
     drawn contest (reverse c.self.inside.stages.items) c.args.lot (due_after contest (reverse c.self.inside.stages.items)) ≡ Some c.in_ok-action.action
 was c =
@@ -39,7 +39,7 @@ acted_on_bundles-requires-clause-lost c =
     subst (λ (l : List Stage). newest_lost (reverse l) ≤ max_units) (sym c.deref-3.ensures.value)
     (book-lost (contest_on c.self.inside.terms c.self.inside.bundles.now) (reverse c.self.inside.stages.items) c.self.inside.bundles.now c.self.inside.places.items c.self.invariant)
 
--- the action was due in the book, over the places and stages that were lent
+-- the action was due in the book, for the borrowed places and stages
 owed : (c : In-Ok) → let contest : Contest = contest_on c.self.inside.terms c.self.inside.bundles.now in
     drawn contest (reverse c.self.inside.stages.items) c.args.lot (due_after contest (reverse c.self.inside.stages.items)) ≡ Some c.in_ok-action.action →
     IsDueInBook contest (reverse c.deref-3.result.now) c.self.inside.bundles.now c.deref-2.result.now c.in_ok-action.action

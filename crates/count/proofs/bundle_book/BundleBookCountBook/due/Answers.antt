@@ -1,4 +1,4 @@
--- Of the proof of `due`: what is shown by hand.
+-- Parts of the proof of `due` that are done by hand.
 use Rattle.std.proofs.Common.{◌<◌, List, length, sym, subst}
 use Rattle.count.specs.Bundles.{papers_of}
 use Rattle.count.specs.Inside.Placing.{contest_on}

@@ -1,4 +1,4 @@
--- Of the proof of `add_papers`: bundles with papers more are bundles, and so many papers more are there.
+-- Parts of the proof of `add_papers`: bundles remain bundles when papers are added, and the number of papers increases accordingly.
 use Rattle.std.proofs.Common.{length, ap, arith}
 use Rattle.count.specs.Bundles.{papers_of, IsBundle}
 use Rattle.count.proofs.BundleLemmas.{bundles-with_papers, papers-with_papers, length-with_papers}

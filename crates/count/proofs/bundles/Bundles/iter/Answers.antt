@@ -1,4 +1,4 @@
--- Of the proof of `iter`: bundles are told by their papers.
+-- Parts of the proof of `iter`: bundles are determined by their papers.
 use Rattle.std.proofs.Common.{subst}
 use Rattle.count.specs.Bundles.{AreBundles}
 use Rattle.count.proofs.BundleLaws.{same-bundles}

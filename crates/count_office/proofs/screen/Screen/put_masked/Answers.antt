@@ -1,4 +1,4 @@
--- Why `put_masked` keeps its promise: a beginning of what is shown is what is shown of a beginning.
+-- Proof that `put_masked` meets its contract: a prefix of what is shown is what is shown of a prefix.
 use Rattle.std.proofs.Common.{arith, ◌≡◌, ◌≤◌, ◌∙◌, ap, subst, take, length}
 use Rattle.std.proofs.lemmas.List.{length-take}
 use Rattle.std.specs.Io.KnownBytes.{Appends}

@@ -1,4 +1,4 @@
--- Why the line of a batch keeps its promise.
+-- Proof that the line of a batch meets its contract.
 use Rattle.desk.specs.Overviews.{batch_line}
 use Rattle.desk.proofs.overviews.BatchOverviewLined.line.Goals as goal
 

@@ -1,4 +1,4 @@
--- Of the proof of `text`: what is shown by hand.
+-- Parts of the proof of `text` that are done by hand.
 use Rattle.std.proofs.Common.{sym, subst}
 use Rattle.paper.specs.MarksText.{ReadsBack}
 use Rattle.paper.proofs.Spelling.{marked_reads_back}

@@ -1,4 +1,4 @@
--- Of the proof of `bearers`: what is shown by hand.
+-- Parts of the proof of `bearers` that are done by hand.
 use Rattle.std.proofs.Common.{◌+◌, ◌<◌, length, ap, ◌∙◌, arith, refl, subst, length-set}
 use Rattle.std.specs.List.{zip}
 use Rattle.paper.specs.Bearers.{AreBearers}

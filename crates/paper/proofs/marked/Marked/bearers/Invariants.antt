@@ -1,4 +1,4 @@
--- Of the proof of `bearers`: what holds at each round of its loop.
+-- The invariant of the loop in `bearers`.
 use Rattle.std.proofs.Common.{◌≡◌, ◌+◌, take, length}
 use Rattle.std.specs.List.{zip}
 use Rattle.paper.specs.Bearers.{AreBearers}

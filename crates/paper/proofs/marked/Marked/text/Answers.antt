@@ -1,4 +1,4 @@
--- Of the proof of `text`: what is shown by hand.
+-- Parts of the proof of `text` that are done by hand.
 use Rattle.std.proofs.Common.{◌++◌, take, get_or, sym, ap, ◌∙◌}
 use Rattle.paper.specs.MarksText.{field_text}
 use Rattle.paper.proofs.Spelling.{text-more}

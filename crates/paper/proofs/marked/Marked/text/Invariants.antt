@@ -1,4 +1,4 @@
--- Of the proof of `text`: what holds at each round of its loop.
+-- The invariant of the loop in `text`.
 use Rattle.std.proofs.Common.{◌≡◌, take, map, string_bytes}
 use Rattle.std.specs.List.{join_with_byte}
 use Rattle.paper.specs.MarksText.{mark_text}

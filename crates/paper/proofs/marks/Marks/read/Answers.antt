@@ -1,4 +1,4 @@
--- Of the proof of `read`: what is shown by hand.
+-- Parts of the proof of `read` that are done by hand.
 use Rattle.std.proofs.Common.{◌≡◌, false, length, take, codes, bytes_eq, Ok, sym, ap, ◌∙◌}
 use Rattle.paper.specs.Padded.{padded}
 use Rattle.paper.specs.MarksText.{spelling}

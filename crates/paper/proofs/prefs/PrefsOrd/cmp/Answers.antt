@@ -1,4 +1,4 @@
--- Of the proof of `cmp`: what is shown by hand.
+-- Parts of the proof of `cmp` that are done by hand.
 use Rattle.std.proofs.Common.{◌∙◌, ap}
 use Rattle.std.specs.Cmp.Lexicographic.{slice_cmp}
 use Rattle.std.specs.Ordering.{nat_cmp}

@@ -1,4 +1,4 @@
--- Of the proof of `continues`: what is shown by hand.
+-- Parts of the proof of `continues` that are done by hand.
 use Rattle.std.proofs.Common.{◌≡◌, ◌∙◌, sym, inl, inr}
 use Rattle.paper.specs.declared.standing.CandidateStatus.TheVariants.{Continuing, Absent}
 use Rattle.paper.proofs.Standings.{column_or_not}

@@ -1,4 +1,4 @@
--- Of the proof of `new`: what is shown by hand.
+-- Parts of the proof of `new` that are done by hand.
 use Rattle.std.proofs.Common.{◌+◌, ◌≡◌, refl}
 use Rattle.paper.specs.Columns.{max_candidates}
 use Rattle.paper.specs.Standing.{status_of, status_among}

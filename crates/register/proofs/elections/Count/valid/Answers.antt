@@ -1,4 +1,4 @@
--- Why `Count::valid` keeps its promise.
+-- Proof that `Count::valid` meets its contract.
 use Rattle.std.proofs.Common.{List, length, ap, ◌∙◌}
 use Rattle.count.specs.Bundles.{Bundle, papers_of}
 use Rattle.count.proofs.OrderLemmas.{bundled-length}

@@ -1,6 +1,6 @@
--- Why `Election::begin` keeps its promise.
+-- Proof that `Election::begin` meets its contract.
 use Rattle.std.proofs.Common.{◌≡◌, [], map, ap, refl, sym, ◌∙◌, subst}
-use Rattle.count.specs.Kept.{IsKeptOf}
+use Rattle.count.specs.StoredCounts.{IsStoredCountOf}
 use Rattle.count.specs.Law.Count.{stages_to}
 use Rattle.register.specs.Offices.{WardEntry, candidate_entry}
 use Rattle.register.specs.Marks.{columns_of}
@@ -19,7 +19,7 @@ returns-clause-is c = λ e is none fair.
       record { kept = c.in_ok-kept.kept; lots = c.args.self.lots },
       refl,
       record {
-        kept_is = subst (λ h. IsKeptOf (contest_of e) h c.in_ok-kept.kept) (sym (none_done e none)) (c.in_ok-kept.ensures.is (contest_of e) fair (sym columns) seats is.ballots_are.papers_held);
+        kept_is = subst (λ h. IsStoredCountOf (contest_of e) h c.in_ok-kept.kept) (sym (none_done e none)) (c.in_ok-kept.ensures.is (contest_of e) fair (sym columns) seats is.ballots_are.papers_held);
         lots_are = is.lots_are;
       },
     )

@@ -1,4 +1,4 @@
--- Why `Election::poll` keeps its promise.
+-- Proof that `Election::poll` meets its contract.
 use Rattle.std.proofs.Common.{ap}
 use Rattle.register.specs.Offices.{WardEntry}
 use Rattle.register.proofs.BundledLemmas.{poll-alike}

@@ -1,10 +1,10 @@
--- Why `Ballots::add` keeps its promise.
+-- Proof that `Ballots::add` meets its contract.
 use Rattle.std.proofs.Common.{◌≡◌, ℕ, ◌++◌, ◌∷◌, [], ◌&&◌, List, map, fold, Result, Ok, Err, IfOk, refl, subst, ap, ◌∙◌}
 use Rattle.std.specs.List.{flat_map}
 use Rattle.std.specs.declared.alloc.AllocError.{AllocError}
 use Rattle.register.specs.declared.polls.Judgement.{Judgement}
 use Rattle.register.specs.Offices.{keyed_entry, judged_entry}
-use Rattle.register.specs.Papers.{of_three}
+use Rattle.register.specs.Agreement.{of_three}
 use Rattle.register.specs.Polls.{Pile, BallotsEntry, StandFor, is_settled, judgements_in, preferences_by, ballots_in}
 use Rattle.register.specs.Walks.{and_rejected}
 use Rattle.register.proofs.PollLemmas.{added}

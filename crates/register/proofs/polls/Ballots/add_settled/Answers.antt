@@ -1,4 +1,4 @@
--- Why `Ballots::add_settled` keeps its promise.
+-- Proof that `Ballots::add_settled` meets its contract.
 use Rattle.std.proofs.Common.{◌≡◌, ℕ, ◌++◌, ◌∷◌, [], List, map, Result, Ok, Err, IfOk}
 use Rattle.std.specs.declared.alloc.AllocError.{AllocError}
 use Rattle.register.specs.declared.polls.Judgement.{Judgement}

@@ -1,4 +1,4 @@
--- What the loop of `count_each` keeps.
+-- The invariant of the loop in `count_each`.
 use Rattle.std.proofs.Common.{◌≡◌, ◌++◌, List, ℕ, map, take, drop, fold}
 use Rattle.std.specs.List.{flat_map}
 use Rattle.register.specs.Offices.{keyed_entry, judged_entry}

@@ -1,4 +1,4 @@
-use Rattle.register.specs.Items.{is_batch}
+use Rattle.register.specs.StateConditions.{is_batch}
 use Rattle.rowcheck.proofs.ranges.BatchRanged.is_in_range.Goals as goal
 
 pub returns : goal.returns

@@ -1,4 +1,4 @@
-use Rattle.register.specs.Items.{is_candidate}
+use Rattle.register.specs.StateConditions.{is_candidate}
 use Rattle.rowcheck.proofs.ranges.CandidateRanged.is_in_range.Goals as goal
 
 pub returns : goal.returns

@@ -1,4 +1,4 @@
-use Rattle.register.specs.Items.{is_lot}
+use Rattle.register.specs.StateConditions.{is_lot}
 use Rattle.rowcheck.proofs.ranges.DrawnLotRanged.is_in_range.Goals as goal
 
 pub returns : goal.returns

@@ -2,7 +2,7 @@ use Rattle.std.proofs.Common.{◌≡◌, true, sym, ap, string_bytes, ◌∙◌}
 use Rattle.std.specs.Str.{is_utf8}
 use Rattle.std.proofs.Math.Bool.{and-true}
 use Rattle.std.proofs.lemmas.Str.{is_utf8-from_IsUtf8}
-use Rattle.register.specs.Items.{is_judged_paper}
+use Rattle.register.specs.StateConditions.{is_judged_paper}
 use Rattle.rowcheck.proofs.ranges.JudgedPaperRanged.is_in_range.Goals as goal
 
 pub returns : goal.returns

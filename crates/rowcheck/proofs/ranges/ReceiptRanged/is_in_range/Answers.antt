@@ -1,7 +1,7 @@
 use Rattle.std.proofs.Common.{◌≡◌, true, sym, ap, string_bytes, ◌∙◌}
 use Rattle.std.specs.Str.{is_utf8}
 use Rattle.std.proofs.lemmas.Str.{is_utf8-from_IsUtf8}
-use Rattle.register.specs.Items.{is_receipt}
+use Rattle.register.specs.StateConditions.{is_receipt}
 use Rattle.rowcheck.proofs.ranges.ReceiptRanged.is_in_range.Goals as goal
 
 pub returns : goal.returns

@@ -1,4 +1,4 @@
-use Rattle.register.specs.Items.{is_third}
+use Rattle.register.specs.StateConditions.{is_third}
 use Rattle.rowcheck.proofs.ranges.ThirdClerkRanged.is_in_range.Goals as goal
 
 pub returns : goal.returns

@@ -1,4 +1,4 @@
-use Rattle.register.specs.Items.{is_ward}
+use Rattle.register.specs.StateConditions.{is_ward}
 use Rattle.rowcheck.proofs.ranges.WardRanged.is_in_range.Goals as goal
 
 pub returns : goal.returns

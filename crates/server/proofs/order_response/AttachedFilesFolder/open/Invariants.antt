@@ -1,4 +1,4 @@
--- What holds each time round the loop of `open`: no file so far has the path, so what came at it is among those that are left.
+-- The invariant of the loop in `open`: no file so far has the path, so the file at it is among those that are left.
 use Rattle.std.proofs.Common.{◌≡◌, drop}
 use Rattle.order_protocol.specs.Messages.{message_part_entries}
 use Rattle.server.specs.ServedOrders.{attached_at}

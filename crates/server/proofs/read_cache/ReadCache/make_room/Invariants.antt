@@ -1,4 +1,4 @@
--- What holds each time round the loop of `make_room`: some were let go, the oldest first.
+-- The invariant of the loop in `make_room`: some were removed, the oldest first.
 use Rattle.std.proofs.Common.{◌≡◌, ◌++◌, List}
 use Rattle.server.specs.Reads.{ReadEntry, reads_in}
 use Rattle.server.proofs.read_cache.ReadCache.make_room.Given as goal

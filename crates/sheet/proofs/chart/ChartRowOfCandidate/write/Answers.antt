@@ -1,4 +1,4 @@
--- Why `write` of a `ChartRow` keeps its promise.
+-- Proof that `write` of a `ChartRow` meets its contract.
 use Rattle.sheet.proofs.chart.ChartRowOfCandidate.write.Goals as goal
 
 pub returns : goal.returns

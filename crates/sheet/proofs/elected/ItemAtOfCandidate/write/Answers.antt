@@ -1,4 +1,4 @@
--- Why `write` of an `ItemAt` keeps its promise.
+-- Proof that `write` of an `ItemAt` meets its contract.
 use Rattle.std.proofs.Common.{sym, ◌∙◌}
 use Rattle.sheet.proofs.elected.ItemAtOfCandidate.write.Goals as goal
 

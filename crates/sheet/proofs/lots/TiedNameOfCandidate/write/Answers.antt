@@ -1,4 +1,4 @@
--- Why `write` of a `TiedName` keeps its promise.
+-- Proof that `write` of a `TiedName` meets its contract.
 use Rattle.std.proofs.Common.{sym, ◌∙◌}
 use Rattle.sheet.proofs.Ties.{above_shown, below_shown}
 use Rattle.sheet.proofs.lots.TiedNameOfCandidate.write.Goals as goal

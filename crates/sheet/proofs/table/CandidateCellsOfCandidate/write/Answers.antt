@@ -1,4 +1,4 @@
--- Why `write` of the cells of a candidate keeps its promise.
+-- Proof that `write` of the cells of a candidate meets its contract.
 use Rattle.sheet.proofs.table.CandidateCellsOfCandidate.write.Goals as goal
 
 pub returns : goal.returns

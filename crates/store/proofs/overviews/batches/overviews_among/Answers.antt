@@ -1,4 +1,4 @@
--- Why `overviews_among` keeps its promise.
+-- Proof that `overviews_among` meets its contract.
 use Rattle.std.proofs.Common.{map}
 use Rattle.store.specs.Overviews.{batch_view}
 use Rattle.store.specs.Piles.{read_view, numbers_under}

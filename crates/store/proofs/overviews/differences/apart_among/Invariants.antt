@@ -1,7 +1,7 @@
--- What the loop of `apart_among` keeps.
+-- The invariant of the loop in `apart_among`.
 use Rattle.std.proofs.Common.{◌≡◌, ◌++◌, ◌∷◌, [], map, filter, drop}
 use Rattle.register.specs.Offices.{keyed_entry}
-use Rattle.register.specs.Papers.{is_keyed}
+use Rattle.register.specs.Agreement.{is_keyed}
 use Rattle.store.specs.Overviews.{apart_among}
 use Rattle.store.proofs.overviews.differences.apart_among.Given as goal
 

@@ -1,4 +1,4 @@
--- What the loop of `has_alike` keeps.
+-- The invariant of the loop in `has_alike`.
 use Rattle.std.proofs.Common.{◌≡◌, map, drop}
 use Rattle.register.specs.Offices.{keyed_entry}
 use Rattle.store.specs.Overviews.{has_alike}

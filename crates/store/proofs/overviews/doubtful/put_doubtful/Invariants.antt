@@ -1,4 +1,4 @@
--- What the loop of `put_doubtful` keeps.
+-- The invariant of the loop in `put_doubtful`.
 use Rattle.std.proofs.Common.{◌≡◌, ◌++◌, map, drop}
 use Rattle.register.specs.Offices.{keyed_entry, judged_entry}
 use Rattle.store.specs.Overviews.{doubtful_view, doubtful_among}

@@ -1,4 +1,4 @@
--- What the loop of `verdict_on` keeps.
+-- The invariant of the loop in `verdict_on`.
 use Rattle.std.proofs.Common.{◌≡◌, map, drop}
 use Rattle.register.specs.Offices.{judged_entry}
 use Rattle.store.specs.Overviews.{verdict_on}

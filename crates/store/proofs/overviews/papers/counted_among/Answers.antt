@@ -1,4 +1,4 @@
--- Why `counted_among` keeps its promise.
+-- Proof that `counted_among` meets its contract.
 use Rattle.std.proofs.Common.{map, ap}
 use Rattle.register.specs.Offices.{keyed_entry, judged_entry}
 use Rattle.register.specs.declared.polls.Judgement.{Judgement}

@@ -1,4 +1,4 @@
--- What the loop of `counted_among` keeps.
+-- The invariant of the loop in `counted_among`.
 use Rattle.std.proofs.Common.{◌≡◌, ◌++◌, map, drop}
 use Rattle.register.specs.Offices.{keyed_entry, judged_entry}
 use Rattle.store.specs.Overviews.{paper_view, paper_view_of}

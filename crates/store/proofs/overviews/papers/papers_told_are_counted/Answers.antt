@@ -1,4 +1,4 @@
--- Why `papers_told_are_counted` keeps its promise.
+-- Proof that `papers_told_are_counted` meets its contract.
 use Rattle.store.proofs.OverviewLemmas.{told_counted}
 use Rattle.store.proofs.overviews.papers.papers_told_are_counted.Goals as goal
 

@@ -1,4 +1,4 @@
--- Why `all_paired` keeps its promise.
+-- Proof that `all_paired` meets its contract.
 use Rattle.std.proofs.Common.{◌∷◌, [], Some, None, map, sym, ap, ◌∙◌, append-nil}
 use Rattle.std.proofs.lemmas.List.{map-append}
 use Rattle.store.specs.Overviews.{batch_view}

@@ -1,4 +1,4 @@
--- What the loop of `all_paired` keeps.
+-- The invariant of the loop in `all_paired`.
 use Rattle.std.proofs.Common.{◌≡◌, map}
 use Rattle.store.specs.Overviews.{batch_view}
 use Rattle.store.specs.Piles.{read_view, numbers_under, all_paired}

@@ -1,4 +1,4 @@
--- What the loop of `first_other` keeps.
+-- The invariant of the loop in `first_other`.
 use Rattle.std.proofs.Common.{◌≡◌, ◌==◌, not, find, drop}
 use Rattle.store.proofs.overviews.piles.first_other.Given as goal
 

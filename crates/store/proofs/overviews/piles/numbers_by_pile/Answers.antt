@@ -1,4 +1,4 @@
--- Why `numbers_by_pile` keeps its promise.
+-- Proof that `numbers_by_pile` meets its contract.
 use Rattle.std.proofs.Common.{◌++◌, ◌∷◌, [], ℕ, List, map, take, sym, ap, ◌∙◌}
 use Rattle.store.specs.declared.overviews.piles.ReadBatch.{ReadBatch}
 use Rattle.store.specs.Piles.{ReadView, read_view, numbers_with}

@@ -1,4 +1,4 @@
--- What the loop of `numbers_by_pile` keeps.
+-- The invariant of the loop in `numbers_by_pile`.
 use Rattle.std.proofs.Common.{◌≡◌, ℕ, List, map, take}
 use Rattle.store.specs.Piles.{read_view, numbers_under, numbers_with}
 use Rattle.store.proofs.overviews.piles.numbers_by_pile.Given as goal

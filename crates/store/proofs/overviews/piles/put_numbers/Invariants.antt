@@ -1,4 +1,4 @@
--- What the loop of `put_numbers` keeps.
+-- The invariant of the loop in `put_numbers`.
 use Rattle.std.proofs.Common.{◌≡◌, ◌++◌, drop, string_bytes}
 use Rattle.store.specs.Overviews.{candidate_lines}
 use Rattle.store.proofs.overviews.piles.put_numbers.Given as goal

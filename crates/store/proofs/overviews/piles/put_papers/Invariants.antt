@@ -1,4 +1,4 @@
--- What the loop of `put_papers` keeps.
+-- The invariant of the loop in `put_papers`.
 use Rattle.std.proofs.Common.{◌≡◌, ◌++◌, map, drop, string_bytes}
 use Rattle.register.specs.Offices.{keyed_entry}
 use Rattle.store.specs.Overviews.{paper_lines}

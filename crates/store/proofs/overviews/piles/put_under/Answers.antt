@@ -1,4 +1,4 @@
--- Why `put_under` keeps its promise.
+-- Proof that `put_under` meets its contract.
 use Rattle.std.proofs.Common.{arith}
 use Rattle.std.proofs.lemmas.Grind.{text_groups}
 use Rattle.store.proofs.overviews.piles.put_under.Goals as goal

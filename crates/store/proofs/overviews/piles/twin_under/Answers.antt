@@ -1,4 +1,4 @@
--- Why `twin_under` keeps its promise.
+-- Proof that `twin_under` meets its contract.
 use Rattle.std.proofs.Common.{◌==◌, not, find, ap, ◌∙◌}
 use Rattle.store.specs.Piles.{numbers_under}
 use Rattle.store.proofs.PileLemmas.{group_told}

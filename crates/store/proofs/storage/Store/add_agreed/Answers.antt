@@ -1,7 +1,7 @@
--- Why `add_agreed` keeps its promise.
+-- Proof that `add_agreed` meets its contract.
 use Rattle.std.proofs.Common.{List, map, subst, ap, ◌∙◌}
 use Rattle.register.specs.Offices.{KeyedEntry, judged_entry}
-use Rattle.register.specs.Papers.{agreed}
+use Rattle.register.specs.Agreement.{agreed}
 use Rattle.register.specs.Polls.{StandFor, ballots_by}
 use Rattle.store.specs.Settled.{CountAfter}
 use Rattle.store.proofs.LoadsLemmas.{loads_as, loads_stopped}

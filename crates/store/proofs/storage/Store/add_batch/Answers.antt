@@ -1,4 +1,4 @@
--- Why `add_batch` keeps its promise.
+-- Proof that `add_batch` meets its contract.
 use Rattle.std.proofs.Common.{◌≡◌, map, Option, Some, None, subst}
 use Rattle.register.specs.Offices.{ThirdEntry, batch_entry, third_entry, judged_entry, third_at}
 use Rattle.register.specs.Polls.{StandFor, ballots_by, settled_with}

@@ -1,4 +1,4 @@
--- Where the walk of `add_batch` begins.
+-- What the walk of `add_batch` begins with.
 use Rattle.std.proofs.Common.{map}
 use Rattle.register.specs.Offices.{judged_entry}
 use Rattle.register.specs.Polls.{StandFor, ballots_by}

@@ -1,4 +1,4 @@
--- Why `all_batches` keeps its promise.
+-- Proof that `all_batches` meets its contract.
 use Rattle.std.proofs.Common.{refl}
 use Rattle.register.specs.Offices.{batch_entry}
 use Rattle.store.specs.EntryRows.{row_of_batch}

@@ -1,4 +1,4 @@
--- Why `all_doubtful` keeps its promise.
+-- Proof that `all_doubtful` meets its contract.
 use Rattle.std.proofs.Common.{◌++◌, ◌∷◌, [], List, map, take, get_or, rules, sym, ap, ◌∙◌, append-nil}
 use Rattle.std.specs.List.{flat_map}
 use Rattle.std.proofs.lemmas.List.Concat.{flat_map-append}

@@ -1,4 +1,4 @@
--- What the loop of `all_doubtful` keeps.
+-- The invariant of the loop in `all_doubtful`.
 use Rattle.std.proofs.Common.{◌≡◌, map, take, Ok}
 use Rattle.std.specs.List.{flat_map}
 use Rattle.sqlite.specs.Held.{state}

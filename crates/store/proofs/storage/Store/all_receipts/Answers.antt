@@ -1,4 +1,4 @@
--- Why `all_receipts` keeps its promise.
+-- Proof that `all_receipts` meets its contract.
 use Rattle.std.proofs.Common.{refl}
 use Rattle.register.specs.Offices.{receipt_entry}
 use Rattle.store.specs.EntryRows.{row_of_receipt}

@@ -1,4 +1,4 @@
--- Why `all_wards` keeps its promise.
+-- Proof that `all_wards` meets its contract.
 use Rattle.std.proofs.Common.{refl}
 use Rattle.register.specs.Offices.{ward_entry}
 use Rattle.store.specs.EntryRows.{row_of_ward}

@@ -1,4 +1,4 @@
--- Why `ballots_of` keeps its promise.
+-- Proof that `ballots_of` meets its contract.
 use Rattle.std.proofs.Common.{List, map, take, sym, subst, ap, ◌∙◌, ◌++◌, ◌∷◌, []}
 use Rattle.std.proofs.lemmas.List.{map-append}
 use Rattle.register.specs.Offices.{BatchEntry, batch_entry}

@@ -1,4 +1,4 @@
--- Why `batch_differences` keeps its promise.
+-- Proof that `batch_differences` meets its contract.
 use Rattle.std.proofs.Common.{ap, ◌∙◌}
 use Rattle.register.specs.Offices.{batch_entry}
 use Rattle.store.specs.Overviews.{differences_by}

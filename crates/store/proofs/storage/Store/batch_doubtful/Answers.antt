@@ -1,4 +1,4 @@
--- Why `batch_doubtful` keeps its promise.
+-- Proof that `batch_doubtful` meets its contract.
 use Rattle.std.proofs.Common.{◌≡◌, ◌++◌, map, rules, refl, ap, ◌∙◌}
 use Rattle.register.specs.Offices.{batch_entry, keyed_entry, judged_entry}
 use Rattle.register.specs.Polls.{Pile}

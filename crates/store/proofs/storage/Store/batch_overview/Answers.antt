@@ -1,7 +1,7 @@
--- Why `batch_overview` keeps its promise.
+-- Proof that `batch_overview` meets its contract.
 use Rattle.std.proofs.Common.{map, ap, ◌∙◌}
 use Rattle.register.specs.Offices.{batch_entry, judged_entry}
-use Rattle.register.specs.Papers.{clerks}
+use Rattle.register.specs.Agreement.{clerks}
 use Rattle.store.specs.Overviews.{clerk_view_of}
 use Rattle.store.proofs.PileLemmas.{view_told}
 use Rattle.store.proofs.LoadsLemmas.{loads_as, loads_both, loads_cut}

@@ -1,4 +1,4 @@
--- Why `batch_papers` keeps its promise.
+-- Proof that `batch_papers` meets its contract.
 use Rattle.std.proofs.Common.{◌∙◌}
 use Rattle.register.specs.Offices.{batch_entry}
 use Rattle.store.proofs.OverviewLemmas.{papers_told}

@@ -1,4 +1,4 @@
--- Why `begun_sheet` keeps its promise.
+-- Proof that `begun_sheet` meets its contract.
 use Rattle.std.proofs.Common.{◌≡◌, ap, arith}
 use Rattle.register.specs.Offices.{WardEntry, ward_entry}
 use Rattle.register.specs.Elections.{election_of}

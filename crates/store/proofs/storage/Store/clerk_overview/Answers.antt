@@ -1,4 +1,4 @@
--- Why `clerk_overview` keeps its promise.
+-- Proof that `clerk_overview` meets its contract.
 use Rattle.std.proofs.Common.{Bool, ap}
 use Rattle.store.proofs.LoadsLemmas.{loads_as}
 use Rattle.store.proofs.storage.Store.clerk_overview.Goals as goal

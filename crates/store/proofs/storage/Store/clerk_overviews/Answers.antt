@@ -1,4 +1,4 @@
--- Why `clerk_overviews` keeps its promise.
+-- Proof that `clerk_overviews` meets its contract.
 use Rattle.std.proofs.Common.{◌≡◌, ◌++◌, ◌∷◌, [], map, take, get_or, rules, refl, sym, ap, ◌∙◌}
 use Rattle.std.proofs.lemmas.List.{take_more, take_all}
 use Rattle.register.specs.Offices.{batch_entry}

@@ -1,4 +1,4 @@
--- What the loop of `clerk_overviews` keeps.
+-- The invariant of the loop in `clerk_overviews`.
 use Rattle.std.proofs.Common.{◌≡◌, map, take, Ok}
 use Rattle.sqlite.specs.Held.{state}
 use Rattle.register.specs.Offices.{batch_entry}

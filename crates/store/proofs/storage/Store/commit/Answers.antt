@@ -1,7 +1,7 @@
--- Why `commit` keeps its promise.
+-- Proof that `commit` meets its contract.
 use Rattle.std.proofs.Common.{IsTrue, sym, subst}
 use Rattle.sqlite.specs.Held.{Held, state}
-use Rattle.store.specs.Offices.{tables_of, IsAt}
+use Rattle.store.specs.StateTables.{tables_of, IsAt}
 use Rattle.store.proofs.KeepLemmas.{changed_tables, changes_to, if_change_is_at, change_stops, change_leaves}
 use Rattle.store.proofs.storage.Store.commit.Goals as goal
 

@@ -1,4 +1,4 @@
--- Why `contest_part` keeps its promise.
+-- Proof that `contest_part` meets its contract.
 use Rattle.std.proofs.Common.{ap}
 use Rattle.store.proofs.PartLemmas.{same_part}
 use Rattle.store.proofs.LoadsLemmas.{loads_as, loads_both, loads_cut}

@@ -1,4 +1,4 @@
--- Why `contested_count` keeps its promise.
+-- Proof that `contested_count` meets its contract.
 use Rattle.std.proofs.Common.{rules, ◌≡◌, ◌∙◌, Some, sym, subst, refl}
 use Rattle.register.specs.declared.elections.WardSheet.{WardSheet}
 use Rattle.store.specs.Elections.{election_in, IsWardCount}

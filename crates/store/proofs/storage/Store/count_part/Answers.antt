@@ -1,4 +1,4 @@
--- Why `count_part` keeps its promise.
+-- Proof that `count_part` meets its contract.
 use Rattle.std.proofs.Common.{option_map, ◌∙◌}
 use Rattle.register.specs.Offices.{ward_at}
 use Rattle.register.specs.Elections.{election_of}

@@ -1,4 +1,4 @@
--- Why `create` keeps its promise.
+-- Proof that `create` meets its contract.
 use Rattle.sqlite.specs.Held.{state}
 use Rattle.register.specs.Offices.{empty_office}
 use Rattle.register.proofs.ListLaws.{empty_is_a_state}

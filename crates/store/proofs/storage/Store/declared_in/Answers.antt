@@ -1,4 +1,4 @@
--- Why `declared_in` keeps its promise.
+-- Proof that `declared_in` meets its contract.
 use Rattle.std.proofs.Common.{sym, ◌∙◌}
 use Rattle.register.specs.Offices.{ward_entry}
 use Rattle.store.proofs.OverviewLemmas.{candidates_found, declared_told}

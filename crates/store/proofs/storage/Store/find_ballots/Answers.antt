@@ -1,4 +1,4 @@
--- Why `find_ballots` keeps its promise.
+-- Proof that `find_ballots` meets its contract.
 use Rattle.std.proofs.Common.{ℕ, List, map, subst, ap, ◌∙◌}
 use Rattle.register.specs.Offices.{candidate_entry}
 use Rattle.register.specs.Marks.{columns_of}

@@ -1,4 +1,4 @@
--- Why `find_batch` keeps its promise.
+-- Proof that `find_batch` meets its contract.
 use Rattle.std.proofs.Common.{refl}
 use Rattle.register.specs.Offices.{batch_entry, batch_at}
 use Rattle.store.specs.EntryRows.{row_of_batch}

@@ -1,4 +1,4 @@
--- Why `find_candidate` keeps its promise.
+-- Proof that `find_candidate` meets its contract.
 use Rattle.std.proofs.Common.{refl}
 use Rattle.register.specs.Offices.{candidate_entry, candidate_at}
 use Rattle.store.specs.EntryRows.{row_of_candidate}

@@ -1,4 +1,4 @@
--- Why `find_contest` keeps its promise.
+-- Proof that `find_contest` meets its contract.
 use Rattle.std.proofs.Common.{◌≡◌, Some, refl, sym}
 use Rattle.register.specs.Offices.{ward_entry, ward_at}
 use Rattle.store.proofs.ElectionLemmas.{ward_there}

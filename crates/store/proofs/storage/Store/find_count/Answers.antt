@@ -1,4 +1,4 @@
--- Why `find_count` keeps its promise.
+-- Proof that `find_count` meets its contract.
 use Rattle.std.proofs.Common.{rules, ◌≡◌, ◌∙◌, Option, Some, true, false, not, is_some, option_map, ap, sym, subst, refl, true≢false}
 use Rattle.register.specs.Offices.{WardEntry}
 use Rattle.register.specs.Elections.{election_of}

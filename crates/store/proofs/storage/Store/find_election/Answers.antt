@@ -1,4 +1,4 @@
--- Why `find_election` keeps its promise.
+-- Proof that `find_election` meets its contract.
 use Rattle.std.proofs.Common.{Option, Some, option_map, sym, subst}
 use Rattle.register.specs.Offices.{WardEntry}
 use Rattle.register.specs.Elections.{election_of}

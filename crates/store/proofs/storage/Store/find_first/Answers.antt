@@ -1,4 +1,4 @@
--- Why `find_first` keeps its promise.
+-- Proof that `find_first` meets its contract.
 use Rattle.std.proofs.Common.{refl}
 use Rattle.store.proofs.RunLemmas.{loads_any}
 use Rattle.store.proofs.storage.Store.find_first.Goals as goal

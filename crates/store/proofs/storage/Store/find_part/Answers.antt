@@ -1,4 +1,4 @@
--- Why `find_part` keeps its promise.
+-- Proof that `find_part` meets its contract.
 use Rattle.std.proofs.Common.{rules, ◌≡◌}
 use Rattle.register.specs.declared.counts.CountCommand.TheVariants.{Advance}
 use Rattle.store.proofs.ElectionLemmas.{shown_for}

@@ -1,4 +1,4 @@
--- Why `find_receipt` keeps its promise.
+-- Proof that `find_receipt` meets its contract.
 use Rattle.std.proofs.Common.{refl}
 use Rattle.register.specs.Offices.{receipt_entry, receipt_at}
 use Rattle.store.specs.EntryRows.{row_of_receipt}

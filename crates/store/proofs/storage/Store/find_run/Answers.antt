@@ -1,4 +1,4 @@
--- Why `find_run` keeps its promise.
+-- Proof that `find_run` meets its contract.
 use Rattle.std.proofs.Common.{◌≡◌, Some, sym, ◌∙◌}
 use Rattle.register.specs.Offices.{batch_entry, batch_at}
 use Rattle.store.proofs.LoadsLemmas.{loads_as, loads_both, loads_cut}

@@ -1,4 +1,4 @@
--- Why `find_third` keeps its promise.
+-- Proof that `find_third` meets its contract.
 use Rattle.std.proofs.Common.{refl}
 use Rattle.register.specs.Offices.{third_entry, third_at}
 use Rattle.store.specs.EntryRows.{row_of_third}

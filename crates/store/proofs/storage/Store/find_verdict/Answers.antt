@@ -1,4 +1,4 @@
--- Why `find_verdict` keeps its promise.
+-- Proof that `find_verdict` meets its contract.
 use Rattle.std.proofs.Common.{refl}
 use Rattle.register.specs.Offices.{judged_entry, verdict_at}
 use Rattle.store.specs.EntryRows.{row_of_judged}

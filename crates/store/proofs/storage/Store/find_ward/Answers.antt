@@ -1,4 +1,4 @@
--- Why `find_ward` keeps its promise.
+-- Proof that `find_ward` meets its contract.
 use Rattle.std.proofs.Common.{refl}
 use Rattle.register.specs.Offices.{ward_entry, ward_at}
 use Rattle.store.specs.EntryRows.{row_of_ward}

@@ -1,4 +1,4 @@
--- Why `has_keyed` keeps its promise.
+-- Proof that `has_keyed` meets its contract.
 use Rattle.std.proofs.Common.{refl, ◌∙◌}
 use Rattle.register.specs.Offices.{keyed_entry, entry_at}
 use Rattle.store.specs.EntryRows.{row_of_keyed}

@@ -1,7 +1,7 @@
--- Why `kept_count` keeps its promise.
+-- Proof that `kept_count` meets its contract.
 use Rattle.std.proofs.Common.{◌≡◌, Some, None, refl, sym, subst, ◌∙◌}
 use Rattle.register.specs.Elections.{contest_of, stages_of}
-use Rattle.count.specs.Kept.{CountKept, IsKeptOf}
+use Rattle.count.specs.StoredCounts.{StoredCountEntry, IsStoredCountOf}
 use Rattle.store.specs.Elections.{election_in}
 use Rattle.store.proofs.LoadsLemmas.{loads_as, loads_both, loads_cut}
 use Rattle.store.proofs.storage.Store.kept_count.Goals as goal
@@ -13,7 +13,7 @@ returns-in-Some g c =
     let e = election_in s c.args.contest.now in
     let kept = told.0 there begun in
     let same : kept.0 ≡ c.in-Some.kept = let is : Some kept.0 ≡ Some c.in-Some.kept = sym kept.1 ∙ c.in-Some.is in cc in
-    (_, refl, record { kept_is = subst (λ (k : CountKept). IsKeptOf (contest_of e) (stages_of e) k) same kept.2; lots_are = told.1 }))
+    (_, refl, record { kept_is = subst (λ (k : StoredCountEntry). IsStoredCountOf (contest_of e) (stages_of e) k) same kept.2; lots_are = told.1 }))
 
 pub returns-in-None : goal.returns-in-None
 returns-in-None g c =

@@ -1,4 +1,4 @@
--- Why `keyings_of` keeps its promise.
+-- Proof that `keyings_of` meets its contract.
 use Rattle.std.proofs.Common.{option_map, ap, ◌∙◌}
 use Rattle.register.specs.Offices.{third_entry}
 use Rattle.store.proofs.LoadsLemmas.{loads_as, loads_both, loads_cut}

@@ -1,4 +1,4 @@
--- Why `keyings_with` keeps its promise.
+-- Proof that `keyings_with` meets its contract.
 use Rattle.std.proofs.Common.{refl}
 use Rattle.register.specs.Offices.{batch_entry}
 use Rattle.store.proofs.ClerkLemmas.{keyings_read}

@@ -1,7 +1,7 @@
--- Why `list_batches` keeps its promise.
+-- Proof that `list_batches` meets its contract.
 use Rattle.std.proofs.Common.{refl}
 use Rattle.register.specs.Offices.{batch_entry}
-use Rattle.register.specs.Papers.{batches_of}
+use Rattle.register.specs.Agreement.{batches_of}
 use Rattle.store.specs.EntryRows.{row_of_batch}
 use Rattle.store.proofs.StateLemmas.{batch_in, batch_back}
 use Rattle.store.proofs.FindLemmas.{batches_listed}

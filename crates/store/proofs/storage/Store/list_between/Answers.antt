@@ -1,4 +1,4 @@
--- Why `list_between` keeps its promise.
+-- Proof that `list_between` meets its contract.
 use Rattle.store.proofs.RunLemmas.{loads_there}
 use Rattle.store.proofs.storage.Store.list_between.Goals as goal
 

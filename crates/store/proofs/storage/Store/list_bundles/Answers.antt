@@ -1,4 +1,4 @@
--- Why `list_bundles` keeps its promise.
+-- Proof that `list_bundles` meets its contract.
 use Rattle.std.proofs.Common.{refl}
 use Rattle.register.specs.Tabulated.{placed_entry}
 use Rattle.store.specs.EntryRows.{row_of_placed}

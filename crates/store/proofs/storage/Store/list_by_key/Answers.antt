@@ -1,4 +1,4 @@
--- Why `list_by_key` keeps its promise.
+-- Proof that `list_by_key` meets its contract.
 use Rattle.std.proofs.Common.{refl}
 use Rattle.register.specs.Offices.{keyed_entry, keying_of}
 use Rattle.store.specs.EntryRows.{row_of_keyed}

@@ -1,4 +1,4 @@
--- Why `list_candidates` keeps its promise.
+-- Proof that `list_candidates` meets its contract.
 use Rattle.std.proofs.Common.{refl}
 use Rattle.register.specs.Offices.{candidate_entry, candidates_of}
 use Rattle.store.specs.EntryRows.{row_of_candidate}

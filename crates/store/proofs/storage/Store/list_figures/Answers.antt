@@ -1,4 +1,4 @@
--- Why `list_figures` keeps its promise.
+-- Proof that `list_figures` meets its contract.
 use Rattle.std.proofs.Common.{refl}
 use Rattle.register.specs.Tabulated.{figure_entry}
 use Rattle.store.specs.EntryRows.{row_of_figure}

@@ -1,4 +1,4 @@
--- Why `list_keying` keeps its promise.
+-- Proof that `list_keying` meets its contract.
 use Rattle.store.proofs.LoadsLemmas.{loads_as, loads_both, loads_cut}
 use Rattle.store.proofs.storage.Store.list_keying.Goals as goal
 

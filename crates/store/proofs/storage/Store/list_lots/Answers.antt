@@ -1,4 +1,4 @@
--- Why `list_lots` keeps its promise.
+-- Proof that `list_lots` meets its contract.
 use Rattle.std.proofs.Common.{refl}
 use Rattle.register.specs.Offices.{lot_entry, lots_of}
 use Rattle.store.specs.EntryRows.{row_of_lot}

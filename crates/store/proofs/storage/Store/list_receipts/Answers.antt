@@ -1,4 +1,4 @@
--- Why `list_receipts` keeps its promise.
+-- Proof that `list_receipts` meets its contract.
 use Rattle.std.proofs.Common.{Some, refl}
 use Rattle.register.specs.Offices.{receipt_entry}
 use Rattle.store.specs.EntryRows.{row_of_receipt}

@@ -1,4 +1,4 @@
--- Why `list_verdicts` keeps its promise.
+-- Proof that `list_verdicts` meets its contract.
 use Rattle.std.proofs.Common.{refl}
 use Rattle.register.specs.Offices.{judged_entry, verdicts_of}
 use Rattle.store.specs.EntryRows.{row_of_judged}

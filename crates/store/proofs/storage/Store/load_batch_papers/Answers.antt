@@ -1,4 +1,4 @@
--- Why `load_batch_papers` keeps its promise.
+-- Proof that `load_batch_papers` meets its contract.
 use Rattle.std.proofs.Common.{◌≡◌, Some, option_map, ap, ◌∙◌}
 use Rattle.register.specs.Offices.{batch_entry, batch_at}
 use Rattle.store.specs.Overviews.{PapersView, papers_of}

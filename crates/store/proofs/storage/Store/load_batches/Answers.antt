@@ -1,4 +1,4 @@
--- Why `load_batches` keeps its promise.
+-- Proof that `load_batches` meets its contract.
 use Rattle.std.proofs.Common.{◌≡◌, List, Some, option_map, ap, ◌∙◌}
 use Rattle.register.specs.Offices.{WardEntry, ward_entry, ward_at}
 use Rattle.store.specs.Overviews.{BatchView, batch_views}

@@ -1,4 +1,4 @@
--- Why `load_book` keeps its promise.
+-- Proof that `load_book` meets its contract.
 use Rattle.std.proofs.Common.{rules, ◌≡◌, ◌∙◌, Option, Some, None, true, false, option_map, sym, subst}
 use Rattle.register.specs.Offices.{WardEntry}
 use Rattle.register.specs.Elections.{election_of}

@@ -1,4 +1,4 @@
--- Why `load_columns` keeps its promise.
+-- Proof that `load_columns` meets its contract.
 use Rattle.std.proofs.Common.{◌≡◌, ℕ, List, map, Some, option_map, ap, ◌∙◌}
 use Rattle.register.specs.Offices.{BatchEntry, candidate_entry, batch_entry, batch_at, candidates_of}
 use Rattle.register.specs.Marks.{columns_of}

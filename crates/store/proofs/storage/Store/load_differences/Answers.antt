@@ -1,4 +1,4 @@
--- Why `load_differences` keeps its promise.
+-- Proof that `load_differences` meets its contract.
 use Rattle.std.proofs.Common.{◌≡◌, Some, option_map, ap, ◌∙◌}
 use Rattle.register.specs.Offices.{batch_entry, batch_at}
 use Rattle.store.specs.Overviews.{DifferencesView, differences_of}

@@ -1,4 +1,4 @@
--- Why `load_doubtful` keeps its promise.
+-- Proof that `load_doubtful` meets its contract.
 use Rattle.std.proofs.Common.{◌≡◌, Some, option_map, ap, ◌∙◌}
 use Rattle.register.specs.Offices.{WardEntry, ward_entry, ward_at}
 use Rattle.store.specs.Overviews.{DoubtfulPapersView, doubtful_papers}

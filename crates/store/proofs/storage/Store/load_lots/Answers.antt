@@ -1,8 +1,8 @@
--- Why `load_lots` keeps its promise.
+-- Proof that `load_lots` meets its contract.
 use Rattle.std.proofs.Common.{◌≡◌, ◌==◌, map, true, refl, sym, ap, ◌∙◌, true≢false}
 use Rattle.std.specs.List.{list_all}
 use Rattle.register.specs.Offices.{lot_entry}
-use Rattle.register.specs.Items.{is_lot}
+use Rattle.register.specs.StateConditions.{is_lot}
 use Rattle.register.proofs.MapLemmas.{kept_all}
 use Rattle.store.proofs.FitLemmas.{lots_in_range}
 use Rattle.tables.specs.declared.fault.Fault.TheVariants.{Store}

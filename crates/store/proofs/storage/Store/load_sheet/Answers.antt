@@ -1,4 +1,4 @@
--- Why `load_sheet` keeps its promise.
+-- Proof that `load_sheet` meets its contract.
 use Rattle.std.proofs.Common.{rules, ◌≡◌, ◌∙◌, Option, Some, true, false, not, is_some, option_map, ap, sym, subst, refl, true≢false}
 use Rattle.register.specs.Offices.{WardEntry}
 use Rattle.register.specs.Elections.{election_of}

@@ -1,7 +1,7 @@
--- Why `load_status` keeps its promise.
+-- Proof that `load_status` meets its contract.
 use Rattle.std.proofs.Common.{◌≡◌, Some, option_map, ap, ◌∙◌}
 use Rattle.register.specs.Offices.{ward_entry, ward_at}
-use Rattle.register.specs.Standings.{StatusEntry, status_of}
+use Rattle.register.specs.Status.{StatusEntry, status_of}
 use Rattle.store.proofs.LoadsLemmas.{loads_as, loads_both, loads_cut}
 use Rattle.store.proofs.storage.Store.load_status.Goals as goal
 

@@ -1,4 +1,4 @@
--- Why `load_wards` keeps its promise.
+-- Proof that `load_wards` meets its contract.
 use Rattle.store.proofs.LoadsLemmas.{loads_as, loads_both, loads_cut}
 use Rattle.store.proofs.storage.Store.load_wards.Goals as goal
 

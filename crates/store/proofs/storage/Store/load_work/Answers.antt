@@ -1,4 +1,4 @@
--- Why `load_work` keeps its promise.
+-- Proof that `load_work` meets its contract.
 use Rattle.std.proofs.Common.{ap, ◌∙◌}
 use Rattle.store.proofs.WorkLemmas.{work_among}
 use Rattle.store.proofs.LoadsLemmas.{loads_as, loads_both, loads_cut}

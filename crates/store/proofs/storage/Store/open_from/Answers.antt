@@ -1,4 +1,4 @@
--- Why `open_from` keeps its promise.
+-- Proof that `open_from` meets its contract.
 use Rattle.sqlite.specs.Held.{state}
 use Rattle.store.proofs.KeepLemmas.{opened_is_at}
 use Rattle.store.proofs.ReopenLemmas.{left_ours, left_told, left_failed, left_opened}

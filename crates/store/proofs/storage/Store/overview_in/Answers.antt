@@ -1,4 +1,4 @@
--- Why `overview_in` keeps its promise.
+-- Proof that `overview_in` meets its contract.
 use Rattle.std.proofs.Common.{◌==◌, Some, None, sym, ap, ◌∙◌, eq-eqb}
 use Rattle.std.proofs.lemmas.Bool.{cond-true}
 use Rattle.register.specs.Offices.{batch_entry}

@@ -1,9 +1,9 @@
--- Why `own_paper` keeps its promise.
+-- Proof that `own_paper` meets its contract.
 use Rattle.std.proofs.Common.{◌≡◌, List, true, false, Some, None, option_map, sym, ap, ◌∙◌}
 use Rattle.std.proofs.lemmas.Bool.{cond-true, cond-false}
 use Rattle.register.specs.Offices.{CandidateEntry, batch_entry, ward_entry, ward_at, third_at}
-use Rattle.register.specs.Papers.{is_its_clerk}
-use Rattle.register.specs.Standings.{paper_of}
+use Rattle.register.specs.Agreement.{is_its_clerk}
+use Rattle.register.specs.Status.{paper_of}
 use Rattle.store.proofs.LoadsLemmas.{loads_as, loads_both, loads_cut}
 use Rattle.store.proofs.storage.Store.own_paper.Goals as goal
 

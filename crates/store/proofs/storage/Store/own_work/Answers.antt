@@ -1,12 +1,12 @@
--- Why `own_work` keeps its promise.
+-- Proof that `own_work` meets its contract.
 use Rattle.std.proofs.Common.{◌≡◌, ◌&&◌, Bool, true, false, Some, None, sym, ap, ◌∙◌}
 use Rattle.std.proofs.Math.Bool.{and-false}
 use Rattle.std.proofs.lemmas.Bool.{and_from, cond-true, cond-false}
 use Rattle.register.specs.declared.phase.Phase.TheVariants.{Keying}
 use Rattle.register.specs.Offices.{batch_entry, ward_at, third_at}
-use Rattle.register.specs.Papers.{is_its_clerk}
-use Rattle.register.specs.Parts.{is_in_phase}
-use Rattle.register.specs.Standings.{is_work, work_on}
+use Rattle.register.specs.Agreement.{is_its_clerk}
+use Rattle.register.specs.CommandInputs.{is_in_phase}
+use Rattle.register.specs.Status.{is_work, work_on}
 use Rattle.store.proofs.LoadsLemmas.{loads_as, loads_both, loads_cut}
 use Rattle.store.proofs.storage.Store.own_work.Goals as goal
 

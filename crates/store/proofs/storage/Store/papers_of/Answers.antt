@@ -1,4 +1,4 @@
--- Why `papers_of` keeps its promise.
+-- Proof that `papers_of` meets its contract.
 use Rattle.std.proofs.Common.{refl}
 use Rattle.store.proofs.LoadsLemmas.{loads_as, loads_both, loads_cut}
 use Rattle.store.proofs.storage.Store.papers_of.Goals as goal

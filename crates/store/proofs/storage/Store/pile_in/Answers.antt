@@ -1,4 +1,4 @@
--- Why `pile_in` keeps its promise.
+-- Proof that `pile_in` meets its contract.
 use Rattle.std.proofs.Common.{map, sym, ap, ◌∙◌}
 use Rattle.register.specs.Offices.{batch_entry, candidate_entry}
 use Rattle.register.specs.Marks.{columns_of}

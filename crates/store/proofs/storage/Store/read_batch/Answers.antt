@@ -1,4 +1,4 @@
--- Why `read_batch` keeps its promise.
+-- Proof that `read_batch` meets its contract.
 use Rattle.std.proofs.Common.{refl}
 use Rattle.register.specs.Offices.{batch_entry}
 use Rattle.store.specs.Piles.{KeyingsAre}

@@ -1,4 +1,4 @@
--- What the loop of `read_batches` keeps.
+-- The invariant of the loop in `read_batches`.
 use Rattle.std.proofs.Common.{◌≡◌, map, Ok}
 use Rattle.sqlite.specs.Held.{state}
 use Rattle.register.specs.Offices.{batch_entry}

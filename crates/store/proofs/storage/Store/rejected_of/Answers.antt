@@ -1,4 +1,4 @@
--- Why `rejected_of` keeps its promise.
+-- Proof that `rejected_of` meets its contract.
 use Rattle.store.proofs.LoadsLemmas.{loads_as}
 use Rattle.store.proofs.storage.Store.rejected_of.Goals as goal
 

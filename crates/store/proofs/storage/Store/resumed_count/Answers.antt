@@ -1,4 +1,4 @@
--- Why `resumed_count` keeps its promise.
+-- Proof that `resumed_count` meets its contract.
 use Rattle.std.proofs.Common.{Some, subst, refl}
 use Rattle.register.specs.Tabulated.{IsCount}
 use Rattle.store.specs.Elections.{election_in}

@@ -1,4 +1,4 @@
--- Why `resumed_sheet` keeps its promise.
+-- Proof that `resumed_sheet` meets its contract.
 use Rattle.std.proofs.Common.{◌≡◌, ◌∙◌, ℕ, List, map, ap, sym, subst, Some, None}
 use Rattle.register.specs.Offices.{ward_entry, candidate_entry}
 use Rattle.register.specs.Marks.{columns_of}

@@ -1,4 +1,4 @@
--- Why `seal_part` keeps its promise.
+-- Proof that `seal_part` meets its contract.
 use Rattle.std.proofs.Common.{option_map, sym, ◌∙◌, true≢false}
 use Rattle.register.specs.Offices.{ward_at}
 use Rattle.register.specs.Elections.{election_of}

@@ -1,4 +1,4 @@
--- Why `settled_ballots` keeps its promise.
+-- Proof that `settled_ballots` meets its contract.
 use Rattle.std.proofs.Common.{List, map, take, get_or, sym, subst, ap, ◌∙◌, ◌++◌}
 use Rattle.register.specs.declared.polls.Judgement.{Judgement}
 use Rattle.register.specs.Offices.{BatchEntry, JudgedEntry, batch_entry}

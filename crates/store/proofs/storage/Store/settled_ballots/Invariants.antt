@@ -1,4 +1,4 @@
--- What the loop of `settled_ballots` keeps.
+-- The invariant of the loop in `settled_ballots`.
 use Rattle.std.proofs.Common.{map, take, Ok}
 use Rattle.sqlite.specs.Held.{state}
 use Rattle.register.specs.Offices.{batch_entry}

@@ -1,4 +1,4 @@
--- Why `sheet_in_count` keeps its promise.
+-- Proof that `sheet_in_count` meets its contract.
 use Rattle.std.proofs.Common.{rules, ◌≡◌}
 use Rattle.store.specs.Elections.{election_in}
 use Rattle.store.proofs.ElectionLemmas.{in_count_contested, begun_sheet}

@@ -1,4 +1,4 @@
--- Why `step_in` keeps its promise.
+-- Proof that `step_in` meets its contract.
 use Rattle.std.proofs.Common.{◌≡◌, ◌∙◌, ap, map, sym, List, ℕ}
 use Rattle.count.specs.declared.stages.Due.{Due}
 use Rattle.register.specs.declared.phase.Phase.{Phase}
@@ -6,7 +6,7 @@ use Rattle.register.specs.declared.phase.Phase.TheVariants.{Sealed}
 use Rattle.register.specs.Offices.{WardEntry, CandidateEntry, candidate_entry, ward_entry}
 use Rattle.register.specs.Elections.{due_of, election_of, is_counted}
 use Rattle.register.specs.Counts.{stage_after}
-use Rattle.register.specs.Steps.{StepEntry, count_goes, next_in}
+use Rattle.register.specs.NextSteps.{NextStepEntry, count_goes, next_in}
 use Rattle.store.proofs.LoadsLemmas.{loads_none}
 use Rattle.store.proofs.storage.Store.step_in.Goals as goal
 

@@ -1,4 +1,4 @@
--- Why `tally_all` keeps its promise.
+-- Proof that `tally_all` meets its contract.
 use Rattle.std.proofs.Common.{refl, map, take, sym, subst, List}
 use Rattle.register.specs.Offices.{BatchEntry, batch_entry}
 use Rattle.store.specs.Tallies.{IsTally}

@@ -1,4 +1,4 @@
--- What the loop of `tally_all` keeps.
+-- The invariant of the loop in `tally_all`.
 use Rattle.std.proofs.Common.{map, take, Ok}
 use Rattle.sqlite.specs.Held.{state}
 use Rattle.register.specs.Offices.{batch_entry}

@@ -1,4 +1,4 @@
--- Why `tally_of` keeps its promise.
+-- Proof that `tally_of` meets its contract.
 use Rattle.std.proofs.Common.{sym, subst, ap, [], ◌∷◌}
 use Rattle.register.specs.Offices.{batch_entry}
 use Rattle.register.specs.Polls.{Pile}

@@ -1,4 +1,4 @@
--- Why `third_part` keeps its promise.
+-- Proof that `third_part` meets its contract.
 use Rattle.std.proofs.Common.{◌≡◌, Some, ap, ◌∙◌}
 use Rattle.register.specs.Offices.{batch_entry, batch_at}
 use Rattle.register.specs.Batches.{ward_for, third_for, keyings_for}

@@ -1,4 +1,4 @@
--- Why `verdict_part` keeps its promise.
+-- Proof that `verdict_part` meets its contract.
 use Rattle.std.proofs.Common.{◌≡◌, Some, ap, ◌∙◌}
 use Rattle.register.specs.Offices.{batch_entry, batch_at}
 use Rattle.register.specs.Batches.{ward_for, candidates_for, keyings_for}

@@ -1,4 +1,4 @@
--- Why `view_of` keeps its promise.
+-- Proof that `view_of` meets its contract.
 use Rattle.std.proofs.Common.{◌≡◌, None, true, is_some, sym, ap, ◌∙◌, true≢false}
 use Rattle.register.specs.Offices.{receipt_entry, receipt_at}
 use Rattle.store.proofs.WorkLemmas.{found_alike}

@@ -1,4 +1,4 @@
--- Why `walk_papers` keeps its promise.
+-- Proof that `walk_papers` meets its contract.
 use Rattle.std.proofs.Common.{◌≡◌, List, map, refl, subst}
 use Rattle.register.specs.declared.keyings.KeyedPaper.{KeyedPaper}
 use Rattle.register.specs.Offices.{KeyedEntry, batch_entry, keyed_entry, judged_entry, keying_of}

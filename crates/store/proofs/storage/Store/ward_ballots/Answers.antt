@@ -1,4 +1,4 @@
--- Why `ward_ballots` keeps its promise.
+-- Proof that `ward_ballots` meets its contract.
 use Rattle.std.proofs.Common.{List, map, subst, ap, ◌∙◌}
 use Rattle.register.specs.Offices.{BatchEntry}
 use Rattle.register.specs.Polls.{BallotsEntry, pile_of, StandFor, settled_judgements, ballots_by, ballots_in}

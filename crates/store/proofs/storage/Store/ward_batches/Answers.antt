@@ -1,4 +1,4 @@
--- Why `ward_batches` keeps its promise.
+-- Proof that `ward_batches` meets its contract.
 use Rattle.std.proofs.Common.{map, ap, ◌∙◌}
 use Rattle.store.specs.Piles.{read_view_of}
 use Rattle.store.proofs.LoadsLemmas.{loads_as, loads_both, loads_cut, loads_stopped}

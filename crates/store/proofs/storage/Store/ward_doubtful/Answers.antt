@@ -1,4 +1,4 @@
--- Why `ward_doubtful` keeps its promise.
+-- Proof that `ward_doubtful` meets its contract.
 use Rattle.std.proofs.Common.{map, ap, ◌∙◌}
 use Rattle.register.specs.Offices.{candidate_entry}
 use Rattle.register.specs.Marks.{columns_of}

@@ -1,4 +1,4 @@
--- Why `ward_election` keeps its promise.
+-- Proof that `ward_election` meets its contract.
 use Rattle.std.proofs.Common.{ℕ, Some, List, map, refl, sym, subst, ap, ◌∙◌}
 use Rattle.register.specs.Offices.{ward_entry, candidate_entry}
 use Rattle.register.specs.Marks.{columns_of}

@@ -1,4 +1,4 @@
--- Why `ward_overview` keeps its promise.
+-- Proof that `ward_overview` meets its contract.
 use Rattle.std.proofs.Common.{refl}
 use Rattle.store.proofs.OverviewLemmas.{same_ward_view}
 use Rattle.store.proofs.LoadsLemmas.{loads_as, loads_both, loads_cut}

@@ -1,4 +1,4 @@
--- Why `ward_overviews` keeps its promise.
+-- Proof that `ward_overviews` meets its contract.
 use Rattle.std.proofs.Common.{◌≡◌, ◌++◌, ◌∷◌, [], map, length, rules, refl, sym, ap, ◌∙◌}
 use Rattle.std.proofs.lemmas.Iterator.Adapters.{YieldsList-from_vec}
 use Rattle.std.proofs.lemmas.Iterator.Consumers.{YieldsList-end, YieldsList-turn}

@@ -1,4 +1,4 @@
--- What the loop of `ward_overviews` keeps.
+-- The invariant of the loop in `ward_overviews`.
 use Rattle.std.proofs.Common.{◌≡◌, map, Ok}
 use Rattle.sqlite.specs.Held.{state}
 use Rattle.register.specs.declared.wards.Ward.{Ward}

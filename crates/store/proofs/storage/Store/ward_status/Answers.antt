@@ -1,4 +1,4 @@
--- Why `ward_status` keeps its promise.
+-- Proof that `ward_status` meets its contract.
 use Rattle.std.proofs.Common.{refl, ap, length, sym, ◌∙◌, subst, List}
 use Rattle.register.specs.Offices.{BatchEntry, candidate_entry, batch_entry}
 use Rattle.tables.proofs.ListLemmas.{mapped_length}

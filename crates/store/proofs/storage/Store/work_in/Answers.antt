@@ -1,8 +1,8 @@
--- Why `work_in` keeps its promise.
+-- Proof that `work_in` meets its contract.
 use Rattle.std.proofs.Common.{◌≡◌, map, take, refl, sym, ap, ◌∙◌, ◌++◌, ◌∷◌, [], rules}
 use Rattle.std.specs.Option.{option_to_list}
 use Rattle.register.specs.Offices.{batch_entry}
-use Rattle.register.specs.Standings.{work_entry}
+use Rattle.register.specs.Status.{work_entry}
 use Rattle.tables.specs.declared.fault.Fault.TheVariants.{Memory}
 use Rattle.store.proofs.WorkLemmas.{work_among, more_work}
 use Rattle.store.proofs.LoadsLemmas.{loads_none, loads_as, loads_both, loads_cut, loads_stopped, entries_more, entries_all, no_batch}

@@ -1,8 +1,8 @@
--- What the loop of `work_in` keeps.
+-- The invariant of the loop in `work_in`.
 use Rattle.std.proofs.Common.{◌≡◌, map, take, Ok}
 use Rattle.sqlite.specs.Held.{state}
 use Rattle.register.specs.Offices.{batch_entry}
-use Rattle.register.specs.Standings.{work_entry}
+use Rattle.register.specs.Status.{work_entry}
 use Rattle.store.proofs.WorkLemmas.{work_among}
 use Rattle.store.specs.Loads.{LoadsAt}
 use Rattle.store.proofs.storage.Store.work_in.Given as goal

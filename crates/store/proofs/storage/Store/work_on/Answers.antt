@@ -1,4 +1,4 @@
--- Why `work_on` keeps its promise.
+-- Proof that `work_on` meets its contract.
 use Rattle.std.proofs.Common.{map, refl, ap, ◌∙◌}
 use Rattle.register.specs.Offices.{candidate_entry}
 use Rattle.register.specs.Marks.{columns_of}

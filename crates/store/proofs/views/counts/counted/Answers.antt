@@ -1,4 +1,4 @@
--- Why `counted` keeps its promise.
+-- Proof that `counted` meets its contract.
 use Rattle.store.proofs.ElectionLemmas.{counted_shown}
 use Rattle.store.proofs.views.counts.counted.Goals as goal
 

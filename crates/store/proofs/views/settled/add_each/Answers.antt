@@ -1,4 +1,4 @@
--- Why `add_each` keeps its promise.
+-- Proof that `add_each` meets its contract.
 use Rattle.std.proofs.Common.{map}
 use Rattle.register.specs.Offices.{judged_entry}
 use Rattle.store.proofs.SettledLemmas.{count_none}

@@ -1,4 +1,4 @@
--- What the loop of `add_each` keeps.
+-- The invariant of the loop in `add_each`.
 use Rattle.std.proofs.Common.{map, take}
 use Rattle.register.specs.Offices.{keyed_entry, judged_entry}
 use Rattle.register.specs.Polls.{StandFor, ballots_by}

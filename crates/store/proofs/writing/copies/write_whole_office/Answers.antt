@@ -1,4 +1,4 @@
--- Why `write_whole_office` keeps its promise.
+-- Proof that `write_whole_office` meets its contract.
 use Rattle.sqlite.specs.Held.{state}
 use Rattle.tables.proofs.SameLemmas.{sees_same}
 use Rattle.tables.proofs.AlterLemmas.{alters_told, alters_sees, alters_after, alters_failed, alters_cut}

@@ -1,11 +1,11 @@
--- Why `write_addition` keeps its promise.
+-- Proof that `write_addition` meets its contract.
 use Rattle.sqlite.specs.Held.{state}
 use Rattle.register.specs.Offices.{OfficeState}
 use Rattle.register.specs.Tabulated.{TabulationEntries}
 use Rattle.tables.specs.Contents.{Contents}
 use Rattle.tables.proofs.SameLemmas.{sees_same}
 use Rattle.tables.proofs.AlterLemmas.{alters_same, alters_both, alters_failed}
-use Rattle.store.specs.Offices.{tables_with}
+use Rattle.store.specs.StateTables.{tables_with}
 use Rattle.store.proofs.WriteLemmas.{with_moved, bundles_moved, both_put}
 use Rattle.store.proofs.writing.counts.write_addition.Goals as goal
 

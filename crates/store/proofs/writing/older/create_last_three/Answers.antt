@@ -1,4 +1,4 @@
--- Why `create_last_three` keeps its promise.
+-- Proof that `create_last_three` meets its contract.
 use Rattle.tables.specs.Making.{SeesMade}
 use Rattle.tables.proofs.AlterLemmas.{alters_told, alters_both, alters_after, alters_failed, alters_cut}
 use Rattle.store.proofs.writing.older.create_last_three.Goals as goal

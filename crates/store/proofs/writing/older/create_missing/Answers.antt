@@ -1,4 +1,4 @@
--- Why `create_missing` keeps its promise.
+-- Proof that `create_missing` meets its contract.
 use Rattle.sqlite.specs.Held.{state}
 use Rattle.store.specs.declared.older.OlderForm.TheVariants.{WithCounts, WithoutCounts}
 use Rattle.store.specs.Migrations.{older_tables}

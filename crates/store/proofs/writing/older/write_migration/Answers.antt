@@ -1,4 +1,4 @@
--- Why `write_migration` keeps its promise.
+-- Proof that `write_migration` meets its contract.
 use Rattle.std.proofs.Common.{subst}
 use Rattle.sqlite.specs.Held.{state}
 use Rattle.register.specs.Offices.{OfficeState}
@@ -6,7 +6,7 @@ use Rattle.register.specs.Tabulated.{addition_entries}
 use Rattle.tables.specs.Contents.{Contents, Sees}
 use Rattle.tables.proofs.SameLemmas.{sees_same}
 use Rattle.tables.proofs.AlterLemmas.{alters_told, alters_both, alters_failed, alters_cut}
-use Rattle.store.specs.Offices.{SeesState}
+use Rattle.store.specs.StateTables.{SeesState}
 use Rattle.store.specs.Migrations.{older_tables, tabulation_in}
 use Rattle.store.proofs.MigrationLemmas.{lacks_filled, version_put}
 use Rattle.store.proofs.writing.older.write_migration.Goals as goal

@@ -1,4 +1,4 @@
--- Of the proof of `write`: what is shown by hand.
+-- Parts of the proof of `write` that are done by hand.
 use Rattle.std.proofs.Common.{subst}
 use Rattle.votes.specs.Text.{TellsUnits}
 use Rattle.votes.proofs.Texts.{votes_text-TellsUnits}

@@ -1,4 +1,4 @@
--- Of the proof of `fmt`: what is shown by hand.
+-- Parts of the proof of `fmt` that are done by hand.
 use Rattle.votes.proofs.Texts.{votes_text-printed}
 use Rattle.votes.proofs.units.VotesDisplay.fmt.Goals as goal
 

@@ -1,0 +1,26 @@
+-- The words of a request to count ballots, and the request, as the specification sees them.
+use Rattle.std.specs.Prelude.{◌≡◌, option_map, Result, Ok, Err}
+use Rattle.checker.specs.Counts.{text_of}
+use Rattle.checker.specs.Requests.{CountEntry, WordsEntry}
+use Rattle.checker.specs.declared.requests.CountRequest.{CountRequest}
+use Rattle.checker.specs.declared.requests.CountWords.{CountWords}
+use Rattle.checker.specs.declared.requests.WordsFlaw.{WordsFlaw}
+
+-- the request so far
+abbrev pub words_told : CountWords → WordsEntry
+words_told words = record {
+  next = words.next;
+  ballots = option_map (λ w. w.now) words.ballots;
+  text = words.text;
+  title = option_map (λ w. w.now) words.title;
+  lots = words.lots.items;
+}
+
+-- a complete request
+abbrev pub request_told : CountRequest → CountEntry
+request_told request = record { ballots = request.ballots.now; text = text_of request.text; lots = request.lots.items }
+
+-- the request in some words, or the reason why they aren't understood
+abbrev pub IsRequest : Result CountEntry WordsFlaw → Result CountRequest WordsFlaw → Type 0
+IsRequest told (Ok request) = told ≡ Ok (request_told request)
+IsRequest told (Err why) = told ≡ Err why

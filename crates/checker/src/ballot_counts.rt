@@ -1,0 +1,197 @@
+//! The count of a file of ballots, and its texts.
+
+ghost use Rattle.std.specs.Prelude.{◌≡◌, option_map, string_bytes, IfOk, IfErr};
+ghost use Rattle.sheet.specs.Entries.{shown};
+ghost use Rattle.sheet.specs.Wards.{CanBePrinted};
+ghost use Rattle.checker.specs.Counts.{IsCountedText, IsLotLine, IsNoLotLine, IsReadingText, IsReadingUncounted, IsUncounted};
+ghost use Rattle.checker.specs.Counts.{IsWardText, IsWardUncounted, declaration_asked, is_finished, lots_in, text_of, text_shown};
+ghost use Rattle.checker.specs.Values.{reading_of};
+
+use crate::counting::{WardCount, count_of};
+use crate::file_content::Reader;
+use crate::lot_lines::lot_line;
+use crate::lots::lots_of;
+use crate::problem::Problem;
+use crate::reading::read;
+use crate::wards::{Election, candidates_of, ward_in};
+use count::CountEnd;
+use sheet::{ballots_text, declaration_text, page_text, sheet_text, spreadsheet_text};
+use std::alloc::{AllocError, Global};
+
+/// A text of the count of a ward, as an office prints it.
+#[derive(Clone, Copy)]
+pub enum CountText<'a> {
+    /// The stage sheet.
+    Sheet,
+    /// The declaration of a finished count; nothing before that.
+    Declaration,
+    /// The page for a browser, under this title: of the declared ward if its count is finished.
+    Page(&'a str),
+    /// The table of the stages for a spreadsheet.
+    Table,
+    /// The ballots and the lots.
+    Ballots,
+}
+
+/// A text of a count, which may wait for a lot.
+#[derive(Drop)]
+pub struct CountedText {
+    /// The text, for the stages so far.
+    pub text: String,
+    /// The line about the lot that the count waits for; `None` if the count is finished.
+    pub lot_needed: Option<String>,
+}
+
+/// The reason why ballots aren't counted.
+#[derive(Clone, Copy)]
+pub enum CountProblem {
+    /// A second lot is given for this stage.
+    LotTwice { stage: u8 },
+    /// The ballots or their lots prevent it; or an allocation failed.
+    Ballots(Problem),
+}
+
+/// Returns whether a count is finished.
+fn is_finished(end: CountEnd) -> bool
+    ensures { result ≡ is_finished end }
+{
+    match end {
+        CountEnd::Finished => true,
+        CountEnd::LotNeeded { .. } | CountEnd::LotNotAmong { .. } => false,
+    }
+}
+
+/// Returns the lots of a contested ward; none of an uncontested one.
+fn lots_in<'a>(election: &Election<'a>) -> &'a [(u8, u8)]
+    ensures { result.now ≡ lots_in election.now.ward.poll election.now.lots.now }
+{
+    match election.ward.poll {
+        None => &[],
+        Some(_) => election.lots,
+    }
+}
+
+/// Returns the declaration of a finished count; an empty text before that.
+fn declared(alloc: Global, election: &Election, count: &WardCount) -> Result<String, AllocError>
+    requires { CanBePrinted election.now.ward }
+    ensures { IfOk result (λ told. string_bytes told ≡ text_shown declaration_asked (shown election.now.ward) election.now.bundles.now election.now.lots.now count.now) }
+{
+    if !is_finished(count.end) {
+        return Ok(String::new(alloc));
+    }
+    declaration_text(alloc, &election.ward, count.elected)
+}
+
+/// Returns a text of the count of a ward.
+fn text_of(
+    alloc: Global,
+    election: &Election,
+    count: &WardCount,
+    text: &CountText,
+) -> Result<String, AllocError>
+    requires { CanBePrinted election.now.ward }
+    ensures { IfOk result (λ told. string_bytes told ≡ text_shown (text_of text.now) (shown election.now.ward) election.now.bundles.now election.now.lots.now count.now) }
+{
+    let ward = &election.ward;
+    match text {
+        CountText::Sheet => sheet_text(alloc, ward, &count.stages),
+        CountText::Declaration => declared(alloc, election, count),
+        CountText::Page(title) => {
+            let is_declared = is_finished(count.end);
+            page_text(
+                alloc,
+                ward,
+                *title,
+                is_declared,
+                &count.stages,
+                lots_in(election),
+            )
+        }
+        CountText::Table => spreadsheet_text(alloc, ward, &count.stages),
+        CountText::Ballots => ballots_text(alloc, ward, election.bundles, lots_in(election)),
+    }
+}
+
+/// Returns the line about the lot that a count waits for, if it waits for one.
+fn lot_needed(alloc: Global, election: &Election, end: CountEnd) -> Result<Option<String>, Problem>
+    ensures ok { IfOk result (λ line. IsLotLine (shown election.now.ward) end (option_map string_bytes line)) }
+    ensures err { IfErr result (λ problem. IsNoLotLine end problem) }
+{
+    match end {
+        CountEnd::Finished => Ok(None),
+        CountEnd::LotNeeded { stage, among } => match lot_line(
+            alloc,
+            &election.ward,
+            stage,
+            &among,
+        ) {
+            Ok(line) => Ok(Some(line)),
+            Err(_) => Err(Problem::Memory),
+        },
+        CountEnd::LotNotAmong { stage } => Err(Problem::LotNotAmong { stage }),
+    }
+}
+
+/// Counts a ward, and returns a text of its count.
+fn counted(alloc: Global, election: &Election, text: &CountText) -> Result<CountedText, Problem>
+    requires { CanBePrinted election.now.ward }
+    ensures ok { IfOk result (λ counted. IsWardText election.now.ward.poll (shown election.now.ward) election.now.bundles.now election.now.lots.now (text_of text.now) counted) }
+    ensures err { IfErr result (λ problem. IsWardUncounted election.now.ward.poll (shown election.now.ward) election.now.bundles.now election.now.lots.now problem) }
+{
+    let count = count_of(alloc, election)?;
+    let lot_needed = lot_needed(alloc, election, count.end)?;
+    match text_of(alloc, election, &count, text) {
+        Ok(text) => Ok(CountedText { text, lot_needed }),
+        Err(_) => Err(Problem::Memory),
+    }
+}
+
+/// Counts the ward in a file with further lots, and returns a text of its count.
+fn counted_as(
+    alloc: Global,
+    told: &Reader,
+    added: &[(u8, u8)],
+    text: &CountText,
+) -> Result<CountedText, CountProblem>
+    ensures ok { IfOk result (λ counted. IsReadingText (reading_of told.now) added.now (text_of text.now) counted) }
+    ensures err { IfErr result (λ problem. IsReadingUncounted (reading_of told.now) added.now problem) }
+{
+    let lots = lots_of(alloc, &told.comments.lots, added)?;
+    let Ok(candidates) = candidates_of(alloc, &told.papers.withdrawn, &told.names.names) else {
+        return Err(CountProblem::Ballots(Problem::Memory));
+    };
+    let election = Election {
+        ward: ward_in(told, &candidates),
+        bundles: &told.papers.bundles,
+        lots: &lots,
+    };
+    match counted(alloc, &election, text) {
+        Ok(counted) => Ok(counted),
+        Err(problem) => Err(CountProblem::Ballots(problem)),
+    }
+}
+
+/// Counts the ballots of a ward, and returns a text of the count: the stage sheet, the declaration, the page, the table, or the
+/// ballots and lots. It is the text that an office prints of a ward with just these papers and lots.
+///
+/// The ballots are read as for [`check`](crate::check). The further lots, each a stage, counted from 1, and a candidate, are added to
+/// those that the file records; no two may be for one stage. If a lot is needed that isn't there, the text is of the stages so far,
+/// and a line names the stage and the tied candidates.
+pub fn count_ballots(
+    alloc: Global,
+    ballots: &[u8],
+    added: &[(u8, u8)],
+    text: &CountText,
+) -> Result<CountedText, CountProblem>
+    ensures ok { IfOk result (λ counted. IsCountedText ballots.now added.now (text_of text.now) counted) }
+    ensures err { IfErr result (λ problem. IsUncounted ballots.now added.now problem) }
+{
+    let told = match read(alloc, ballots) {
+        Ok(told) => told,
+        Err(problem) => return Err(CountProblem::Ballots(problem)),
+    };
+    match counted_as(alloc, &told, added, text) {
+        Ok(counted) => Ok(counted),
+        Err(problem) => Err(problem),
+    }
+}

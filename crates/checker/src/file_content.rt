@@ -1,0 +1,64 @@
+//! The content of a file of ballots so far.
+
+ghost use Rattle.std.specs.Prelude.{◌≤◌, length};
+ghost use Rattle.paper.specs.Columns.{max_candidates};
+ghost use Rattle.votes.specs.Units.{max_seats};
+
+use count::Bundles;
+use paper::Columns;
+
+/// The numbers of candidates and seats, the withdrawn candidates, and the papers.
+#[derive(Drop)]
+pub(crate) struct PaperTotals {
+    /// The highest candidate number.
+    pub(crate) highest: u8,
+    pub(crate) seats: u8,
+    pub(crate) withdrawn: Columns,
+    pub(crate) bundles: Bundles,
+    ghost few: { highest ≤ max_candidates },
+    ghost some_seats: { 1 ≤ seats },
+    ghost few_seats: { seats ≤ max_seats },
+}
+
+/// The names of the numbers from 1 on, and the name of the ward.
+#[derive(Drop)]
+pub(crate) struct CandidateNames {
+    pub(crate) names: Vec<String>,
+    pub(crate) ward: String,
+    ghost few: { length names.items ≤ max_candidates },
+}
+
+/// The content of our own comments.
+#[derive(Drop)]
+pub(crate) struct Comments {
+    /// The number of the ward.
+    pub(crate) ward: Option<u8>,
+    /// The numbers of rejected papers, by code 1 to 5.
+    pub(crate) rejected: Option<[u32; 5]>,
+    /// Stages, counted from 1, each with the candidate drawn by its lot.
+    pub(crate) lots: Vec<(u8, u8)>,
+}
+
+/// The position of the next line.
+#[derive(Clone, Copy)]
+pub(crate) enum NextLine {
+    /// At the numbers of candidates and seats.
+    Size,
+    /// Where withdrawn candidates may be listed.
+    Withdrawn,
+    /// Among the papers.
+    PaperTotals,
+    /// Among the names.
+    CandidateNames,
+    /// After the name of the ward.
+    End,
+}
+
+/// The content of a file so far, and the position of its next line.
+#[derive(Drop)]
+pub(crate) struct Reader {
+    pub(crate) place: NextLine,
+    pub(crate) papers: PaperTotals,
+    pub(crate) names: CandidateNames,
+    pub(crate) comments: Comments,
+}

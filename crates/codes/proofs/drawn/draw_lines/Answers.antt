@@ -1,7 +1,0 @@
--- Why `draw_lines` keeps its promise.
-use Rattle.std.proofs.Common.{◌∙◌}
-use Rattle.codes.proofs.LetterLemmas.{each_ascii}
-use Rattle.codes.proofs.drawn.draw_lines.Goals as goal
-
-pub lines_by-requires-clause-ascii : goal.lines_by-requires-clause-ascii
-lines_by-requires-clause-ascii g c = each_ascii c.in_ok-letters.ensures.ok.own _ (c.as_slice.ensures.value ∙ c.in_ok-letters.ensures.ok.are)

@@ -1,0 +1,16 @@
+-- Why `push_office_code` keeps its promise.
+use Rattle.std.proofs.Common.{drop}
+use Rattle.codes.proofs.LetterLemmas.{each_drop, each_take}
+use Rattle.codes.proofs.random_letters.push_office_code.Goals as goal
+
+pub push_letters-requires : goal.push_letters-requires
+push_letters-requires c = each_take 4 c.args.letters.now c.requires.ascii
+
+pub push_letters-requires-2 : goal.push_letters-requires-2
+push_letters-requires-2 c = each_take 4 (drop 4 c.args.letters.now) (each_drop 4 c.args.letters.now c.requires.ascii)
+
+pub push_letters-requires-3 : goal.push_letters-requires-3
+push_letters-requires-3 c = each_take 4 (drop 8 c.args.letters.now) (each_drop 8 c.args.letters.now c.requires.ascii)
+
+pub push_letters-requires-4 : goal.push_letters-requires-4
+push_letters-requires-4 c = each_take _ (drop 12 c.args.letters.now) (each_drop 12 c.args.letters.now c.requires.ascii)

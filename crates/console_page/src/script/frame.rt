@@ -1,0 +1,153 @@
+//! Part of the script: the tabs, the choice of a ward, and how the page stays up to date.
+
+/// Declares the tabs, how one of them is opened and drawn, and how the page is refreshed.
+pub(crate) const FRAME: &str = r#"// ---- sections
+
+const TABS = [
+  ['overview', 'Overview'], ['nominations', 'Nominations'], ['batches', 'Batches'], ['doubtful', 'Doubtful papers'], ['count', 'Count'],
+  ['journal', 'Journal'],
+];
+// Seconds between two refreshes, and the most of them.
+const SECONDS = 3;
+const LONGEST_PAUSE = 30;
+// Each section adds the function that draws it: overview, nominations, and so on.
+const DRAW = {};
+
+let view = 'overview';
+let chosen = 0;
+let turn = 0;
+
+const wardOf = () => wardAt(chosen);
+
+// Opens a section. The address names the section and the ward, so that a reload or the Back button leads there.
+const go = (part, ward = chosen) => {
+  const address = ward && part !== 'overview' && part !== 'journal' ? `${part}/${ward}` : part;
+  if (location.hash.slice(1) === address) route(); else location.hash = address;
+};
+
+const drawTabs = () => {
+  const open = {doubtful: office.wards.reduce((sum, it) => sum + it.doubtful_open, 0), batches: office.wards.reduce((sum, it) => sum + it.differing, 0)};
+  fill(at('tabs'), TABS.map(([part, text], place) => button(
+    [made('kbd', {}, String(place + 1)), ` ${text}`,
+      open[part] ? made('span', {className: 'badge', title: part === 'batches' ? 'batches that differ' : 'papers to judge'}, String(open[part])) : ''],
+    () => go(part), {key: `tab ${part}`, className: part === view ? 'here' : '', ariaCurrent: part === view ? 'page' : null})));
+};
+
+// Draws the list from which the officer chooses a ward.
+const drawPicks = () => {
+  for (const place of document.querySelectorAll('[data-pick]')) {
+    const part = place.dataset.pick;
+    const options = office.wards.map((it) => made('option', {value: String(it.ward), defaultSelected: it.ward === chosen}, `${it.ward} ${spokenName(it.name)}`));
+    const select = made('select', {ariaLabel: 'Ward', data: {key: `ward ${part}`}}, ...options);
+    select.addEventListener('change', () => go(part, Number(select.value)));
+    fill(place, office.wards.length ? made('label', {}, 'Ward ', select) : '');
+  }
+};
+
+const drawHealth = () => {
+  const {down, at: when} = office;
+  at('health').className = down ? 'down' : '';
+  at('health').textContent = down ? `${down}${when ? ` This page shows the state at ${clock(when)}.` : ''}` : `Updated at ${clock(Date.now())}`;
+  const copy = stored('copy');
+  at('unkept').hidden = stores;
+  at('copied').replaceChildren(copy ? `Last copy: ${ago(copy.at)}` : 'No copy made from this browser yet');
+};
+
+const draw = async () => {
+  turn += 1;
+  const now = turn;
+  if (!wardOf()) chosen = office.wards[0]?.ward ?? 0;
+  drawTabs();
+  drawPicks();
+  await DRAW[view](() => now === turn);
+  if (now === turn) document.body.classList.remove('stale');
+};
+
+const route = () => {
+  const [part, ward] = location.hash.slice(1).split('/');
+  const before = view, wardBefore = chosen;
+  view = DRAW[part] ? part : 'overview';
+  if (wardAt(Number(ward))) chosen = Number(ward);
+  for (const [name, text] of TABS) {
+    at(name).hidden = name !== view;
+    if (name === view) document.title = `${text} - Count office`;
+  }
+  // Until the new section or ward is read, the old one is still shown, and the officer can't use it.
+  if (view !== before || chosen !== wardBefore) {
+    document.body.classList.add('stale');
+    forgetTold();
+  }
+  if (view !== before) {
+    document.body.classList.remove('judging');
+    scrollTo(0, 0);
+    at(`${view}-title`).focus({preventScroll: true});
+  }
+  draw();
+};
+
+const isOther = () => !at('other').hidden;
+
+// An office only grows: it loses no receipt, and no ward changes. If this browser saw more before, this is another file or an older copy.
+const compareOffice = () => {
+  const seen = stored('seen', {receipts: 0, wards: []});
+  const wards = office.wards.map((it) => `${it.ward} ${it.seats} ${it.name}`);
+  const same = office.receipts >= seen.receipts && seen.wards.every((it) => wards.includes(it));
+  if (same && !isOther()) return store('seen', {receipts: office.receipts, wards});
+  at('other').hidden = false;
+  return at('other').replaceChildren(
+    made('p', {className: 'said'}, 'This isn\u2019t the office that this browser used last.'),
+    made('p', {}, `This office has ${many(office.receipts, 'accepted order')} and ${many(wards.length, 'ward')}. `,
+      `The previous one had ${seen.receipts.toLocaleString('en')} and ${seen.wards.length}. `,
+      'Another file may be served, or an older copy. Check that this is the right office before you continue.'),
+    made('p', {className: 'acts'}, button('This is the right office', () => {
+      for (const name of [...storedNames('expected'), ...storedNames('draft'), ...storedNames(PENDING), 'copy', 'log', 'title']) unstore(name);
+      details.clear();
+      store('seen', {receipts: office.receipts, wards: office.wards.map((it) => `${it.ward} ${it.seats} ${it.name}`)});
+      at('other').hidden = true;
+      giveUp();
+      refresh(true);
+    })));
+};
+
+let refreshing = null;
+
+const refreshOnce = async (isForced) => {
+  const answer = await ask('wards');
+  const isFirst = office.receipts < 0;
+  office.down = answer?.status === 200 ? '' : explainedAnswer(answer);
+  if (!office.down) {
+    const {receipts, wards} = answer.says;
+    office.at = Date.now();
+    const isChanged = answer.text !== office.text;
+    if (isChanged) {
+      office.reads.clear();
+      Object.assign(office, {receipts, text: answer.text, wards});
+      compareOffice();
+    }
+    if (isFirst) route(); else if (isChanged || isForced) await draw();
+  }
+  drawHealth();
+};
+
+// Reads all wards, and draws the section again if anything changed.
+const refresh = (isForced = false) => {
+  refreshing = (refreshing ?? Promise.resolve()).catch(() => {}).then(() => refreshOnce(isForced));
+  return refreshing;
+};
+
+// Refreshes the page every few seconds, and less often if the office takes long to reply. Once a minute it is drawn even if nothing changed,
+// to update the times shown.
+const keepFresh = async () => {
+  for (let turns = 1; ; turns += 1) {
+    const began = Date.now();
+    if (!document.hidden && turns > 1) await refresh(turns % 20 === 0).catch(() => {});
+    await catchUp().catch(() => {});
+    const spent = office.down ? 0 : (Date.now() - began) / 1000;
+    const pause = Math.max(SECONDS, Math.min(5 * spent, LONGEST_PAUSE));
+    await new Promise((resolve) => setTimeout(resolve, 1000 * pause));
+  }
+};
+
+const noWards = () => made('p', {}, 'There are no wards yet. ', button('Add a ward', () => go('nominations'), {main: true}));
+
+"#;

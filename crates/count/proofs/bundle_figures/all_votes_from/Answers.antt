@@ -1,0 +1,17 @@
+-- Parts of the proof of `all_votes_from` that are done by hand.
+use Rattle.std.proofs.Common.{reverse, rules, arith}
+use Rattle.std.proofs.Math.ListN.{length-set}
+use Rattle.count.specs.Inside.Placing.{votes_from}
+use Rattle.count.proofs.ArrayLemmas.{made-more, made-all}
+use Rattle.count.proofs.bundle_figures.all_votes_from.Goals as goal
+
+pub loop-i-preserved : goal.loop-i-preserved
+loop-i-preserved c = record {
+  size = search (rules, length-set);
+  made = made-more (votes_from c.args.quota (reverse c.args.stages.now) c.args.action.now c.args.sums.now)
+      c.loop-i.votes c.loop-i.i c.votes_from.result (omega (arith, c.loop-i.invariant.size, c.loop-i-test.true)) c.loop-i.invariant.made (search rules);
+}
+
+pub returns : goal.returns
+returns c = made-all (votes_from c.args.quota (reverse c.args.stages.now) c.args.action.now c.args.sums.now)
+    c.loop-i.votes c.loop-i.i c.loop-i.invariant.size (omega (arith, c.loop-i-test.false, c.loop-i.auto.i-end)) c.loop-i.invariant.made

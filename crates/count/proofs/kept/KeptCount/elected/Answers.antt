@@ -1,9 +1,0 @@
--- Of the proof of `elected`: what is shown by hand.
-use Rattle.count.specs.Law.Elected.{elected_after}
-use Rattle.count.proofs.KeptLemmas.{kept-tells}
-use Rattle.count.proofs.kept.KeptCount.elected.Goals as goal
-
-pub returns : goal.returns
-returns c contest history kept =
-    kept-tells elected_after c.elected_with.result c.self.inside.terms c.self.inside.bundles c.self.inside.places.items c.self.inside.stages.items c.deref.result.now c.args.self.now contest history
-    c.self.view_is c.deref.ensures.value c.self.invariant c.elected_with.ensures kept

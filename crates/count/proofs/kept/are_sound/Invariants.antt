@@ -1,8 +1,0 @@
--- Of the proof of `are_sound`: what holds at each round of its loop.
-use Rattle.std.proofs.Common.{take}
-use Rattle.std.specs.List.{AllByRecursion}
-use Rattle.count.specs.Inside.Placing.{IsSound}
-use Rattle.count.proofs.kept.are_sound.Given as goal
-
-abbrev pub invariant-loop-at : goal.invariant-loop-at
-invariant-loop-at l = AllByRecursion IsSound (take l.at-index l.places)

@@ -1,7 +1,0 @@
--- Of the proof of `worth_of_parcels`: what holds at each round of its loop.
-use Rattle.std.proofs.Common.{◌≡◌, take}
-use Rattle.count.specs.Inside.Holdings.{total_of}
-use Rattle.count.proofs.tally.worth_of_parcels.Given as goal
-
-abbrev pub invariant-loop-parcel : goal.invariant-loop-parcel
-invariant-loop-parcel l = l.sum ≡ total_of (λ rest v. v) (take l.parcel-index l.parcels)

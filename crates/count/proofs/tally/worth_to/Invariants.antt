@@ -1,7 +1,0 @@
--- Of the proof of `worth_to`: what holds at each round of its loop.
-use Rattle.std.proofs.Common.{◌≡◌, take}
-use Rattle.count.specs.Inside.Holdings.{worth_to}
-use Rattle.count.proofs.tally.worth_to.Given as goal
-
-abbrev pub invariant-loop-holding : goal.invariant-loop-holding
-invariant-loop-holding l = l.sum ≡ worth_to l.holder (take l.holding-index l.holdings)

@@ -1,7 +1,0 @@
--- Of the proof of `worth`: what holds at each round of its loop.
-use Rattle.std.proofs.Common.{◌≡◌, ◌+◌}
-use Rattle.count.specs.Inside.Placing.{value_of, worth_placed}
-use Rattle.count.proofs.weights.worth.Given as goal
-
-abbrev pub invariant-loop-papers : goal.invariant-loop-papers
-invariant-loop-papers l = l.sum + worth_placed value_of l.rest l.papers-iterator ≡ worth_placed value_of l.places l.bundles

@@ -1,0 +1,31 @@
+-- Proof that `dispatch_order` meets its contract for the order to serve: the order's words are those of the serving.
+use Rattle.std.proofs.Common.{◌≡◌, ◌∙◌, ap, refl, subst, sym}
+use Rattle.sqlite.specs.Held.{state}
+use Rattle.connections.specs.Streams.{stream_of}
+use Rattle.desk.specs.Pages.{IsErrorTold}
+use Rattle.desk.specs.declared.orders.Order.{Order}
+use Rattle.desk.specs.declared.orders.Order.TheVariants as order
+use Rattle.count_office.specs.Serving.{ServesOrder}
+use Rattle.count_office.specs.declared.serving.Serving.{Serving}
+use Rattle.count_office.proofs.dispatch_order.Goals as goal
+
+-- the words of an order to serve
+serving_in : Serving → Order → Serving
+serving_in none (order.Serve port connections origin codes) = record { port = port; connections = connections; origin = origin; codes = codes }
+serving_in none other = none
+
+same_serving : (one other : Serving) → order.Serve one.port one.connections one.origin one.codes ≡ order.Serve other.port other.connections other.origin other.codes → one ≡ other
+unfolding serving_in
+same_serving one other same = ap (serving_in one) same
+
+pub returns-in-Serve-clause-serves : goal.returns-in-Serve-clause-serves
+returns-in-Serve-clause-serves g c = λ serving is.
+    let its : Serving = record { port = c.in-Serve.port; connections = c.in-Serve.connections; origin = c.in-Serve.origin; codes = c.in-Serve.codes } in (
+      refl,
+      subst (λ (s : Serving). ServesOrder (IsErrorTold g.E.Sink.taken g.E.Sink.failed c.args.err.now c.serve.new.err) (c.serve.new.err ≡ c.args.err.now) c.serve.result.0 s
+          (g.H.Host.codes_at c.args.host.now) (g.H.Host.file c.args.host.now)
+          (stream_of g.H.Sockets.Stream.Stream.held g.H.Sockets.Stream.Stream.taken g.H.Sockets.Stream.Stream.failed) (state g.S.Store)
+          (g.H.Host.known c.args.host.now) (g.H.Host.known c.serve.new.host) c.args.conn c.serve.result.1)
+          (same_serving its serving (sym c.in-Serve.is ∙ is))
+          c.serve.ensures,
+    )

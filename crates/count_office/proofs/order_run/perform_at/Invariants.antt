@@ -1,9 +1,0 @@
--- What holds each time round the loop of `perform_at`: neither output has failed.
-use Rattle.std.proofs.Common.{◌≡◌}
-use Rattle.count_office.proofs.order_run.perform_at.Given as goal
-
-abbrev pub invariant-loop-pauses : goal.invariant-loop-pauses
-invariant-loop-pauses g l = record {
-  out : g.O.Sink.failed l.out ≡ g.O.Sink.failed l.fn.out;
-  err : g.E.Sink.failed l.err ≡ g.E.Sink.failed l.fn.err;
-}

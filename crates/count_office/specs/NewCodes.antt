@@ -1,0 +1,24 @@
+-- New codes: their file, and what is printed of the order for them.
+use Rattle.std.specs.Prelude.{◌≡◌, ◌⊎◌, ◌+◌, ◌-◌, Bool, true, false, List, None, Option, Some, ℕ}
+use Rattle.codes.specs.Files.{office_in}
+use Rattle.codes.specs.Making.{ClerksEntry, IsMadeFor, IsMadeWithOffice}
+use Rattle.codes.specs.declared.fault.CodesError.{CodesError}
+use Rattle.codes.specs.declared.fault.CodesFault.TheVariants.{NoClerks}
+use Rattle.desk.specs.Pages.{Page, codes_and_office_made_page, codes_made_page, codes_page}
+use Rattle.count_office.specs.Serving.{untaken}
+
+-- a text is a file of new codes for these clerks, and for the office or not
+abbrev pub IsFileOfNewCodes : List ℕ → Bool → List ℕ → Type 0
+IsFileOfNewCodes clerks false text = IsMadeFor clerks text × (office_in text ≡ None)
+IsFileOfNewCodes clerks true text = IsMadeWithOffice clerks text
+
+-- that codes were made for so many clerks, and for the office or not
+abbrev pub made_page : Bool → ℕ → Page
+made_page false count = codes_made_page count
+made_page true count = codes_and_office_made_page count
+
+-- What is printed of the order for new codes: that they were made for all the clerks that it names, and for the office or not; or why there are none. If it names no
+-- clerks, that is why.
+abbrev pub IsPageOfNewCodes : Option ClerksEntry → Bool → Page → Type 0
+IsPageOfNewCodes None with_office page = page ≡ codes_page NoClerks
+IsPageOfNewCodes (Some clerks) with_office page = (page ≡ made_page with_office (clerks.last + 1 - clerks.first)) ⊎ ((why : CodesError) × (page ≡ untaken why))

@@ -1,0 +1,79 @@
+//! What an order for a served office needs of this machine in addition to the office: the file of a copy, and memory for replaying a
+//! journal.
+
+ghost use Rattle.std.specs.Prelude.{◌≡◌, ◌-◌, ◌<◌, IfOk, None};
+ghost use Rattle.std.specs.Path.{path_buf_bytes, path_bytes};
+ghost use Rattle.count_office.specs.CopyPaths.{copy_path, folder_of};
+
+use crate::copies::copy_served;
+use crate::file_watch::FileWatch;
+use desk::{Failure, journal_open, tell_failure};
+use office::Office;
+use server::{Destination, ServedFile};
+use sqlite::{Alter, Connection};
+use std::alloc::{AllocError, Global};
+use std::path::{Path, PathBuf};
+use store::Fault;
+use streams::Sink;
+
+/// This machine, and the files of the office that is being served.
+#[derive(Drop)]
+pub struct LocalFile<'a> {
+    pub rt: &'a HostRuntime,
+    pub file_watch: FileWatch<'a>,
+}
+
+/// Returns the folder of a file.
+fn folder_of(file: &str) -> Path<'_>
+    ensures { path_bytes result ≡ folder_of file.now }
+{
+    Path::new(file).parent().unwrap_or(Path::new(""))
+}
+
+/// Returns the path of a copy. A copy that the console orders is made next to the database: its folder is empty.
+fn path_of_copy(alloc: Global, database: &str, to: Destination<'_>) -> Result<PathBuf, AllocError>
+    ensures { IfOk result (λ path. path_buf_bytes path ≡ copy_path database.now to.entry.folder.now to.entry.path.now) }
+{
+    let folder = if to.folder.is_empty() {
+        folder_of(database)
+    } else {
+        Path::new(to.folder)
+    };
+    folder.join(alloc, to.path)
+}
+
+impl ServedFile for LocalFile<'_> {
+    ghost whole = { λ _. None };
+
+    fn is_whole(&self) -> bool {
+        self.file_watch.is_whole(self.rt)
+    }
+
+    fn copy<S: Alter, O: Sink, E: Sink>(
+        &self,
+        office: &mut Office<S>,
+        to: Destination<'_>,
+        out: &mut O,
+        err: &mut E,
+    ) -> u8 {
+        match path_of_copy(self.rt.alloc(), self.file_watch.database(), to) {
+            Ok(path) => copy_served(self.rt, office, path.as_str(), out, err),
+            Err(AllocError) => tell_failure(Failure::Office(Fault::Memory), err),
+        }
+    }
+
+    fn journal<S: Alter, O: Sink, E: Sink>(
+        &self,
+        office: &mut Office<S>,
+        out: &mut O,
+        err: &mut E,
+    ) -> u8 {
+        match Connection::open_in_memory(self.rt.alloc()) {
+            Ok(blank) => {
+                let (status, _) = journal_open(self.rt.alloc(), office, blank, out, err);
+                status
+            }
+            Err(_) => tell_failure(Failure::Office(Fault::Memory), err),
+        }
+    }
+}

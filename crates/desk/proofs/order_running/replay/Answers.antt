@@ -1,0 +1,54 @@
+-- Proof that `replay` meets its contract.
+use Rattle.std.proofs.Common.{inr, map, refl}
+use Rattle.sqlite.specs.Held.{state}
+use Rattle.desk.specs.Lexing.{line_entry, typed_line_entry}
+use Rattle.desk.specs.Pages.{page_of, script_page}
+use Rattle.desk.specs.declared.scripts.ScriptFault.TheVariants as script
+use Rattle.desk.proofs.PageLemmas.{error_shown}
+use Rattle.desk.proofs.ScriptEnds.{holds_lines, replay_of, replay_unread}
+use Rattle.desk.proofs.order_running.replay.Goals as goal
+
+pub returns-in-Err-clause-ran : goal.returns-in-Err-clause-ran
+returns-in-Err-clause-ran g c =
+    let told = c.tell.ensures in
+    let st = state g.S.Store c.args.office.now.held in
+    record {
+      page = page_of c.in-Err.outcome;
+      cut = told.0;
+      shown = told.1;
+      is = λ clean is_open s at. replay_unread (g.F.Folder.held c.args.folder.now) s c.args.keep_going c.args.path _ c.open.ensures st c.args.office.now.closed st
+          (page_of c.in-Err.outcome) told.0 c.in-Err.ensures.unread (record { is_open = is_open; at = at });
+    }
+
+pub returns-in-Ok-all_said-clause-ran : goal.returns-in-Ok-all_said-clause-ran
+returns-in-Ok-all_said-clause-ran g c =
+    let told = c.send_lines.ensures.sent in
+    let lines = map typed_line_entry c.in-Ok-all_said.said.items in
+    let holds = holds_lines _ (map line_entry c.in-Ok.lines.items) lines (rw c.deref.ensures.value at c.in-Ok-all_said.ensures) c.in-Ok.ensures.read in
+    record {
+      page = told.page;
+      cut = told.cut;
+      shown = told.shown;
+      is = λ clean is_open s at.
+          let it = told.is clean is_open s at in (
+            it.0,
+            it.1,
+            replay_of (g.F.Folder.held c.args.folder.now) s c.args.keep_going c.args.path _ c.open.ensures (state g.S.Store c.args.office.now.held) c.send_lines.new.office.closed
+                (state g.S.Store c.send_lines.new.office.held) lines _ holds
+                (rw c.deref-in-Ok-all_said.ensures.value at it.2),
+          );
+    }
+
+pub returns-clause-ran : goal.returns-clause-ran
+returns-clause-ran g c =
+    let page = script_page script.Memory in
+    let told = error_shown g.O.Sink.taken g.O.Sink.failed g.E.Sink.taken g.E.Sink.failed c.args.out.now c.args.err.now c.tell_script_fault.new.err page
+    c.tell_script_fault.result refl c.tell_script_fault.ensures in
+    let st = state g.S.Store c.args.office.now.held in
+    record {
+      page = page;
+      cut = told.0;
+      shown = told.1;
+      is = λ clean is_open s at. replay_unread (g.F.Folder.held c.args.folder.now) s c.args.keep_going c.args.path _ c.open.ensures st c.args.office.now.closed st page told.0
+          (inr refl) (record { is_open = is_open; at = at });
+    }

@@ -1,0 +1,249 @@
+//! The steps of an order: an errand, or the orders of a script in turn.
+
+ghost use Rattle.std.specs.Prelude.{◌≡◌, ◌∷◌, [], ◌-◌, ◌^◌, ◌<◌, map, option_map, IfErr, IfOk};
+ghost use Rattle.sqlite.specs.State.{HasCleanDisk};
+ghost use Rattle.sqlite.specs.Held.{state};
+ghost use Rattle.store.specs.StateTables.{KeepsConnection};
+ghost use Rattle.office.specs.Answers.{WhenOpenAt};
+ghost use Rattle.desk.specs.Lexing.{IsReplayOf, line_entry, typed_line_entry};
+ghost use Rattle.desk.specs.Folders.{HoldsText, IsFileAt};
+ghost use Rattle.desk.specs.Headline.{IsDone, IsPlayed};
+ghost use Rattle.desk.specs.Pages.{Tells, outputs_of, page_of};
+ghost use Rattle.desk.specs.Parts.{ComesTo, IsUnreadScript};
+ghost use Rattle.desk.specs.Requests.{file_of};
+ghost use Rattle.desk.specs.Scripts.{lines_of, numbered_from};
+
+use crate::counting::count_stages;
+use crate::folders::Folder;
+use crate::import::{UNOPENED, candidate_requests, keying_of};
+use crate::lines::{LineOutcome, tell, tell_script_fault};
+use crate::orders::{Errand, Job};
+use crate::overviews::answer_to;
+use crate::printing::{index_of, text_of};
+use crate::requests::advances;
+use crate::scripts::{
+    ScriptFault, ScriptLine, ScriptStep, TypedLine, all_said, lines_in, turns_in,
+};
+use crate::sending::{goes_on, send_all, status_behind};
+use crate::steps::next_of;
+use crate::ward_status::standing_of;
+use office::Office;
+use sqlite::Alter;
+use std::alloc::Global;
+use std::io::{ErrorKind, Read};
+use std::slice;
+use store::Fault;
+use streams::Sink;
+
+/// Opens the file that an errand reads.
+fn opened<F: Folder>(folder: &F, errand: &Errand<'_>) -> Option<F::File>
+    ensures { IsFileAt (F.held folder.now) (file_of errand.now) (option_map F.File.remaining result) }
+{
+    match errand.file() {
+        Some(path) => folder.open(path),
+        None => None,
+    }
+}
+
+/// Runs an errand in an open office, prints the outcome, and returns the status. If the errand is that of a script's line, what is
+/// written to `err` begins with that line's number. With `keep_going`, a refused request doesn't end it.
+fn run<S: Alter, F: Folder, O: Sink, E: Sink>(
+    alloc: Global,
+    office: &mut Office<S>,
+    keep_going: bool,
+    line: Option<usize>,
+    errand: &Errand<'_>,
+    folder: &F,
+    out: &mut O,
+    err: &mut E,
+) -> u8
+    requires out { O.failed out.old < 2 ^ 64 - 1 }
+    requires err { E.failed err.old < 2 ^ 64 - 1 }
+    ensures ran { let outputs = outputs_of O.taken O.failed E.taken E.failed in Tells (outputs out.old err.old) (outputs out.new err.new) result
+        (λ cut page. WhenOpenAt (state S.Store) office.old office.new (λ s. ComesTo cut page (λ course.
+        IsPlayed (state S.Store office.old.held) office.new.closed (state S.Store office.new.held) keep_going (F.held folder.now) s (record { line = line; errand = errand.now } ∷ []) course))) }
+    ensures keeps_connection { KeepsConnection (state S.Store office.old.held) (state S.Store office.new.held) }
+    ensures clean { HasCleanDisk (state S.Store office.new.held) → HasCleanDisk (state S.Store office.old.held) }
+{
+    let file = opened(folder, errand);
+    match errand {
+        Errand::Send(request) => {
+            let requests = slice::from_ref(request);
+            send_all(office, keep_going, line, requests, out, err)
+        }
+        Errand::ImportCandidates { id, digest, .. } => {
+            match candidate_requests(alloc, id, file, *digest) {
+                Ok(requests) => send_all(office, keep_going, line, &requests, out, err),
+                Err(outcome) => tell(line, &outcome, out, err),
+            }
+        }
+        Errand::ImportKeying(keyed) => match keying_of(alloc, office, *keyed, file) {
+            Ok(request) => send_all(office, keep_going, line, &[request], out, err),
+            Err(outcome) => tell(line, &outcome, out, err),
+        },
+        Errand::Count { ward, id } => match advances(alloc, *ward, id) {
+            Ok(requests) => count_stages(office, line, &requests, out, err),
+            Err(_) => tell(line, &LineOutcome::Failed(Fault::Memory), out, err),
+        },
+        Errand::TellNext { ward } => tell(line, &next_of(alloc, office, *ward), out, err),
+        Errand::TellStatus { ward } => tell(line, &standing_of(alloc, office, *ward), out, err),
+        Errand::Print { ward, text } => tell(line, &text_of(office, *ward, *text), out, err),
+        Errand::PrintIndex { title } => tell(line, &index_of(office, title), out, err),
+        Errand::Ask(question) => tell(line, &answer_to(alloc, office, *question), out, err),
+    }
+}
+
+/// Runs steps in turn, and prints each reply. A refusal or a fault is printed after its line's number. The first fault ends it; so
+/// does the first output that fails, and, without `keep_going`, the first refusal. A file is opened when its step is run. The status
+/// is the last one other than 0.
+fn send_turns<S: Alter, F: Folder, O: Sink, E: Sink>(
+    alloc: Global,
+    office: &mut Office<S>,
+    keep_going: bool,
+    turns: &[ScriptStep<'_>],
+    folder: &F,
+    out: &mut O,
+    err: &mut E,
+) -> u8
+    requires out { O.failed out.old < 2 ^ 64 - 1 }
+    requires err { E.failed err.old < 2 ^ 64 - 1 }
+    ensures sent { let outputs = outputs_of O.taken O.failed E.taken E.failed in Tells (outputs out.old err.old) (outputs out.new err.new) result
+        (λ cut page. WhenOpenAt (state S.Store) office.old office.new (λ s. ComesTo cut page (λ course.
+        IsPlayed (state S.Store office.old.held) office.new.closed (state S.Store office.new.held) keep_going (F.held folder.now) s turns.now course))) }
+    ensures keeps_connection { KeepsConnection (state S.Store office.old.held) (state S.Store office.new.held) }
+    ensures clean { HasCleanDisk (state S.Store office.new.held) → HasCleanDisk (state S.Store office.old.held) }
+{
+    let mut ends = 0;
+    for turn in turns {
+        let status = run(
+            alloc,
+            office,
+            keep_going,
+            turn.line,
+            &turn.errand,
+            folder,
+            out,
+            err,
+        );
+        if !goes_on(keep_going, status) {
+            return status;
+        }
+        ends = status_behind(ends, status);
+    }
+    ends
+}
+
+/// Sends the orders in the lines of a script, once each line has been understood. If one isn't, it prints what is wrong with the first
+/// such line, and sends none.
+fn send_lines<S: Alter, F: Folder, O: Sink, E: Sink>(
+    alloc: Global,
+    office: &mut Office<S>,
+    keep_going: bool,
+    lines: &[TypedLine<'_>],
+    folder: &F,
+    out: &mut O,
+    err: &mut E,
+) -> u8
+    requires out { O.failed out.old < 2 ^ 64 - 1 }
+    requires err { E.failed err.old < 2 ^ 64 - 1 }
+    ensures sent { let outputs = outputs_of O.taken O.failed E.taken E.failed in Tells (outputs out.old err.old) (outputs out.new err.new) result
+        (λ cut page. WhenOpenAt (state S.Store) office.old office.new (λ s. ComesTo cut page (λ course.
+        IsReplayOf keep_going (F.held folder.now) s (map typed_line_entry lines.now) course (state S.Store office.old.held) office.new.closed (state S.Store office.new.held)))) }
+    ensures keeps_connection { KeepsConnection (state S.Store office.old.held) (state S.Store office.new.held) }
+    ensures clean { HasCleanDisk (state S.Store office.new.held) → HasCleanDisk (state S.Store office.old.held) }
+{
+    match turns_in(alloc, lines) {
+        Ok(turns) => send_turns(alloc, office, keep_going, &turns, folder, out, err),
+        Err(fault) => tell_script_fault(&fault, err),
+    }
+}
+
+/// Returns the bytes of a script's file, or why there are none. The file is None if it can't be opened.
+fn bytes_of<R: Read + Drop>(alloc: Global, file: Option<R>) -> Result<Vec<u8>, LineOutcome>
+    ensures read { IfOk result (λ bytes. HoldsText (option_map R.remaining file) (λ text. bytes.items ≡ text)) }
+    ensures unread { IfErr result (λ outcome. IsUnreadScript (page_of outcome)) }
+{
+    let Some(mut file) = file else {
+        return Err(LineOutcome::Unread(UNOPENED));
+    };
+    let mut bytes = Vec::new(alloc);
+    match file.read_to_end(&mut bytes) {
+        Ok(_) => Ok(bytes),
+        Err(error) if error.kind() == ErrorKind::OutOfMemory => Err(LineOutcome::Failed(
+            Fault::Memory,
+        )),
+        Err(_) => Err(LineOutcome::Unread(UNOPENED)),
+    }
+}
+
+/// Returns the lines of a script's file, or why there are none.
+fn script_of<R: Read + Drop>(alloc: Global, file: Option<R>) -> Result<Vec<ScriptLine>, LineOutcome>
+    ensures read { IfOk result (λ lines. HoldsText (option_map R.remaining file) (λ text. map line_entry lines.items ≡ numbered_from 1 (lines_of text))) }
+    ensures unread { IfErr result (λ outcome. IsUnreadScript (page_of outcome)) }
+{
+    let bytes = match bytes_of(alloc, file) {
+        Ok(bytes) => bytes,
+        Err(outcome) => return Err(outcome),
+    };
+    match lines_in(alloc, &bytes) {
+        Ok(lines) => Ok(lines),
+        Err(_) => Err(LineOutcome::Failed(Fault::Memory)),
+    }
+}
+
+/// Sends the orders of a script's file in turn, once all its lines have been understood; with `keep_going`, past those that are
+/// refused. The status is 2 if a line isn't understood; it is printed with its number, and nothing is sent.
+fn replay<S: Alter, F: Folder, O: Sink, E: Sink>(
+    alloc: Global,
+    office: &mut Office<S>,
+    keep_going: bool,
+    path: &str,
+    folder: &F,
+    out: &mut O,
+    err: &mut E,
+) -> u8
+    requires out { O.failed out.old < 2 ^ 64 - 1 }
+    requires err { E.failed err.old < 2 ^ 64 - 1 }
+    ensures ran { let outputs = outputs_of O.taken O.failed E.taken E.failed in Tells (outputs out.old err.old) (outputs out.new err.new) result
+        (λ cut page. WhenOpenAt (state S.Store) office.old office.new (λ s. ComesTo cut page (λ course.
+        IsDone (state S.Store office.old.held) office.new.closed (state S.Store office.new.held) (F.held folder.now) s (Job.Replay path.entry keep_going) course))) }
+    ensures keeps_connection { KeepsConnection (state S.Store office.old.held) (state S.Store office.new.held) }
+    ensures clean { HasCleanDisk (state S.Store office.new.held) → HasCleanDisk (state S.Store office.old.held) }
+{
+    let lines = match script_of(alloc, folder.open(path)) {
+        Ok(lines) => lines,
+        Err(outcome) => return tell(None, &outcome, out, err),
+    };
+    match all_said(alloc, &lines) {
+        Ok(said) => send_lines(alloc, office, keep_going, &said, folder, out, err),
+        Err(_) => tell_script_fault(&ScriptFault::Memory, err),
+    }
+}
+
+/// Does a job in an open office, prints the outcome, and returns the status.
+///
+/// `perform` opens an office, and then does the same. An office that is being served is open already: an order that is sent to it is
+/// performed here.
+pub fn follow<S: Alter, F: Folder, O: Sink, E: Sink>(
+    alloc: Global,
+    office: &mut Office<S>,
+    job: &Job<'_>,
+    folder: &F,
+    out: &mut O,
+    err: &mut E,
+) -> u8
+    requires out { O.failed out.old < 2 ^ 64 - 1 }
+    requires err { E.failed err.old < 2 ^ 64 - 1 }
+    ensures did { let outputs = outputs_of O.taken O.failed E.taken E.failed in Tells (outputs out.old err.old) (outputs out.new err.new) result
+        (λ cut page. WhenOpenAt (state S.Store) office.old office.new (λ s. ComesTo cut page (λ course.
+        IsDone (state S.Store office.old.held) office.new.closed (state S.Store office.new.held) (F.held folder.now) s job.now course))) }
+    ensures keeps_connection { KeepsConnection (state S.Store office.old.held) (state S.Store office.new.held) }
+    ensures clean { HasCleanDisk (state S.Store office.new.held) → HasCleanDisk (state S.Store office.old.held) }
+{
+    match job {
+        Job::Run(errand) => run(alloc, office, false, None, errand, folder, out, err),
+        Job::Replay { file, keep_going } => {
+            replay(alloc, office, *keep_going, file, folder, out, err)
+        }
+    }
+}

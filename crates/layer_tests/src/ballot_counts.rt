@@ -1,0 +1,213 @@
+//! Ballots counted by the call itself: each text, a lot that is needed, lots that are added, and what can't be counted. (The figures
+//! are those of `tools/try recount`, which counts in another language; what else is printed is played in examples/checking.sh.)
+
+use crate::checker_texts::{BALLOTS, DECLARATION, SHEET};
+use crate::sheet_outputs::is_text;
+use checker::{CountProblem, CountText, CountedText, count_ballots};
+use std::alloc::{AllocError, Global};
+use std::process::Abort;
+use std::test::Fail;
+
+/// A seat, for which two candidates are tied at the second stage.
+pub(crate) const TIED: &str = r#"3 1
+2 1 0
+1 2 0
+1 3 0
+0
+"Ann"
+"Bob"
+"Cy"
+"Harbour"
+"#;
+
+/// The sheet as far as the count goes without a lot.
+pub(crate) const TIED_SHEET: &str = "Ward 1 Harbour
+Seats 1, valid 4, quota 3.00000
+Rejected 1: 0, 2: 0, 3: 0, 4: 0, 5: 0
+Stage 1: first preferences
+ 1       2.00000 - Ann
+ 2       1.00000 - Bob
+ 3       1.00000 - Cy
+         0.00000 non-transferable
+         0.00000 lost by fractions
+";
+
+/// The line about the lot that it waits for.
+pub(crate) const TIED_LINE: &str = "lot needed at stage 2 among 2 Bob, 3 Cy\n";
+
+/// The sheet where the lot names the third candidate.
+const DRAWN_SHEET: &str = "Ward 1 Harbour
+Seats 1, valid 4, quota 3.00000
+Rejected 1: 0, 2: 0, 3: 0, 4: 0, 5: 0
+Stage 1: first preferences
+ 1       2.00000 - Ann
+ 2       1.00000 - Bob
+ 3       1.00000 - Cy
+         0.00000 non-transferable
+         0.00000 lost by fractions
+Stage 2: exclusion of 3
+ 1       2.00000 - Ann
+ 2       1.00000 - Bob
+ 3       0.00000 x Cy
+         1.00000 non-transferable
+         0.00000 lost by fractions
+Stage 3: exclusion of 2, last vacancies
+ 1       2.00000 E Ann
+ 2       1.00000 x Bob
+ 3       0.00000 x Cy
+         1.00000 non-transferable
+         0.00000 lost by fractions
+";
+
+/// The ballots with that lot, as an office prints them.
+const DRAWN_BALLOTS: &str = r#"3 1
+2 1 0
+1 2 0
+1 3 0
+0
+"Ann"
+"Bob"
+"Cy"
+"Harbour"
+# Ward 1
+# Rejected 1: 0, 2: 0, 3: 0, 4: 0, 5: 0
+# Lot at stage 2: 3
+"#;
+
+/// The table of the ward whose ballots are counted to the end without a lot.
+const TABLE: &str =
+    r#""candidate","name","Stage 1: first preferences","Stage 1 gained","Stage 1 lost","Stage 1 standing","Stage 2: surplus of 1","Stage 2 gained","Stage 2 lost","Stage 2 standing","Stage 3: exclusion of 2, last vacancies","Stage 3 gained","Stage 3 lost","Stage 3 standing"
+"1","Ann","6.00000","6.00000","0.00000","elected","4.00000","0.00000","2.00000","elected","4.00000","0.00000","0.00000","elected"
+"2","Bob","1.00000","1.00000","0.00000","continuing","2.33332","1.33332","0.00000","continuing","2.33332","0.00000","0.00000","excluded"
+"3","Cy","2.00000","2.00000","0.00000","continuing","2.66666","0.66666","0.00000","continuing","2.66666","0.00000","0.00000","elected"
+"","non-transferable","0.00000","0.00000","0.00000","","0.00000","0.00000","0.00000","","0.00000","0.00000","0.00000",""
+"","lost by fractions","0.00000","0.00000","0.00000","","0.00002","0.00002","0.00000","","0.00002","0.00000","0.00000",""
+"#;
+
+/// Two candidates for three seats, and no papers.
+const UNCONTESTED: &str = "2 3\n0\n\"Ann\"\n\"Bob\"\n\"Harbour\"\n";
+
+/// Ballots, lots that are added, and a text; and what it is, with the line about a lot that is needed.
+const COUNTED: [(&str, &[(u8, u8)], CountText, &str, &str); 10] = [
+    (BALLOTS, &[], CountText::Sheet, SHEET, ""),
+    (BALLOTS, &[], CountText::Declaration, DECLARATION, ""),
+    (BALLOTS, &[], CountText::Table, TABLE, ""),
+    (BALLOTS, &[], CountText::Ballots, BALLOTS, ""),
+    (TIED, &[], CountText::Sheet, TIED_SHEET, TIED_LINE),
+    (TIED, &[], CountText::Declaration, "", TIED_LINE),
+    (TIED, &[(2, 3)], CountText::Sheet, DRAWN_SHEET, ""),
+    (TIED, &[(2, 3)], CountText::Ballots, DRAWN_BALLOTS, ""),
+    (DRAWN_BALLOTS, &[], CountText::Sheet, DRAWN_SHEET, ""),
+    (
+        UNCONTESTED,
+        &[(2, 1)],
+        CountText::Declaration,
+        "Ward 1 Harbour\nElected\n 1 Ann\n 2 Bob\n",
+        "",
+    ),
+];
+
+/// Ballots, lots that are added, and why they aren't counted.
+const NOT_COUNTED: [(&str, &[(u8, u8)], &str); 6] = [
+    ("3 0\n", &[], "line 1 of the ballots: no seats"),
+    (
+        TIED,
+        &[(2, 1)],
+        "the lot for stage 2 names none of the tied",
+    ),
+    (
+        TIED,
+        &[(3, 2), (2, 3)],
+        "a lot is recorded for stage 3, and none is drawn there",
+    ),
+    (TIED, &[(2, 3), (2, 3)], "two lots at stage 2"),
+    (DRAWN_BALLOTS, &[(2, 2)], "two lots at stage 2"),
+    (
+        "1 1\n1 1 0\n0\n\"Ann\"\n\"Harbour\"\n",
+        &[],
+        "no more candidates than seats",
+    ),
+];
+
+/// The count of ballots that are counted.
+fn counted(
+    alloc: Global,
+    ballots: &str,
+    lots: &[(u8, u8)],
+    text: &CountText,
+) -> Result<CountedText, Fail> {
+    match count_ballots(alloc, ballots.as_bytes(), lots, text) {
+        Ok(counted) => Ok(counted),
+        Err(_) => Err(Fail::from("not counted")),
+    }
+}
+
+/// This text of the count of ballots is printed, and this line about a lot that is needed.
+fn counts(
+    rt: &(impl Abort + AllocGlobal),
+    (ballots, lots, text, wanted, line): &(&str, &[(u8, u8)], CountText, &str, &str),
+) -> Result<(), Fail> {
+    let counted = counted(rt.alloc(), *ballots, *lots, text)?;
+    is_text(rt, counted.text.as_str(), *wanted);
+    match &counted.lot_needed {
+        None => is_text(rt, "", *line),
+        Some(told) => is_text(rt, told.as_str(), *line),
+    }
+    Ok(())
+}
+
+/// Why ballots aren't counted, in words.
+fn words_of(alloc: Global, problem: &CountProblem) -> Result<String, AllocError> {
+    match problem {
+        CountProblem::LotTwice { stage } => format!(in alloc; "two lots at stage {stage}"),
+        CountProblem::Ballots(problem) => format!(in alloc; "{problem}"),
+    }
+}
+
+/// Why ballots aren't counted.
+fn problem_of(alloc: Global, ballots: &str, lots: &[(u8, u8)]) -> Result<CountProblem, Fail> {
+    match count_ballots(alloc, ballots.as_bytes(), lots, &CountText::Sheet) {
+        Ok(text) => {
+            drop(text);
+            Err(Fail::from("counted"))
+        }
+        Err(problem) => Ok(problem),
+    }
+}
+
+/// Ballots aren't counted, for this reason.
+fn refuses(
+    rt: &(impl Abort + AllocGlobal),
+    (ballots, lots, wanted): &(&str, &[(u8, u8)], &str),
+) -> Result<(), Fail> {
+    let problem = problem_of(rt.alloc(), *ballots, *lots)?;
+    let words = words_of(rt.alloc(), &problem)?;
+    is_text(rt, words.as_str(), *wanted);
+    Ok(())
+}
+
+/// The page of ballots has this title, and says whether the result is declared.
+fn shows_page(rt: &(impl Abort + AllocGlobal), ballots: &str, declared: bool) -> Result<(), Fail> {
+    let text = CountText::Page("A <title>");
+    let page = counted(rt.alloc(), ballots, &[], &text)?;
+    assert!(rt; page.text.as_str().starts_with("<!DOCTYPE html>\n"));
+    assert!(rt;
+        page.text
+            .as_str()
+            .contains("<p class=\"title\" dir=\"auto\">A &lt;title&gt;</p>\n")
+    );
+    assert!(rt; page.text.as_str().contains("<strong>Declared</strong>") == declared);
+    Ok(())
+}
+
+#[test]
+fn ballots_are_counted(rt: HostRuntime) -> Result<(), Fail> {
+    for case in &COUNTED {
+        counts(&rt, case)?;
+    }
+    for case in &NOT_COUNTED {
+        refuses(&rt, case)?;
+    }
+    shows_page(&rt, BALLOTS, true)?;
+    shows_page(&rt, TIED, false)
+}

@@ -1,9 +1,0 @@
--- What the law of an office's own texts stands on.
-pub mod RangeLemmas
-pub mod BallotLemmas
-pub mod FinishedLemmas
-pub mod YesLemmas
-pub mod StateLemmas
-pub mod ToldLemmas
-pub mod LawLemmas
-pub mod WorkedTexts

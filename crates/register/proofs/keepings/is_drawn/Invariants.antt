@@ -1,9 +1,0 @@
--- What the loop of `is_drawn` keeps.
-use Rattle.std.proofs.Common.{◌≡◌, map, drop}
-use Rattle.std.specs.List.{list_any}
-use Rattle.register.specs.Offices.{lot_entry}
-use Rattle.register.specs.Keepings.{is_drawn}
-use Rattle.register.proofs.keepings.is_drawn.Given as goal
-
-abbrev pub invariant-loop-lot : goal.invariant-loop-lot
-invariant-loop-lot l = list_any (is_drawn l.stage l.candidate) (map lot_entry l.lots) ≡ list_any (is_drawn l.stage l.candidate) (map lot_entry (drop l.lot-index l.lots))

@@ -1,8 +1,0 @@
--- What the loop of `has_doubtful` keeps.
-use Rattle.std.proofs.Common.{◌≡◌, map, drop}
-use Rattle.register.specs.Offices.{keyed_entry}
-use Rattle.register.specs.Papers.{has_doubtful}
-use Rattle.register.proofs.papers.has_doubtful.Given as goal
-
-abbrev pub invariant-loop-keyed : goal.invariant-loop-keyed
-invariant-loop-keyed l = has_doubtful (map keyed_entry l.keying) l.paper ≡ has_doubtful (map keyed_entry (drop l.keyed-index l.keying)) l.paper

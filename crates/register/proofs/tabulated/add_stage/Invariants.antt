@@ -1,7 +1,0 @@
--- What the loop of `add_stage` keeps.
-use Rattle.std.proofs.Common.{◌≡◌, ◌++◌, map, drop}
-use Rattle.register.specs.Tabulated.{figure_entry, figure_at}
-use Rattle.register.proofs.tabulated.add_stage.Given as goal
-
-abbrev pub invariant-loop-figure : goal.invariant-loop-figure
-invariant-loop-figure l = map figure_entry l.to.items ++ map (figure_at l.ward l.stage) (drop l.figure-index l.figures) ≡ map figure_entry l.fn.to.items ++ map (figure_at l.ward l.stage) l.figures

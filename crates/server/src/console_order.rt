@@ -1,0 +1,148 @@
+//! The response to an order of the console: it is processed in the open office, as an order that is handed over, and its output is
+//! one response.
+
+ghost use Rattle.std.specs.Prelude.{◌≡◌, [], IfOk, map, string_bytes};
+ghost use Rattle.sqlite.specs.Held.{state};
+ghost use Rattle.order_protocol.specs.Messages.{message_part_entries};
+ghost use Rattle.wire.specs.ConsoleOrders.{console_file_entry, console_order_entry};
+ghost use Rattle.wire.specs.Told.{IsTold};
+ghost use Rattle.server.specs.Settings.{settings_in};
+ghost use Rattle.server.specs.ServedOrders.{Follows};
+ghost use Rattle.server.specs.ConsoleOrders.{FollowsEntry, HasPrinted, printed_response, sent_file, typed_words};
+
+use crate::order_response::{AttachedFiles, OrderContext, do_asked, unless_gone};
+use crate::served_file::ServedFile;
+use crate::served_order::{ServedOrder, served_order_by};
+use crate::server_settings::ServerSettings;
+use connections::VecSink;
+use desk::Failure;
+use office::Office;
+use order_protocol::MessagePart;
+use sqlite::Alter;
+use std::alloc::{AllocError, Global};
+use store::Fault;
+use wire::{ConsoleFile, ConsoleOrder, Response};
+
+/// The words of an order as they are typed, and the files that came with it.
+#[derive(Drop)]
+struct ReadOrder<'a> {
+    words: Vec<&'a str>,
+    files: Vec<MessagePart<'a>>,
+}
+
+/// Returns the words of an order as they are typed, the first of which is DB. The only error is a failed allocation.
+fn typed_words<'a>(alloc: Global, words: &'a [String]) -> Result<Vec<&'a str>, AllocError>
+    ensures { IfOk result (λ texts. map (λ text. text.now) texts.items ≡ typed_words (map string_bytes words.now)) }
+{
+    let mut texts = vec![in alloc; "DB"]?;
+    for word in words {
+        texts.push(word.as_str())?;
+    }
+    Ok(texts)
+}
+
+/// Returns the files of an order, as those of a message. The only error is a failed allocation.
+fn files_of<'a>(alloc: Global, files: &'a [ConsoleFile]) -> Result<Vec<MessagePart<'a>>, AllocError>
+    ensures { IfOk result (λ parts. message_part_entries parts.items ≡ map sent_file (map console_file_entry files.now)) }
+{
+    let mut parts = Vec::new(alloc);
+    for file in files {
+        parts.push(MessagePart {
+            name: file.name.as_bytes(),
+            bytes: Some(file.text.as_bytes()),
+        })?;
+    }
+    Ok(parts)
+}
+
+/// Returns the words of an order as they are typed, and its files. The only error is a failed allocation.
+fn read_order<'a>(alloc: Global, order: &'a ConsoleOrder) -> Result<ReadOrder<'a>, AllocError>
+    ensures words { IfOk result (λ read. map (λ text. text.now) read.words.items ≡ typed_words (map string_bytes order.now.words.items)) }
+    ensures files { IfOk result (λ read. message_part_entries read.files.items ≡ map sent_file (map console_file_entry order.now.files.items)) }
+{
+    let words = typed_words(alloc, &order.words)?;
+    let files = files_of(alloc, &order.files)?;
+    Ok(ReadOrder { words, files })
+}
+
+/// Returns the response with what an order printed on its two outputs, and with its status; or that the output failed (107), if
+/// what it printed on one of them isn't UTF-8.
+fn printed_response(alloc: Global, status: u8, out: &[u8], err: &[u8]) -> Response
+    ensures { IsTold (printed_response status out.now err.now) result }
+{
+    match str::from_utf8(out) {
+        Ok(output) => match str::from_utf8(err) {
+            Ok(errors) => Response::of_order(alloc, status, output, errors),
+            Err(_) => Response::output_failed(),
+        },
+        Err(_) => Response::output_failed(),
+    }
+}
+
+/// Does what an order asks, and returns the response with what it printed.
+fn follow_asked<A: ServedFile, S: Alter>(
+    order: &OrderContext<'_, A>,
+    office: &mut Office<S>,
+) -> Response
+    ensures { Follows (state S.Store) office.old (message_part_entries order.now.attached.files.now) order.now.asked.now (λ cut page. HasPrinted cut page result) office.new }
+{
+    let mut out = VecSink::new(order.alloc);
+    let mut err = VecSink::new(order.alloc);
+    let status = do_asked(order, office, &mut out, &mut err);
+    let output = out.into_bytes();
+    let errors = err.into_bytes();
+    printed_response(order.alloc, status, output.as_slice(), errors.as_slice())
+}
+
+/// Returns the response to an order that isn't followed because an allocation failed.
+fn follow_none<A: ServedFile, S: Alter>(
+    alloc: Global,
+    served_file: &A,
+    office: &mut Office<S>,
+) -> Response
+    ensures { Follows (state S.Store) office.old [] (ServedOrder.Refused (Failure.Office Fault.Memory)) (λ cut page. HasPrinted cut page result) office.new }
+{
+    let order = OrderContext {
+        alloc,
+        served_file,
+        asked: &ServedOrder::Refused(Failure::Office(Fault::Memory)),
+        attached: AttachedFiles {
+            folder: None,
+            files: &[],
+        },
+    };
+    follow_asked(&order, office)
+}
+
+/// Processes an order of the console in the office, and returns the response with what it printed, both output and errors. A closed
+/// office stays as it is.
+///
+/// The files that the order names are those that came with it, and no others. A copy is made to a name without a folder. For
+/// `init`, `migrate`, `serve` and `codes` the order isn't followed, because the office is being served (111).
+pub fn answer_console<A: ServedFile, S: Alter>(
+    alloc: Global,
+    server_settings: ServerSettings<'_, A>,
+    order: &ConsoleOrder,
+    office: &mut Office<S>,
+) -> Response
+    ensures { FollowsEntry (settings_in A.whole server_settings.entry) (state S.Store) office.old (console_order_entry order.now) (λ cut page. HasPrinted cut page result) office.new }
+{
+    let read = match read_order(alloc, order) {
+        Ok(read) => read,
+        Err(AllocError) => return follow_none(alloc, server_settings.served_file, office),
+    };
+    let asked = unless_gone(
+        served_order_by(alloc, &read.words),
+        server_settings.served_file,
+    );
+    let handing = OrderContext {
+        alloc,
+        served_file: server_settings.served_file,
+        asked: &asked,
+        attached: AttachedFiles {
+            folder: None,
+            files: &read.files,
+        },
+    };
+    follow_asked(&handing, office)
+}

@@ -1,5 +1,0 @@
--- Why `write_rejected_line` keeps its promise.
-use Rattle.sheet.proofs.opening.write_rejected_line.Goals as goal
-
-pub returns : goal.returns
-returns g c = rw (c.from.ensures, c.from-2.ensures, c.from-3.ensures, c.from-4.ensures, c.from-5.ensures) at c.write_line.ensures

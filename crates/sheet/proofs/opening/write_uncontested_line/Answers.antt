@@ -1,5 +1,0 @@
--- Why `write_uncontested_line` keeps its promise.
-use Rattle.sheet.proofs.opening.write_uncontested_line.Goals as goal
-
-pub returns : goal.returns
-returns g c = rw c.from.ensures at c.write_line.ensures

@@ -1,0 +1,2 @@
+-- An office's own texts, checked independently of it.
+pub mod OwnTexts

@@ -1,0 +1,170 @@
+//! Steps of tests with an office on the disks of a host that can be stopped.
+//!
+//! They are generic over the host, so their proofs don't depend on the store, and are short.
+
+use super::steps::{Case, Step, StepPrinted};
+use super::transcripts::read;
+use std::alloc::Global;
+use std::process::Abort;
+use std::test::Fail;
+
+/// Which of the two files stops.
+#[derive(Clone, Copy)]
+pub enum File {
+    Log,
+    Database,
+}
+
+/// A part of a play.
+#[derive(Clone, Copy, Debug)]
+pub enum Act {
+    /// Orders and their replies, as a transcript.
+    Typed(&'static str),
+    /// Both clerks of batch 12 key these same papers.
+    Keyed(&'static str),
+}
+
+/// A host with the log and the database file of an office.
+pub trait TestHost: Sized {
+    /// New files; the log fails after `log` calls, and the database file after `db` calls.
+    fn stopping(alloc: Global, log: u64, db: u64) -> Self;
+
+    /// Files with the same bytes, of which this one fails after so many calls.
+    fn copied(&self, alloc: Global, file: File, calls: u64) -> Result<Self, Fail>;
+
+    /// The host restarts: bytes that weren't synced are lost, and no call fails from then on.
+    fn restarted(self) -> Self;
+
+    /// Opens the database, and runs the steps on it. If the store stops while the database is opened, nothing is printed.
+    fn play(self, alloc: Global, script: &[Step<'_>]) -> Result<(Vec<StepPrinted>, Self), Fail>;
+
+    /// Copies the office to other files. If those stop while they are opened, nothing is printed.
+    fn copy_onto(
+        self,
+        alloc: Global,
+        onto: Self,
+    ) -> Result<(Option<StepPrinted>, Self, Self), Fail>;
+}
+
+fn sorted(alloc: Global, rows: &str) -> Result<Vec<&str>, Fail> {
+    let mut lines: Vec<&str> = rows.lines().collect(alloc)?;
+    lines.sort()?;
+    Ok(lines)
+}
+
+/// Returns whether the rows are the same, in any order.
+pub fn are_same(alloc: Global, rows: &str, others: &str) -> Result<bool, Fail> {
+    Ok(sorted(alloc, rows)?.as_slice() == sorted(alloc, others)?.as_slice())
+}
+
+/// New files that never fail.
+pub fn lasting<M: TestHost + Drop>(alloc: Global) -> M {
+    M::stopping(alloc, u64::MAX, u64::MAX)
+}
+
+/// Runs the steps, each of which must have this result.
+pub fn hear<M: TestHost + Drop>(
+    rt: &(impl Abort + AllocGlobal),
+    host: M,
+    cases: &[Case<'_>],
+) -> Result<M, Fail> {
+    let script: Vec<Step<'_>> = cases.iter().map(|case| case.0).collect(rt.alloc())?;
+    let (said, host) = host.play(rt.alloc(), &script)?;
+    assert!(rt; said.len() == cases.len(), "{script:?}: {said:?}");
+    for (said, (step, wanted)) in said.iter().zip(cases) {
+        assert_eq!(rt; said.told(), *wanted, "{step:?}");
+    }
+    Ok(host)
+}
+
+/// Returns every row of every table.
+pub fn rows<M: TestHost + Drop>(alloc: Global, host: M) -> Result<(String, M), Fail> {
+    let (said, host) = host.play(alloc, &[Step::Contents])?;
+    match said.first() {
+        Some(said) => Ok((String::from_str(alloc, said.told().1)?, host)),
+        None => Err(Fail::from("nothing was said")),
+    }
+}
+
+/// Runs the orders of a transcript, each of which must have the reply in it.
+pub fn follow<M: TestHost + Drop>(
+    rt: &(impl Abort + AllocGlobal),
+    host: M,
+    transcript: &str,
+) -> Result<M, Fail> {
+    let asked = read(rt.alloc(), transcript)?;
+    let cases: Vec<Case<'_>> = asked.iter().map(|typed| typed.case()).collect(rt.alloc())?;
+    hear(rt, host, &cases)
+}
+
+/// Runs the steps, each of which must have this result, and none of which may change a row.
+pub fn hear_unchanged<M: TestHost + Drop>(
+    rt: &(impl Abort + AllocGlobal),
+    host: M,
+    cases: &[Case<'_>],
+) -> Result<M, Fail> {
+    let (before, host) = rows(rt.alloc(), host)?;
+    let (after, host) = rows(rt.alloc(), hear(rt, host, cases)?)?;
+    assert_eq!(rt; before.as_str(), after.as_str());
+    Ok(host)
+}
+
+/// The same for one case.
+pub fn hear_one_unchanged<M: TestHost + Drop>(
+    rt: &(impl Abort + AllocGlobal),
+    host: M,
+    case: Case<'_>,
+) -> Result<M, Fail> {
+    hear_unchanged(rt, host, &[case])
+}
+
+/// Both clerks of batch 12 key these papers, a file's text.
+fn key<M: TestHost + Drop>(
+    rt: &(impl Abort + AllocGlobal),
+    host: M,
+    papers: &str,
+) -> Result<M, Fail> {
+    let mut host = host;
+    for clerk in ["4", "9"] {
+        let words = [
+            "DB",
+            "import-keying",
+            clerk,
+            "12",
+            "1",
+            "FILE",
+            "--id",
+            "k1",
+        ];
+        let keyed = (0, "batch 12 round 1 keyed\n", "");
+        host = hear(
+            rt,
+            host,
+            &[(Step::FileOrder(&words, papers.as_bytes()), keyed)],
+        )?;
+    }
+    Ok(host)
+}
+
+pub fn do_act<M: TestHost + Drop>(
+    rt: &(impl Abort + AllocGlobal),
+    host: M,
+    asked: &Act,
+) -> Result<M, Fail> {
+    match asked {
+        Act::Typed(transcript) => follow(rt, host, transcript),
+        Act::Keyed(papers) => key(rt, host, papers),
+    }
+}
+
+/// Plays acts on new files.
+pub fn play_acts<M: TestHost + Drop>(
+    rt: &(impl Abort + AllocGlobal),
+    acts: &[Act],
+) -> Result<M, Fail> {
+    let mut host = lasting(rt.alloc());
+    for one in acts {
+        host = do_act(rt, host, one)?;
+    }
+    Ok(host)
+}

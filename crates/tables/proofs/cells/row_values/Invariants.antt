@@ -1,8 +1,0 @@
--- What the loop of `row_values` keeps.
-use Rattle.std.proofs.Common.{◌≡◌, ℕ, map, take, pos}
-use Rattle.sqlite.specs.declared.types.Value.TheVariants.{Int}
-use Rattle.sqlite.specs.Values.{bound}
-use Rattle.tables.proofs.cells.row_values.Given as goal
-
-abbrev pub invariant-loop-n : goal.invariant-loop-n
-invariant-loop-n l = bound l.values.items ≡ map (λ (n : ℕ). Int (pos n)) (take l.n-index l.numbers)

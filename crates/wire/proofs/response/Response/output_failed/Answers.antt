@@ -1,0 +1,7 @@
+-- Why `output_failed` keeps its promise.
+use Rattle.std.proofs.Common.{refl}
+use Rattle.wire.proofs.ResponseLemmas.{output_failed-told}
+use Rattle.wire.proofs.response.Response.output_failed.Goals as goal
+
+pub returns : goal.returns
+returns c = record { status = refl; bytes = output_failed-told }

@@ -1,0 +1,10 @@
+//! Whose code a request needs.
+
+/// Whose code a request needs: a clerk's, or the office's.
+#[derive(Clone, Copy, Debug, PartialEq, Eq)]
+pub enum Account {
+    /// The clerk with this number.
+    Clerk(u32),
+    /// The returning officer, at the console.
+    Office,
+}
