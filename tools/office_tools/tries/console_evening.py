@@ -69,6 +69,7 @@ class GuideEvening(Evening):
         self.counting(officer)
         self.declaring(officer)
         self.compare()
+        self.file_gone(officer)
         self.elsewhere()
         self.quiet(officer)
 
@@ -312,7 +313,6 @@ class GuideEvening(Evening):
         officer.picture("28-search")
         self.saved(officer, (("save-journal", "journal.txt", ["journal"]), ("file-ballots", "ballots-7.txt", ["ballots", 7]),
                              ("file-table", "stages-7.csv", ["table", 7]), ("index", "index.html", ["index", "--title", TITLE])))
-        self.file_gone(officer)
 
     def printed(self, officer):
         """Prints the declaration and the sheet, and checks that they are what the orders print and that the page is as before."""
@@ -334,22 +334,25 @@ class GuideEvening(Evening):
         officer.browser.call("Browser.setDownloadBehavior", {"behavior": "allow", "downloadPath": str(folder)})
         for key, name, words in files:
             officer.click(key)
-            if not waited((folder / name).exists) or (folder / name).read_text(encoding="utf-8") != self.office.do(*words):
+            path, wanted = folder / name, self.office.do(*words)
+            if not waited(lambda: path.exists() and path.read_text(encoding="utf-8") == wanted):
                 raise Wrong(f"{name} isn't what the order prints")
 
     def file_gone(self, officer):
-        """While the office can't be read or written, the console says so and what to do, and still shows what it read before."""
-        town, browser = self.office.folder / TOWN, officer.browser
+        """While the office's file is gone, the console says so and what to do. Once it is back, what was sent meanwhile is done."""
+        town = self.office.folder / TOWN
         town.rename(town.with_suffix(".away"))
         officer.go("nominations")
         for field, value in (("number", 9), ("seats", 2), ("name", "Shore")):
             officer.type(f"ward-{field}", value)
-        browser.press("Enter")
-        officer.yes("Add ward 9", said="fault 113")
-        officer.go("overview")
+        officer.browser.press("Enter")
+        officer.asked("Add ward 9")
+        officer.browser.press("y")
+        officer.shows("fault 113", "unsent")
         officer.picture("29-file-gone")
         town.with_suffix(".away").rename(town)
-        browser.until("!document.getElementById('health').classList.contains('down')")
+        officer.click("send-again")
+        officer.shows("ward 9 added")
 
 
 def main(pictures: Path = None):
