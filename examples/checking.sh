@@ -105,6 +105,7 @@ play_input() {
     play - count tied.txt --lot 2:1
     play - count tied.txt --lot 2:3 --lot 3:2
     play - count tied.txt --lot 2:3 --lot 2:3
+    sed '3s/1 3/1 1/' "$folder/ballots.txt" >"$folder/changed.txt"
     play - count changed.txt
     play - count sheet.txt
     play - count missing.txt

@@ -12,13 +12,13 @@ ghost use Rattle.count_office.specs.Hosts.{CodeFiles, IsReadAs};
 use codes::{Codes, CodesError};
 use connections::Network;
 use desk::Failure;
-use server::{FileNumbers, SideJobs};
+use server::{FileNumbers, ServedFile};
 
 /// An open network, what orders need in addition to the office, and the device and inode numbers of its file.
 #[derive(Drop)]
 pub struct Opened<D, A> {
     pub network: D,
-    pub side_jobs: A,
+    pub served_file: A,
     pub file: FileNumbers,
 }
 
@@ -26,7 +26,7 @@ pub struct Opened<D, A> {
 pub trait Host {
     type Sockets: Network;
 
-    type Side: SideJobs;
+    type Side: ServedFile;
 
     /// The network on each port, as far as it is known before it is opened and after it is closed.
     ghost known: { Self → ℕ → NetworkEntry Self.Sockets.Stream };

@@ -11,7 +11,7 @@ use crate::codes_file::read_codes;
 use crate::file_watch::FileWatch;
 use crate::host::{Host, Opened};
 use crate::order_socket::{OrderSocket, reason_of, reserved_descriptors};
-use crate::side_jobs::LocalJobs;
+use crate::served_file::LocalFile;
 use codes::{Codes, CodesError};
 use desk::Failure;
 use mio::net::UnixListener;
@@ -93,7 +93,7 @@ fn open_at<'a>(
     place: LockedDatabase<'a>,
     port: u32,
     orders: Option<UnixListener>,
-) -> Result<Opened<SocketNetwork<&'a HostRuntime>, LocalJobs<'a>>, Failure> {
+) -> Result<Opened<SocketNetwork<&'a HostRuntime>, LocalFile<'a>>, Failure> {
     let rt = place.rt;
     let network = match listen(rt, port, orders) {
         Ok(network) => network,
@@ -107,7 +107,7 @@ fn open_at<'a>(
     };
     Ok(Opened {
         network,
-        side_jobs: LocalJobs { rt, file_watch },
+        served_file: LocalFile { rt, file_watch },
         file: FileNumbers { device, inode },
     })
 }
@@ -150,7 +150,7 @@ impl<'a> Localhost<'a> {
 impl<'a> Host for Localhost<'a> {
     type Sockets = SocketNetwork<&'a HostRuntime>;
 
-    type Side = LocalJobs<'a>;
+    type Side = LocalFile<'a>;
 
     ghost known = { λ _ _. unknown };
 
@@ -167,7 +167,7 @@ impl<'a> Host for Localhost<'a> {
     fn open(
         &mut self,
         port: u32,
-    ) -> Result<Opened<SocketNetwork<&'a HostRuntime>, LocalJobs<'a>>, Failure> {
+    ) -> Result<Opened<SocketNetwork<&'a HostRuntime>, LocalFile<'a>>, Failure> {
         match reserved_descriptors(self.place.rt) {
             Ok(streams) => self.streams = Some(streams),
             Err(error) => return Err(listening_failure(&error)),
@@ -180,7 +180,7 @@ impl<'a> Host for Localhost<'a> {
         opened
     }
 
-    fn close(&mut self, port: u32, opened: Opened<SocketNetwork<&'a HostRuntime>, LocalJobs<'a>>)
+    fn close(&mut self, port: u32, opened: Opened<SocketNetwork<&'a HostRuntime>, LocalFile<'a>>)
         ensures known { unknown {L = Socket} ≡ unknown }
         ensures others { (other : ℕ) → other ≢ port → unknown {L = Socket} ≡ unknown }
     {

@@ -3,10 +3,10 @@
 //! The crate `desk` parses the words and performs the order. This crate supplies the file that DB names, the one that the order names,
 //! those that a script names, and the two standard outputs.
 //!
-//! `main` opens the outputs, [`run`] reads the words, and [`follow`] parses them to an order. `perform_at` of `order_run.rt` attempts
-//! the order, again and again while another program has locked the file. `attempt` checks what is at the path, and `attempt_at` locks
-//! the file, or sends the order to the program that serves it. Under the lock `perform_held` and `perform_in` open the database, and
-//! [`perform_on`] performs the order there.
+//! `main` opens the outputs, [`run`] reads the words, and [`follow_words`] parses them to an order. `perform_with_retries` of `order_run.rt` attempts
+//! the order, again and again while another program has locked the file. `attempt` checks what is at the path, and `lock_and_perform` locks
+//! the file, or sends the order to the program that serves it. Under the lock `perform_locked` and `open_and_perform` open the database, and
+//! [`dispatch_order`] performs the order there.
 //!
 //! ```text
 //! count-office town.db init
@@ -50,7 +50,7 @@ mod serving;
 mod copies;
 mod file_watch;
 mod new_file;
-mod side_jobs;
+mod served_file;
 // the two outputs
 mod screen;
 
@@ -63,7 +63,7 @@ use desk::{
 use file_lock::FileLock;
 use host::Host;
 use order_files::{LocalFolder, OrderFiles};
-use order_run::{OrderRun, perform_at};
+use order_run::{OrderRun, perform_with_retries};
 use path_state::PathState;
 use screen::Screen;
 use serving::{Serving, serve};
@@ -112,7 +112,7 @@ fn wants_progress(rt: &HostRuntime, task: &Task<'_>) -> bool {
 }
 
 /// Performs a task on an open connection to the office, with the files that it names.
-fn perform_watched<S: Alter, O: Sink, E: Sink>(
+fn perform_with_progress<S: Alter, O: Sink, E: Sink>(
     paths: LocalFolder<'_>,
     task: &Task<'_>,
     conn: Connection<S>,
@@ -132,7 +132,7 @@ fn perform_watched<S: Alter, O: Sink, E: Sink>(
 }
 
 /// Performs an order on an open connection to the office at a place. An order to serve is performed on the host.
-fn perform_on<H: Host, S: Alter, O: Sink, E: Sink>(
+fn dispatch_order<H: Host, S: Alter, O: Sink, E: Sink>(
     place: LockedDatabase<'_>,
     host: &mut H,
     order: &Order<'_>,
@@ -157,7 +157,7 @@ fn perform_on<H: Host, S: Alter, O: Sink, E: Sink>(
                 rt,
                 brought: place.brought,
             };
-            perform_watched(paths, task, conn, out, err)
+            perform_with_progress(paths, task, conn, out, err)
         }
         Order::Serve {
             port,
@@ -237,7 +237,7 @@ fn close<D: Disk + Drop>(conn: Connection<FileStore<D>>) -> Option<Files<D>>
 }
 
 /// Performs what the words from DB on ask for, and returns the status.
-fn follow<O: Sink, E: Sink>(rt: &HostRuntime, words: &[&str], out: &mut O, err: &mut E) -> u8
+fn follow_words<O: Sink, E: Sink>(rt: &HostRuntime, words: &[&str], out: &mut O, err: &mut E) -> u8
     requires out { O.failed out.old < 2 ^ 64 - 1 }
     requires err { E.failed err.old < 2 ^ 64 - 1 }
 {
@@ -264,7 +264,7 @@ fn follow<O: Sink, E: Sink>(rt: &HostRuntime, words: &[&str], out: &mut O, err: 
                 words: &*words,
                 order: &order,
             };
-            perform_at(request, out, err)
+            perform_with_retries(request, out, err)
         }
         Err(fault) => tell_words(&fault, out, err),
     }
@@ -280,7 +280,7 @@ fn tell_help_of<O: Sink, E: Sink>(rt: &HostRuntime, name: &str, out: &mut O, err
         Err(help) if matches!(help, WordsFault::Words { status: 0, .. }) => {
             tell_words(&help, out, err)
         }
-        _ => follow(rt, &["DB", "--help"], out, err),
+        _ => follow_words(rt, &["DB", "--help"], out, err),
     }
 }
 
@@ -299,10 +299,10 @@ fn run<O: Sink, E: Sink>(rt: &HostRuntime, out: &mut O, err: &mut E) -> u8
         Err(_) => return tell_failure(Failure::Office(Fault::Memory), err),
     };
     match words.as_slice() {
-        ["--help" | "-h"] => follow(rt, &["DB", "--help"], out, err),
-        ["--version" | "-V"] => follow(rt, &["DB", "--version"], out, err),
+        ["--help" | "-h"] => follow_words(rt, &["DB", "--help"], out, err),
+        ["--version" | "-V"] => follow_words(rt, &["DB", "--version"], out, err),
         [name, "--help" | "-h"] => tell_help_of(rt, name, out, err),
-        all => follow(rt, all, out, err),
+        all => follow_words(rt, all, out, err),
     }
 }
 

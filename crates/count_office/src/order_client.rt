@@ -158,7 +158,7 @@ fn print_lines<O: Sink>(line: &mut Vec<u8>, bytes: &[u8], out: &mut O) -> Result
 }
 
 /// Prints this many bytes as they arrive, line by line.
-fn print_said<O: Sink>(
+fn print_output_frame<O: Sink>(
     stream: &mut UnixStream,
     len: u32,
     line: &mut Vec<u8>,
@@ -193,7 +193,7 @@ fn print_error<E: Sink>(
     ensures unfailed { result ≡ Ok true → E.failed err.new ≡ E.failed err.old }
     ensures err { OnErr result (E.failed err.new ≡ E.failed err.old) }
 {
-    match print_said(stream, len, line, err) {
+    match print_output_frame(stream, len, line, err) {
         Ok(()) => Ok(true),
         Err(WhyReplyEnded::Output) => Ok(false),
         Err(WhyReplyEnded::Server) => Err(WhyReplyEnded::Server),
@@ -203,7 +203,7 @@ fn print_error<E: Sink>(
 
 /// Returns the status of an order from its last frame, after printing the rest of that frame on the error output, and what remains of
 /// a line of either output. If the error output fails, the status is 3.
-fn print_over<O: Sink, E: Sink>(
+fn print_end_frame<O: Sink, E: Sink>(
     stream: &mut UnixStream,
     len: u32,
     unfinished: &mut Unfinished,
@@ -249,13 +249,13 @@ fn print_frames<O: Sink, E: Sink>(
     let mut frame = first;
     for _ in 0..u64::MAX {
         match frame.kind {
-            FrameKind::Output => print_said(stream, frame.len, &mut unfinished.out, out)?,
+            FrameKind::Output => print_output_frame(stream, frame.len, &mut unfinished.out, out)?,
             FrameKind::ErrorOutput => {
                 if !print_error(stream, frame.len, &mut unfinished.err, err)? {
                     return Ok(3);
                 }
             }
-            FrameKind::End => return print_over(stream, frame.len, &mut unfinished, out, err),
+            FrameKind::End => return print_end_frame(stream, frame.len, &mut unfinished, out, err),
         }
         frame = match frame_in(stream) {
             Ok(next) => next,

@@ -55,7 +55,11 @@ fn bytes_at(rt: &HostRuntime, path: &str) -> Option<Vec<u8>> {
 }
 
 /// Reads the file at a path, unless it was read before.
-fn bring(rt: &HostRuntime, files: &mut Vec<OrderPart>, path: &str) -> Result<(), AllocError> {
+fn read_file_once(
+    rt: &HostRuntime,
+    files: &mut Vec<OrderPart>,
+    path: &str,
+) -> Result<(), AllocError> {
     if files.iter().any(|file| file.name.as_str() == path) {
         return Ok(());
     }
@@ -85,11 +89,11 @@ fn files_of(rt: &HostRuntime, order: &Order<'_>) -> Result<Vec<OrderPart>, Alloc
         return Ok(files);
     };
     if let Some(path) = task.file() {
-        bring(rt, &mut files, path)?;
+        read_file_once(rt, &mut files, path)?;
     }
     if let Task::InOffice(Job::Replay { .. }) = task {
         for path in named_by(rt.alloc(), &files)? {
-            bring(rt, &mut files, path.as_str())?;
+            read_file_once(rt, &mut files, path.as_str())?;
         }
     }
     Ok(files)

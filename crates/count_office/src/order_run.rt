@@ -9,7 +9,7 @@ use crate::notices::{LockHolder, say_foreign_log, say_if_open_to_others, say_wai
 use crate::order_client::{FrameReader, Sent, print_reply, send_order};
 use crate::order_files::{OrderFiles, pack};
 use crate::path_state::{PathKind, PathState};
-use crate::{LockedDatabase, close, is_busy, order_socket, perform_on, wants_progress};
+use crate::{LockedDatabase, close, dispatch_order, is_busy, order_socket, wants_progress};
 use desk::{Failure, Order, ProgressSink, Task, tell_failure};
 use sqlite::{Connection, Wary};
 use std::fs;
@@ -42,7 +42,7 @@ pub struct OrderRun<'a> {
 ///
 /// Two phases of writing depend on what `sqlite` states: `Connection::open_from` makes the log if it doesn't exist and recovers what
 /// it contains, and `close` copies it. The contract of `perform` covers everything in between.
-fn perform_in<O: Sink, E: Sink>(
+fn open_and_perform<O: Sink, E: Sink>(
     place: LockedDatabase<'_>,
     order: &Order<'_>,
     out: &mut O,
@@ -60,7 +60,7 @@ fn perform_in<O: Sink, E: Sink>(
                 return Ok(refuse_log(rt, place.path, err));
             }
             let mut host = Localhost::at(place);
-            let (status, conn) = perform_on(place, &mut host, order, conn, out, err);
+            let (status, conn) = dispatch_order(place, &mut host, order, conn, out, err);
             if status != 0 {
                 place.found.remove_created(rt);
             }
@@ -122,7 +122,7 @@ fn print_watched<O: Sink, E: Sink>(
 }
 
 /// Reads what is sent of an order, unless it was read before, or no program serves the database.
-fn bring(
+fn read_order_files(
     request: OrderRun<'_>,
     database: &str,
     brought: &mut Option<OrderFiles>,
@@ -147,7 +147,7 @@ fn hand_over<O: Sink, E: Sink>(
     requires err { E.failed err.old < 2 ^ 64 - 1 }
     ensures { OnErr result ((out.new ≡ out.old) × (err.new ≡ err.old)) }
 {
-    if let Err(fault) = bring(request, database, brought) {
+    if let Err(fault) = read_order_files(request, database, brought) {
         return Ok(tell_failure(Failure::Office(fault), err));
     }
     let Some(order_files) = brought else {
@@ -172,7 +172,7 @@ fn is_held(rt: &HostRuntime, database: &str, error: &io::Error) -> bool {
 }
 
 /// Performs an order on the locked database at a path. An error is that another program has the file open; nothing is printed then.
-fn perform_held<O: Sink, E: Sink>(
+fn perform_locked<O: Sink, E: Sink>(
     request: OrderRun<'_>,
     found: &PathState,
     held: &FileLock,
@@ -191,12 +191,12 @@ fn perform_held<O: Sink, E: Sink>(
         held,
         brought,
     };
-    perform_in(place, request.order, out, err)
+    open_and_perform(place, request.order, out, err)
 }
 
 /// Locks the database that was found, and performs an order on it; or sends the order to the program that serves it. An error is that
 /// another program has locked the file; nothing is printed then.
-fn attempt_at<O: Sink, E: Sink>(
+fn lock_and_perform<O: Sink, E: Sink>(
     request: OrderRun<'_>,
     found: &PathState,
     brought: &mut Option<OrderFiles>,
@@ -210,7 +210,7 @@ fn attempt_at<O: Sink, E: Sink>(
     let rt = request.rt;
     match found.hold(rt) {
         Ok(held) => {
-            let done = perform_held(request, found, &held, &*brought, out, err);
+            let done = perform_locked(request, found, &held, &*brought, out, err);
             drop(held);
             done
         }
@@ -245,12 +245,12 @@ fn attempt<O: Sink, E: Sink>(
     if found.has_foreign_log(request.rt) {
         return Ok(refuse_log(request.rt, request.path, err));
     }
-    attempt_at(request, &found, brought, out, err)
+    lock_and_perform(request, &found, brought, out, err)
 }
 
 /// Performs an order on the database at a path, and returns its status. While another program has locked the file and doesn't serve
 /// it, the order waits, for at most ten seconds. Then it prints fault 102, and what has locked the file.
-pub fn perform_at<O: Sink, E: Sink>(request: OrderRun<'_>, out: &mut O, err: &mut E) -> u8
+pub fn perform_with_retries<O: Sink, E: Sink>(request: OrderRun<'_>, out: &mut O, err: &mut E) -> u8
     requires out { O.failed out.old < 2 ^ 64 - 1 }
     requires err { E.failed err.old < 2 ^ 64 - 1 }
 {

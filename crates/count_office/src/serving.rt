@@ -13,7 +13,7 @@ use crate::host::{Host, Opened};
 use connections::Network;
 use desk::{Failure, tell_failure};
 use office::Office;
-use server::{FileNumbers, ServeError, ServerSettings, SideJobs, serve_connections};
+use server::{FileNumbers, ServeError, ServedFile, ServerSettings, serve_connections};
 use sqlite::{Alter, Connection};
 use std::alloc::Global;
 use store::Fault;
@@ -60,14 +60,14 @@ fn most_of(connections: Option<u32>) -> Option<u64>
 }
 
 /// Serves an open office on its network, with its settings.
-fn serve_through<D: Network, A: SideJobs, S: Alter>(
+fn serve_through<D: Network, A: ServedFile, S: Alter>(
     alloc: Global,
     network: &mut D,
     settings: ServeSettings<'_>,
-    side_jobs: &A,
+    served_file: &A,
     office: &mut Office<S>,
 ) -> Result<(), ServeError>
-    ensures { ServesAtNetwork (server_settings_of settings.entry (A.whole side_jobs.now)) (stream_of D.Stream.held D.Stream.taken D.Stream.failed) (state S.Store)
+    ensures { ServesAtNetwork (server_settings_of settings.entry (A.whole served_file.now)) (stream_of D.Stream.held D.Stream.taken D.Stream.failed) (state S.Store)
         (D.known network.old) (D.known network.new) settings.entry.serving.connections office.old office.new result }
 {
     let server_settings = ServerSettings {
@@ -76,7 +76,7 @@ fn serve_through<D: Network, A: SideJobs, S: Alter>(
             gate: gate_of(settings.gate_files),
         },
         file: settings.file,
-        side_jobs,
+        served_file,
     };
     let most = most_of(settings.serving.connections);
     serve_connections(alloc, network, server_settings, most, office)
@@ -98,7 +98,7 @@ fn serve_at<H: Host, S: Alter>(
 {
     let Opened {
         mut network,
-        side_jobs,
+        served_file,
         file,
     } = host.open(serving.port)?;
     let settings = ServeSettings {
@@ -106,12 +106,12 @@ fn serve_at<H: Host, S: Alter>(
         gate_files,
         file,
     };
-    let ended = serve_through(alloc, &mut network, settings, &side_jobs, office);
+    let ended = serve_through(alloc, &mut network, settings, &served_file, office);
     host.close(
         serving.port,
         Opened {
             network,
-            side_jobs,
+            served_file,
             file,
         },
     );

@@ -11,4 +11,4 @@ pub record ServerSettingsEntry : Type 0 where
   pub whole : Option Bool
 
 abbrev pub settings_in : {A : Type 0} → (A → Option Bool) → ServerSettings A → ServerSettingsEntry
-settings_in whole server_settings = record { clients = settings_entry server_settings.http; file = server_settings.file; whole = whole server_settings.side_jobs.now }
+settings_in whole server_settings = record { clients = settings_entry server_settings.http; file = server_settings.file; whole = whole server_settings.served_file.now }

@@ -11,9 +11,9 @@ ghost use Rattle.server.specs.ServedOrders.{Follows};
 ghost use Rattle.server.specs.ConsoleOrders.{FollowsEntry, HasPrinted, printed_response, sent_file, typed_words};
 
 use crate::order_response::{AttachedFiles, OrderContext, do_asked, unless_gone};
+use crate::served_file::ServedFile;
 use crate::served_order::{ServedOrder, served_order_by};
 use crate::server_settings::ServerSettings;
-use crate::side_jobs::SideJobs;
 use connections::VecSink;
 use desk::Failure;
 use office::Office;
@@ -80,7 +80,7 @@ fn printed_response(alloc: Global, status: u8, out: &[u8], err: &[u8]) -> Respon
 }
 
 /// Does what an order asks, and returns the response with what it printed.
-fn follow_asked<A: SideJobs, S: Alter>(
+fn follow_asked<A: ServedFile, S: Alter>(
     order: &OrderContext<'_, A>,
     office: &mut Office<S>,
 ) -> Response
@@ -95,16 +95,16 @@ fn follow_asked<A: SideJobs, S: Alter>(
 }
 
 /// Returns the response to an order that isn't followed because an allocation failed.
-fn follow_none<A: SideJobs, S: Alter>(
+fn follow_none<A: ServedFile, S: Alter>(
     alloc: Global,
-    side_jobs: &A,
+    served_file: &A,
     office: &mut Office<S>,
 ) -> Response
     ensures { Follows (state S.Store) office.old [] (ServedOrder.Refused (Failure.Office Fault.Memory)) (λ cut page. HasPrinted cut page result) office.new }
 {
     let order = OrderContext {
         alloc,
-        side_jobs,
+        served_file,
         asked: &ServedOrder::Refused(Failure::Office(Fault::Memory)),
         attached: AttachedFiles {
             folder: None,
@@ -119,7 +119,7 @@ fn follow_none<A: SideJobs, S: Alter>(
 ///
 /// The files that the order names are those that came with it, and no others. A copy is made to a name without a folder. For
 /// `init`, `migrate`, `serve` and `codes` the order isn't followed, because the office is being served (111).
-pub fn answer_console<A: SideJobs, S: Alter>(
+pub fn answer_console<A: ServedFile, S: Alter>(
     alloc: Global,
     server_settings: ServerSettings<'_, A>,
     order: &ConsoleOrder,
@@ -129,15 +129,15 @@ pub fn answer_console<A: SideJobs, S: Alter>(
 {
     let read = match read_order(alloc, order) {
         Ok(read) => read,
-        Err(AllocError) => return follow_none(alloc, server_settings.side_jobs, office),
+        Err(AllocError) => return follow_none(alloc, server_settings.served_file, office),
     };
     let asked = unless_gone(
         served_order_by(alloc, &read.words),
-        server_settings.side_jobs,
+        server_settings.served_file,
     );
     let handing = OrderContext {
         alloc,
-        side_jobs: server_settings.side_jobs,
+        served_file: server_settings.served_file,
         asked: &asked,
         attached: AttachedFiles {
             folder: None,

@@ -34,10 +34,10 @@ mod frame_sink;
 mod order_arrival;
 mod order_response;
 mod read_cache;
+pub mod served_file;
 mod served_order;
 mod server_memory;
 pub mod server_settings;
-pub mod side_jobs;
 // one connection
 pub mod servicing;
 // all connections
@@ -48,7 +48,7 @@ mod blind;
 
 pub use blind::{clerks_are_answered_as_seen, servers_answer_as_seen};
 pub use serve_error::ServeError;
+pub use served_file::{Destination, ServedFile};
 pub use server_settings::{FileNumbers, ServerSettings};
 pub use servicing::{Serviced, service};
 pub use serving::serve_connections;
-pub use side_jobs::{Destination, SideJobs};

@@ -15,9 +15,9 @@ ghost use Rattle.server.specs.ServedOrders.{AsksSo, IsBareName, IsOrderOutcome, 
 
 use crate::frame_sink::FrameSink;
 use crate::order_arrival::LENGTH;
+use crate::served_file::{Destination, ServedFile};
 use crate::served_order::{ServedOrder, is_for_file, read_message, served_order_by, words_of};
 use crate::server_settings::ServerSettings;
-use crate::side_jobs::{Destination, SideJobs};
 use connections::{PendingResponse, Stream, VecSink};
 use desk::{Failure, Folder, follow, tell_failure, tell_words};
 use office::Office;
@@ -53,7 +53,7 @@ impl<'b> Folder for AttachedFiles<'b> {
 /// An order that is processed: what it asks, the files that came with it, and what it needs besides the office.
 pub struct OrderContext<'t, A> {
     pub alloc: Global,
-    pub side_jobs: &'t A,
+    pub served_file: &'t A,
     pub asked: &'t ServedOrder<'t>,
     pub attached: AttachedFiles<'t>,
 }
@@ -116,7 +116,7 @@ fn destination_of<'t>(folder: Option<&'t [u8]>, path: &'t str) -> Option<Destina
 }
 
 /// Copies the office for an order, to a path as seen from the order's folder, if there is such a path.
-fn copy_for_order<A: SideJobs, S: Alter, O: Sink, E: Sink>(
+fn copy_for_order<A: ServedFile, S: Alter, O: Sink, E: Sink>(
     order: &OrderContext<'_, A>,
     path: &str,
     office: &mut Office<S>,
@@ -130,13 +130,13 @@ fn copy_for_order<A: SideJobs, S: Alter, O: Sink, E: Sink>(
     ensures clean { HasCleanDisk (state S.Store office.new.held) → HasCleanDisk (state S.Store office.old.held) }
 {
     match destination_of(order.attached.folder, path) {
-        Some(to) => order.side_jobs.copy(office, to, out, err),
+        Some(to) => order.served_file.copy(office, to, out, err),
         None => tell_failure(Failure::CopyFailed, err),
     }
 }
 
 /// Does what an order asks in an office that is open, and returns the status.
-fn do_open<A: SideJobs, S: Alter, O: Sink, E: Sink>(
+fn do_open<A: ServedFile, S: Alter, O: Sink, E: Sink>(
     order: &OrderContext<'_, A>,
     office: &mut Office<S>,
     out: &mut O,
@@ -155,13 +155,13 @@ fn do_open<A: SideJobs, S: Alter, O: Sink, E: Sink>(
         ServedOrder::Misread(fault) => tell_words(fault, out, err),
         ServedOrder::Do(job) => follow(order.alloc, office, job, &order.attached, out, err),
         ServedOrder::Copy(path) => copy_for_order(order, path, office, out, err),
-        ServedOrder::Journal => order.side_jobs.journal(office, out, err),
+        ServedOrder::Journal => order.served_file.journal(office, out, err),
     }
 }
 
 /// Does what an order asks in the office, which is open or closed, and returns the status. A closed office reports that it is
 /// closed, for anything it would do otherwise.
-pub fn do_asked<A: SideJobs, S: Alter, O: Sink, E: Sink>(
+pub fn do_asked<A: ServedFile, S: Alter, O: Sink, E: Sink>(
     order: &OrderContext<'_, A>,
     office: &mut Office<S>,
     out: &mut O,
@@ -186,7 +186,7 @@ pub fn do_asked<A: SideJobs, S: Alter, O: Sink, E: Sink>(
 /// Does what an order asks, and sends its output in frames on its stream, which is returned. What the stream doesn't accept now
 /// stays in the response, which is sent side by side with others. If the allocation for the last frame fails, the response ends
 /// without it.
-fn respond_to_asked<L: Stream, A: SideJobs, S: Alter>(
+fn respond_to_asked<L: Stream, A: ServedFile, S: Alter>(
     order: &OrderContext<'_, A>,
     stream: L,
     office: &mut Office<S>,
@@ -202,12 +202,12 @@ fn respond_to_asked<L: Stream, A: SideJobs, S: Alter>(
 }
 
 /// Returns what an order asks; or that it isn't followed, if it asks for a job and the office's file is gone or replaced.
-pub fn unless_gone<'w, A: SideJobs>(asked: ServedOrder<'w>, side_jobs: &A) -> ServedOrder<'w>
-    ensures { (words : List Text) → AsksSo (A.whole side_jobs.now) words asked.entry → AsksSo (A.whole side_jobs.now) words result }
+pub fn unless_gone<'w, A: ServedFile>(asked: ServedOrder<'w>, served_file: &A) -> ServedOrder<'w>
+    ensures { (words : List Text) → AsksSo (A.whole served_file.now) words asked.entry → AsksSo (A.whole served_file.now) words result }
 {
     match asked {
         ServedOrder::Do(job) => {
-            if side_jobs.is_whole() {
+            if served_file.is_whole() {
                 ServedOrder::Do(job)
             } else {
                 ServedOrder::Refused(Failure::FileGone)
@@ -218,9 +218,9 @@ pub fn unless_gone<'w, A: SideJobs>(asked: ServedOrder<'w>, side_jobs: &A) -> Se
 }
 
 /// Responds to an order that isn't followed, with this fault.
-fn tell_refused<L: Stream, A: SideJobs, S: Alter>(
+fn tell_refused<L: Stream, A: ServedFile, S: Alter>(
     alloc: Global,
-    side_jobs: &A,
+    served_file: &A,
     fault: Fault,
     stream: L,
     office: &mut Office<S>,
@@ -231,7 +231,7 @@ fn tell_refused<L: Stream, A: SideJobs, S: Alter>(
 {
     let order = OrderContext {
         alloc,
-        side_jobs,
+        served_file,
         asked: &ServedOrder::Refused(Failure::Office(fault)),
         attached: AttachedFiles {
             folder: None,
@@ -242,7 +242,7 @@ fn tell_refused<L: Stream, A: SideJobs, S: Alter>(
 }
 
 /// Responds to an order whose message was decoded: prints what it asks, or why it isn't followed.
-fn respond_to_message<L: Stream, A: SideJobs, S: Alter>(
+fn respond_to_message<L: Stream, A: ServedFile, S: Alter>(
     alloc: Global,
     server_settings: ServerSettings<'_, A>,
     message: &OrderMessage<'_>,
@@ -257,7 +257,7 @@ fn respond_to_message<L: Stream, A: SideJobs, S: Alter>(
     if !is_for_file(message, server_settings.file) {
         return tell_refused(
             alloc,
-            server_settings.side_jobs,
+            server_settings.served_file,
             Fault::Store,
             stream,
             office,
@@ -265,12 +265,18 @@ fn respond_to_message<L: Stream, A: SideJobs, S: Alter>(
     }
     let words = match words_of(alloc, &message.words) {
         Ok(words) => words,
-        Err(fault) => return tell_refused(alloc, server_settings.side_jobs, fault, stream, office),
+        Err(fault) => return tell_refused(
+            alloc,
+            server_settings.served_file,
+            fault,
+            stream,
+            office,
+        ),
     };
-    let asked = unless_gone(served_order_by(alloc, &words), server_settings.side_jobs);
+    let asked = unless_gone(served_order_by(alloc, &words), server_settings.served_file);
     let order = OrderContext {
         alloc,
-        side_jobs: server_settings.side_jobs,
+        served_file: server_settings.served_file,
         asked: &asked,
         attached: AttachedFiles {
             folder: Some(message.folder),
@@ -286,7 +292,7 @@ fn respond_to_message<L: Stream, A: SideJobs, S: Alter>(
 /// The response is fault 102, as for a file that another program holds, if the bytes are no message, or if the order is from
 /// another version of the program or for another file. For `init`, `migrate` and `serve` it is that the office is being served
 /// (111).
-pub fn answer_order<L: Stream, A: SideJobs, S: Alter>(
+pub fn answer_order<L: Stream, A: ServedFile, S: Alter>(
     alloc: Global,
     server_settings: ServerSettings<'_, A>,
     got: &[u8],
@@ -300,6 +306,6 @@ pub fn answer_order<L: Stream, A: SideJobs, S: Alter>(
 {
     match read_message(alloc, &got[LENGTH..]) {
         Ok(message) => respond_to_message(alloc, server_settings, &message, stream, office),
-        Err(fault) => tell_refused(alloc, server_settings.side_jobs, fault, stream, office),
+        Err(fault) => tell_refused(alloc, server_settings.served_file, fault, stream, office),
     }
 }

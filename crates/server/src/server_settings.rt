@@ -17,7 +17,7 @@ pub struct FileNumbers {
 pub struct ServerSettings<'a, A> {
     pub http: HttpSettings<'a>,
     pub file: FileNumbers,
-    pub side_jobs: &'a A,
+    pub served_file: &'a A,
 }
 
 impl<A> Clone for ServerSettings<'_, A> {

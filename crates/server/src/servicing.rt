@@ -24,9 +24,9 @@ ghost use Rattle.server.specs.Exchanges.{ChangesNothing, HasAnswered, IsGoneResp
 use crate::console_order::answer_console;
 use crate::order_arrival::receive_message;
 use crate::order_response::answer_order;
+use crate::served_file::ServedFile;
 use crate::server_memory::ServerMemory;
 use crate::server_settings::ServerSettings;
-use crate::side_jobs::SideJobs;
 use connections::{
     Client, CloseReason, Listener, PendingResponse, ReadProgress, Stream, VecSink, deliver,
 };
@@ -183,7 +183,7 @@ fn written(alloc: Global, response: &Response) -> PendingResponse
 
 /// Returns the response to a client that is let in, of which these bytes were received; nothing of it was sent yet. The cache is
 /// emptied before a keying or an order, and if an allocation for the request fails.
-fn answer_request<A: SideJobs, S: Alter>(
+fn answer_request<A: ServedFile, S: Alter>(
     server_settings: ServerSettings<'_, A>,
     parsed: Parsed,
     got: &[u8],
@@ -267,16 +267,16 @@ fn no_memory_response(alloc: Global) -> PendingResponse
 }
 
 /// Returns whether the file of the office is gone or replaced, and the request is no read of an open office.
-fn is_without_file<A: SideJobs>(side_jobs: &A, parsed: Parsed, is_closed: bool) -> bool
-    ensures unknown { result ≡ true → A.whole side_jobs.now ≡ Some true → ⊥ }
+fn is_without_file<A: ServedFile>(served_file: &A, parsed: Parsed, is_closed: bool) -> bool
+    ensures unknown { result ≡ true → A.whole served_file.now ≡ Some true → ⊥ }
     ensures reads_none { result ≡ true → is_closed ≡ false → (its : HttpSettingsEntry) (got : List ℕ) → IsParsed its got parsed → (what : Resource) → Asks its got (reading what) → ⊥ }
 {
     if is_closed {
-        return !side_jobs.is_whole();
+        return !served_file.is_whole();
     }
     match parsed.reading() {
         Some(_) => false,
-        None => !side_jobs.is_whole(),
+        None => !served_file.is_whole(),
     }
 }
 
@@ -291,7 +291,7 @@ struct ReceivedRequest<'a> {
 /// Returns the response to a client; nothing of it was sent yet. If its code is wrong and the rate limit is reached, the response
 /// is to wait. If the file of the office is gone or replaced, the response says so, except to a read of an open office. In both
 /// cases nothing else is done. Otherwise the request is processed, and its code is counted if it is wrong.
-fn answer_client<A: SideJobs, S: Alter>(
+fn answer_client<A: ServedFile, S: Alter>(
     server_settings: ServerSettings<'_, A>,
     due: ReceivedRequest<'_>,
     office: &mut Office<S>,
@@ -311,7 +311,7 @@ fn answer_client<A: SideJobs, S: Alter>(
     if kept.must_wait(authentication, moment) {
         return wait_response(kept.alloc);
     }
-    if is_without_file(server_settings.side_jobs, parsed, office.is_closed()) {
+    if is_without_file(server_settings.served_file, parsed, office.is_closed()) {
         return gone_response(kept.alloc);
     }
     let answer = answer_request(server_settings, parsed, got, office, kept);
@@ -377,7 +377,7 @@ fn begin_answer<L: Stream>(
 }
 
 /// Services an order without a response: receives its message and, once that is complete, processes it.
-fn service_order<L: Stream, A: SideJobs, S: Alter>(
+fn service_order<L: Stream, A: ServedFile, S: Alter>(
     server_settings: ServerSettings<'_, A>,
     now: u64,
     client: Client<L>,
@@ -433,7 +433,7 @@ fn service_order<L: Stream, A: SideJobs, S: Alter>(
 ///
 /// The bytes that are received are the connection's own, from the first one on, and the response is the one to exactly these. No
 /// other connection is touched.
-pub fn service<L: Stream, A: SideJobs, S: Alter>(
+pub fn service<L: Stream, A: ServedFile, S: Alter>(
     server_settings: ServerSettings<'_, A>,
     now: u64,
     client: Client<L>,

@@ -19,10 +19,10 @@ ghost use Rattle.server.specs.Servers.{GoesOn, IsCalled, IsEndedBy, IsRound, IsS
 
 use crate::blind::servers_answer_as_seen;
 use crate::serve_error::ServeError;
+use crate::served_file::ServedFile;
 use crate::server_memory::ServerMemory;
 use crate::server_settings::ServerSettings;
 use crate::servicing::{Serviced, service};
-use crate::side_jobs::SideJobs;
 use connections::closing::{
     TIMEOUT, close_all, close_timed_out, evict_if_full, evict_one, keep_within,
 };
@@ -58,7 +58,7 @@ fn moment_at_gate<D: Network, A>(
 
 /// Services an open connection at a moment. Returns the connection, and why it is to be closed, if it is. Its time limit begins
 /// again once its request was processed, however long that took. If the clock fails at the gate, the connection isn't serviced.
-fn service_one<D: Network, A: SideJobs, S: Alter>(
+fn service_one<D: Network, A: ServedFile, S: Alter>(
     network: &mut D,
     server_settings: ServerSettings<'_, A>,
     client: Client<D::Stream>,
@@ -116,7 +116,7 @@ fn settle<D: Network>(
 
 /// Services each connection that is ready, in the order in which the network reports them, if it is open. One that is done or
 /// lost is closed. If the clock fails, the connection stays in the table.
-fn service_ready<D: Network, A: SideJobs, S: Alter>(
+fn service_ready<D: Network, A: ServedFile, S: Alter>(
     network: &mut D,
     server_settings: ServerSettings<'_, A>,
     table: &mut ConnectionTable<D::Stream>,
@@ -278,7 +278,7 @@ fn end_round<D: Network>(
 
 /// Serves in rounds, until all clients were accepted and all connections are closed. In each round the connections that are ready
 /// are serviced first.
-fn serve_rounds<D: Network, A: SideJobs, S: Alter>(
+fn serve_rounds<D: Network, A: ServedFile, S: Alter>(
     network: &mut D,
     serving: RoundSettings<'_, A>,
     table: &mut ConnectionTable<D::Stream>,
@@ -336,7 +336,7 @@ fn serve_rounds<D: Network, A: SideJobs, S: Alter>(
 ///
 /// The error says why serving ended early: the network or its clock failed, the table couldn't be allocated, or there were as
 /// many rounds as there are numbers. What was answered before remains valid. The connections that are open then are closed.
-pub fn serve_connections<D: Network, A: SideJobs, S: Alter>(
+pub fn serve_connections<D: Network, A: ServedFile, S: Alter>(
     alloc: Global,
     network: &mut D,
     server_settings: ServerSettings<'_, A>,

@@ -4,7 +4,7 @@ use super::begun::{BAD_REQUEST, BEGUN};
 use super::clients::{Evening, TestClient};
 use super::disks::Disks;
 use super::steps::{Case, Step};
-use super::test_host::{TestHost, hear, hear_unchanged, play_acts};
+use super::test_host::{TestHost, hear, hear_one_unchanged, play_acts};
 use std::alloc::{AllocError, Global};
 use std::process::Abort;
 use std::test::Fail;
@@ -132,6 +132,15 @@ fn followed(alloc: Global, body: &str) -> Result<String, AllocError> {
     )
 }
 
+/// What comes in one step.
+fn hear_one<M: TestHost + Drop>(
+    rt: &(impl Abort + AllocGlobal),
+    host: M,
+    case: Case<'_>,
+) -> Result<M, Fail> {
+    hear(rt, host, &[case])
+}
+
 /// Orders of the office are followed in turn.
 fn are_followed<M: TestHost + Drop>(rt: &(impl Abort + AllocGlobal), host: M) -> Result<M, Fail> {
     let alloc = rt.alloc();
@@ -141,7 +150,7 @@ fn are_followed<M: TestHost + Drop>(rt: &(impl Abort + AllocGlobal), host: M) ->
         talk.add(alloc, OFFICE, *body, told.as_str())?;
     }
     let clients = talk.clients(alloc)?;
-    hear(rt, host, &[talk.case(&clients)])
+    hear_one(rt, host, talk.case(&clients))
 }
 
 /// What lacks the office's code, or has no words, changes nothing.
@@ -155,7 +164,7 @@ fn are_not_followed<M: TestHost + Drop>(
         talk.add(alloc, *header, *body, *told)?;
     }
     let clients = talk.clients(alloc)?;
-    hear_unchanged(rt, host, &[talk.case(&clients)])
+    hear_one_unchanged(rt, host, talk.case(&clients))
 }
 
 fn are_sent<M: TestHost + Drop>(rt: &(impl Abort + AllocGlobal)) -> Result<(), Fail> {

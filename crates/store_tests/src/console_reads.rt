@@ -3,8 +3,8 @@
 use super::begun::{DIFFERING, FOUR_COMES_LATE, GIVEN_OUT, NOMINATED, PAPER_BY_PAPER, SET};
 use super::clients::{Evening, TestClient};
 use super::disks::Disks;
-use super::steps::Step;
-use super::test_host::{Act, TestHost, do_act, hear_unchanged, play_acts};
+use super::steps::{Case, Step};
+use super::test_host::{Act, TestHost, do_act, hear_one_unchanged, play_acts};
 use std::alloc::{AllocError, Global};
 use std::process::Abort;
 use std::test::Fail;
@@ -169,6 +169,19 @@ fn response_of(alloc: Global, status: &str, body: &str) -> Result<String, AllocE
     )
 }
 
+/// The step in which these clients come, and get this response.
+fn case_of<'a>(
+    clients: &'a [Option<TestClient<'a>>],
+    codes: &'a str,
+    response: &'a str,
+) -> Case<'a> {
+    let evening = Evening {
+        codes: Some(codes),
+        ..Evening::of(clients)
+    };
+    (Step::Serve(evening), (0, response, "Ok(())"))
+}
+
 /// Reads one thing, with these codes; the response must be this, and no row may change.
 fn read_one<M: TestHost + Drop>(
     rt: &(impl Abort + AllocGlobal),
@@ -180,12 +193,7 @@ fn read_one<M: TestHost + Drop>(
     let request = request_of(rt.alloc(), target, code)?;
     let response = response_of(rt.alloc(), status, body)?;
     let clients = [Some(TestClient::whole(request.as_bytes()))];
-    let evening = Evening {
-        codes: Some(codes),
-        ..Evening::of(&clients)
-    };
-    let told = (0, response.as_str(), "Ok(())");
-    hear_unchanged(rt, host, &[(Step::Serve(evening), told)])
+    hear_one_unchanged(rt, host, case_of(&clients, codes, response.as_str()))
 }
 
 /// Reads each of these.

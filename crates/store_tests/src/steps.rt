@@ -9,7 +9,7 @@ use desk::perform::perform;
 use desk::{Failure, Folder, Order, copy_office, order, tell_failure, tell_words};
 use office::{Answer, Office, Run, Stop, Work};
 use register::Request;
-use server::{Destination, FileNumbers, ServeError, ServerSettings, SideJobs, serve_connections};
+use server::{Destination, FileNumbers, ServeError, ServedFile, ServerSettings, serve_connections};
 use sqlite::{Alter, Connection};
 use std::alloc::{AllocError, Global};
 use std::test::Fail;
@@ -239,7 +239,7 @@ pub const SERVER_SETTINGS: ServerSettings<'static, Unaided> = ServerSettings {
         device: 7,
         inode: 12,
     },
-    side_jobs: &Unaided,
+    served_file: &Unaided,
 };
 
 /// Returns the codes of an evening, if it has any; no wrong code was sent before.
@@ -272,15 +272,15 @@ fn terms_of(held: &Option<Codes>) -> ServerSettings<'_, Unaided> {
     ServerSettings {
         http: HttpSettings { origin: None, gate },
         file: SERVER_SETTINGS.file,
-        side_jobs: SERVER_SETTINGS.side_jobs,
+        served_file: SERVER_SETTINGS.served_file,
     }
 }
 
-/// Side jobs of which none is possible: no copy and no journal can be made.
+/// A file next to which nothing can be made: no copy, and no journal.
 #[derive(Clone, Copy)]
 pub struct Unaided;
 
-impl SideJobs for Unaided {
+impl ServedFile for Unaided {
     ghost whole = { λ _. Some true };
 
     fn is_whole(&self) -> bool {

@@ -109,6 +109,15 @@ pub fn hear_unchanged<M: TestHost + Drop>(
     Ok(host)
 }
 
+/// The same for one case.
+pub fn hear_one_unchanged<M: TestHost + Drop>(
+    rt: &(impl Abort + AllocGlobal),
+    host: M,
+    case: Case<'_>,
+) -> Result<M, Fail> {
+    hear_unchanged(rt, host, &[case])
+}
+
 /// Both clerks of batch 12 key these papers, a file's text.
 fn key<M: TestHost + Drop>(
     rt: &(impl Abort + AllocGlobal),

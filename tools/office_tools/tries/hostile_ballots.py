@@ -11,10 +11,9 @@ import subprocess
 from office_tools.damage import damaged
 from office_tools.office import SECONDS, Wrong, program, temporary_folder, timed
 from office_tools.tables import Table
-from office_tools.tries.recount import Ballots, Count, Unreadable, written
+from office_tools.tries.recount import STEERS, Ballots, Count, Unreadable, written
 
 NAMES = ["Ann", "Bob", 'B. "Bob" \\ Brün', "Cy # 3", "דנה", "<b>Eve</b>", "-1", "Fay=2", "0", "E, jr.", "\x1b[2J", "\x9b2J", "\u202eevE"]
-STEERS = re.compile("[\0-\x09\x0b-\x1f\x7f-\x9f\u061c\u200e\u200f\u202a-\u202e\u2066-\u2069]")
 
 # Comments of ours, in forms that are read and in others, and such as begin otherwise; N is a number.
 OURS = ["Ward N", "Rejected 1: N, 2: N, 3: N, 4: N, 5: N", "Lot at stage N: N"]

@@ -7,15 +7,17 @@ sheet, and stops if a lot is needed that the file doesn't have. Status 1: the fi
 
 With --wards N wards are made up and played to their declarations. At each lot and at the end `ballots` must print the papers that were
 made up, and `sheet` the recount's sheet of them, byte for byte; a lot is asked for just where the recount stops, among the same candidates.
+The program that needs no office (CHECK_COUNT names it) counts the first ballots with the same lots, and must print the office's own texts.
 """
 import collections
 import itertools
 import random
 import re
+import subprocess
 import sys
 from pathlib import Path
 
-from office_tools.office import Wrong, temporary_folder
+from office_tools.office import SECONDS, Wrong, program, temporary_folder
 from office_tools.tables import Table
 from office_tools.wards import Ward, sealed_office
 
@@ -30,6 +32,8 @@ OURS = {
     "rejected": ("Rejected " + " ".join(f"{code} ([0-9]+)" for code in CODES), 2 ** 32 - 1),
     "lot": ("Lot at stage ([0-9]+) ([0-9]+)", 255),
 }
+# Characters that could steer a terminal: a question mark is shown for each.
+STEERS = re.compile("[\0-\x09\x0b-\x1f\x7f-\x9f\u061c\u200e\u200f\u202a-\u202e\u2066-\u2069]")
 BEGINS_AS_OURS = re.compile(r"[^0-9a-z]*(ward|rejected|lot)(?![a-z])", re.ASCII | re.IGNORECASE)
 
 # Equal papers, held together; and bundles that a candidate received together, with the value at which each of their papers came.
@@ -259,12 +263,26 @@ def compare(what, told, wanted):
             raise Wrong(f"{what}, line {place}: told is {line}, wanted {right}")
 
 
+def compare_counted(ballots, lots, wanted, waits):
+    """Counts ballots without an office, with these lots added, and compares each text by its option, the line about a lot and the status."""
+    line, added = b"", [word for stage, drawn in lots.items() for word in ("--lot", f"{stage}:{drawn}")]
+    if waits:
+        names = Ballots(ballots).names
+        line = STEERS.sub("?", f"lot needed at stage {waits[0]} among {', '.join(f'{c} {names[c]}' for c in waits[1])}").encode() + b"\n"
+    for option, text in wanted.items():
+        words = [program("CHECK_COUNT"), "--count", "-", *option.split(), *added]
+        run = subprocess.run(words, input=ballots, stdout=subprocess.PIPE, stderr=subprocess.PIPE, timeout=SECONDS, check=False)
+        compare(f"count without an office {option}", run.stdout, text)
+        compare("its line about a lot, and its status", run.stderr + b"%d" % run.returncode, line + (b"1" if waits else b"0"))
+
+
 def play(ward, folder):
     """Plays a ward to its declaration, and compares all that the program prints on the way. Returns its count."""
-    number, office = ward.number, sealed_office(folder, ward)
+    number, office, lots = ward.number, sealed_office(folder, ward), {}
 
     def told(*words):
         return office.do(*words).encode("utf-8", "surrogateescape")
+    first = told("ballots", number)
     while True:
         count = Count(Ballots(told("ballots", number)))
         bundles, rejected = ward.judged()
@@ -278,9 +296,14 @@ def play(ward, folder):
         compare("sheet", told("sheet", number), count.sheet())
         if not tied:
             break
-        told("lot", number, stage, ward.chance.choice(tied), "--id", f"l{stage}")
+        texts = {"": count.sheet(), "--declaration": b"", "--table": told("table", number), "--ballots": told("ballots", number)}
+        compare_counted(first, lots, texts | {"--page": told("page", number)}, count.waits)
+        lots[stage] = ward.chance.choice(tied)
+        told("lot", number, stage, lots[stage], "--id", f"l{stage}")
     told("declare", number, "--id", "d")
     compare("result", told("result", number), count.declaration())
+    texts = {"": count.sheet(), "--declaration": count.declaration(), "--table": told("table", number), "--ballots": told("ballots", number)}
+    compare_counted(first, lots, texts | {"--page --title Spring": told("page", number, "--title", "Spring")}, None)
     return count
 
 

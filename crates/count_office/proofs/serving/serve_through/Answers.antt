@@ -12,7 +12,7 @@ pub returns : goal.returns
 returns g c =
     let settings = c.args.settings in
     let at = λ (gate : Option GateEntry) (most : Option ℕ). ServesAtNetwork
-    (settings_with (given_by settings.serving.origin) gate settings.file (g.A.SideJobs.whole c.args.side_jobs.now))
+    (settings_with (given_by settings.serving.origin) gate settings.file (g.A.ServedFile.whole c.args.served_file.now))
     (stream_of g.D.Stream.Stream.held g.D.Stream.Stream.taken g.D.Stream.Stream.failed) (state g.S.Store) (g.D.Network.known c.args.network.now)
     (g.D.Network.known c.serve_connections.new.network) most
     c.args.office.now c.serve_connections.new.office c.serve_connections.result in

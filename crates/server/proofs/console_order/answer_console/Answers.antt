@@ -14,7 +14,7 @@ returns-in-Err g c = record { files = []; asked = asked.Refused (Office Memory);
 
 pub returns : goal.returns
 returns g c =
-    let whole = g.A.SideJobs.whole c.args.server_settings.side_jobs.now in
+    let whole = g.A.ServedFile.whole c.args.server_settings.served_file.now in
     let same = ap (map (λ (t : Bor (List ℕ)). t.now)) c.deref.ensures.value ∙ c.in-Ok.ensures.words in
     record {
       files = message_part_entries c.deref-2.result.now;

@@ -16,6 +16,6 @@ returns-in-Ok-clause-followed g c =
 pub returns-in-Err-clause-followed : goal.returns-in-Err-clause-followed
 returns-in-Err-clause-followed g c =
     let rest = take_all (length c.args.got.now - 8) (drop 8 c.args.got.now) (omega (arith, length-drop 8 c.args.got.now)) in
-    follows_unread (settings_in g.A.SideJobs.whole c.args.server_settings) (state g.S.Store) c.args.office.now c.tell_refused.new.office c.args.got.now
+    follows_unread (settings_in g.A.ServedFile.whole c.args.server_settings) (state g.S.Store) c.args.office.now c.tell_refused.new.office c.args.got.now
     c.tell_refused.result.1.bytes.items _ (asked.Refused (Office c.in-Err.fault))
     (order_unread c.args.server_settings.file c.args.got.now (take (length c.args.got.now - 8) (drop 8 c.args.got.now)) c.in-Err.fault rest c.in-Err.ensures.err) refl c.tell_refused.ensures.followed

@@ -37,7 +37,7 @@ returns-clause-meets g c = λ number.
       authentication = authentication;
       is = c.authentication-authentication.ensures (settings_entry c.args.server_settings.http) c.args.due.got.now c.requires;
       free = sym {b = must_wait authentication c.args.due.moment (limit_entry c.args.kept.now.limit)} c.must_wait.ensures ∙ c.if-must_wait.false;
-      serves = noted_asked (settings_in g.A.SideJobs.whole c.args.server_settings) (state g.S.Store) (served_office c.args.office.now (memory_entry c.args.kept.now)) exchange answered.new.office
+      serves = noted_asked (settings_in g.A.ServedFile.whole c.args.server_settings) (state g.S.Store) (served_office c.args.office.now (memory_entry c.args.kept.now)) exchange answered.new.office
           (memory_entry answered.new.kept)
           (memory_entry c.note.new.self) c.note.ensures.reads (answered.ensures.served number c.args.due.moment);
       noted = c.note.ensures.limit ∙ ap (limit_after authentication c.args.due.moment) answered.ensures.limit;

@@ -15,7 +15,7 @@ use Rattle.server.proofs.servicing.answer_request.Goals as goal
 
 pub returns-in_default-clause-served : goal.returns-in_default-clause-served
 returns-in_default-clause-served g c = λ number moment.
-    unread_served (settings_in g.A.SideJobs.whole c.args.server_settings) (state g.S.Store) c.args.office.now (memory_entry c.args.kept.now)
+    unread_served (settings_in g.A.ServedFile.whole c.args.server_settings) (state g.S.Store) c.args.office.now (memory_entry c.args.kept.now)
     (record { reads = reads_in c.empty.new.self; limit = limit_entry c.args.kept.now.limit }) number moment c.args.got.now c.no_memory_response.result.bytes.items
     c.args.parsed c.requires c.empty.ensures c.no_memory_response.ensures.told
 
@@ -86,7 +86,7 @@ returns-in-Order-clause-served g c = λ number moment.
     let did = c.answer_console-response in
     let asks = subst (λ (a : HttpRequest). Asks its c.args.got.now (http_request_entry a)) c.in-Order.is (c.in-Ok.ensures c.requires) in
     inr (
-      console_followed (settings_in g.A.SideJobs.whole c.args.server_settings) (state g.S.Store) c.args.office.now did.new.office c.args.got.now c.written-in-Order.result.bytes.items
+      console_followed (settings_in g.A.ServedFile.whole c.args.server_settings) (state g.S.Store) c.args.office.now did.new.office c.args.got.now c.written-in-Order.result.bytes.items
           (console_order_entry c.in-Order.order) did.result asks did.ensures c.written-in-Order.ensures.put,
       c.empty-in-Order.ensures,
     )

@@ -17,7 +17,7 @@ use Rattle.server.proofs.servicing.service.Goals as goal
 -- it has its response already, and gets more of it
 pub returns-then-is_some-clause-turn : goal.returns-then-is_some-clause-turn
 returns-then-is_some-clause-turn g c =
-    attends_none (stream_of g.L.Stream.held g.L.Stream.taken g.L.Stream.failed) (settings_in g.A.SideJobs.whole c.args.server_settings)
+    attends_none (stream_of g.L.Stream.held g.L.Stream.taken g.L.Stream.failed) (settings_in g.A.ServedFile.whole c.args.server_settings)
     (state g.S.Store) c.args.now c.send_more-told.result c.args.client c.send_more-told.new.client
     (served_office c.args.office.now (memory_entry c.args.kept.now)) (served_office c.args.office.now (memory_entry c.args.kept.now)) c.send_more-told.ensures.apart refl
     c.send_more-told.ensures.belongs
@@ -48,7 +48,7 @@ returns-in-Ok-Some-clause-is g c = λ start own. c.begin_answer.ensures.is start
 pub returns-in-Ok-Some-clause-turn : goal.returns-in-Ok-Some-clause-turn
 returns-in-Ok-Some-clause-turn g c =
     let received = c.in-Ok-Some.ensures in
-    let settings = settings_in g.A.SideJobs.whole c.args.server_settings in
+    let settings = settings_in g.A.ServedFile.whole c.args.server_settings in
     let stream = stream_of g.L.Stream.held g.L.Stream.taken g.L.Stream.failed in
     let mid = c.receive_request.new.client in
     let answered = c.answer_client-answer in

@@ -26,7 +26,7 @@ returns-in-Ok-true-clause-is g c = λ start own. c.begin_answer.ensures.is start
 pub returns-in-Ok-true-clause-turn : goal.returns-in-Ok-true-clause-turn
 returns-in-Ok-true-clause-turn g c =
     let received = c.receive_message.ensures in
-    let settings = settings_in g.A.SideJobs.whole c.args.server_settings in
+    let settings = settings_in g.A.ServedFile.whole c.args.server_settings in
     let stream = stream_of g.L.Stream.held g.L.Stream.taken g.L.Stream.failed in
     let mid = c.receive_message.new.client in
     let answered = c.answer_order-stream in

@@ -9,17 +9,17 @@ use Rattle.server.proofs.serving.serve_connections.Goals as goal
 -- there was no memory for a table
 pub returns-in_default-clause-served : goal.returns-in_default-clause-served
 returns-in_default-clause-served g c =
-    nobody_served (settings_in g.A.SideJobs.whole c.args.server_settings) (stream_of g.D.Stream.Stream.held g.D.Stream.Stream.taken g.D.Stream.Stream.failed)
+    nobody_served (settings_in g.A.ServedFile.whole c.args.server_settings) (stream_of g.D.Stream.Stream.held g.D.Stream.Stream.taken g.D.Stream.Stream.failed)
     (state g.S.Store) (g.D.Network.known c.args.network.now) c.args.connections c.args.office.now
 
 pub serve_rounds-ended-requires-clause-sound : goal.serve_rounds-ended-requires-clause-sound
 serve_rounds-ended-requires-clause-sound g c =
-    sound_empty (settings_in g.A.SideJobs.whole c.args.server_settings) (stream_of g.D.Stream.Stream.held g.D.Stream.Stream.taken g.D.Stream.Stream.failed)
+    sound_empty (settings_in g.A.ServedFile.whole c.args.server_settings) (stream_of g.D.Stream.Stream.held g.D.Stream.Stream.taken g.D.Stream.Stream.failed)
     c.in-Ok.table c.in-Ok.ensures.0 c.in-Ok.ensures.1
 
 pub returns-clause-served : goal.returns-clause-served
 returns-clause-served g c =
-    let settings = settings_in g.A.SideJobs.whole c.args.server_settings in
+    let settings = settings_in g.A.ServedFile.whole c.args.server_settings in
     let stream = stream_of g.D.Stream.Stream.held g.D.Stream.Stream.taken g.D.Stream.Stream.failed in
     let known = g.D.Network.known in
     let went = c.serve_rounds-ended in
@@ -36,7 +36,7 @@ pub returns-clause-closed : goal.returns-clause-closed
 returns-clause-closed g c =
     let known = g.D.Network.known in
     let went = c.serve_rounds-ended in
-    serving_closed (settings_in g.A.SideJobs.whole c.args.server_settings) (stream_of g.D.Stream.Stream.held g.D.Stream.Stream.taken g.D.Stream.Stream.failed)
+    serving_closed (settings_in g.A.ServedFile.whole c.args.server_settings) (stream_of g.D.Stream.Stream.held g.D.Stream.Stream.taken g.D.Stream.Stream.failed)
     (state g.S.Store) (known c.args.network.now) (known went.new.network) c.in-Ok.table went.new.table c.args.office.now
     (memory_entry c.in-Ok-new.kept) (served_office went.new.office (memory_entry went.new.kept)) went.ensures.goes_on
 
@@ -44,12 +44,12 @@ pub returns-clause-clean : goal.returns-clause-clean
 returns-clause-clean g c =
     let known = g.D.Network.known in
     let went = c.serve_rounds-ended in
-    serving_clean (settings_in g.A.SideJobs.whole c.args.server_settings) (stream_of g.D.Stream.Stream.held g.D.Stream.Stream.taken g.D.Stream.Stream.failed)
+    serving_clean (settings_in g.A.ServedFile.whole c.args.server_settings) (stream_of g.D.Stream.Stream.held g.D.Stream.Stream.taken g.D.Stream.Stream.failed)
     (state g.S.Store) (known c.args.network.now) (known went.new.network) c.in-Ok.table went.new.table c.args.office.now
     (memory_entry c.in-Ok-new.kept) (served_office went.new.office (memory_entry went.new.kept)) went.ensures.goes_on
 
 -- or for the routes
 pub returns-in_default-new-clause-served : goal.returns-in_default-new-clause-served
 returns-in_default-new-clause-served g c =
-    nobody_served (settings_in g.A.SideJobs.whole c.args.server_settings) (stream_of g.D.Stream.Stream.held g.D.Stream.Stream.taken g.D.Stream.Stream.failed)
+    nobody_served (settings_in g.A.ServedFile.whole c.args.server_settings) (stream_of g.D.Stream.Stream.held g.D.Stream.Stream.taken g.D.Stream.Stream.failed)
     (state g.S.Store) (g.D.Network.known c.args.network.now) c.args.connections c.args.office.now

@@ -10,7 +10,7 @@ use Rattle.server.proofs.serving.serve_rounds.Goals as goal
 
 pub loop-round-init : goal.loop-round-init
 loop-round-init g c =
-    let settings = settings_in g.A.SideJobs.whole c.args.serving.server_settings in
+    let settings = settings_in g.A.ServedFile.whole c.args.serving.server_settings in
     let stream = stream_of g.D.Stream.Stream.held g.D.Stream.Stream.taken g.D.Stream.Stream.failed in
     let known = g.D.Network.known c.args.network.now in
     let table = c.args.table.now in
@@ -25,7 +25,7 @@ loop-round-init g c =
 -- the table is as sound as it was
 pub service_ready-requires-clause-sound : goal.service_ready-requires-clause-sound
 service_ready-requires-clause-sound g c =
-    sound_later (settings_in g.A.SideJobs.whole c.args.serving.server_settings) (stream_of g.D.Stream.Stream.held g.D.Stream.Stream.taken g.D.Stream.Stream.failed)
+    sound_later (settings_in g.A.ServedFile.whole c.args.serving.server_settings) (stream_of g.D.Stream.Stream.held g.D.Stream.Stream.taken g.D.Stream.Stream.failed)
     (state g.S.Store) (g.D.Network.known c.args.network.now) (g.D.Network.known c.loop-round.network) c.args.table.now c.loop-round.table
     (served_office c.args.office.now (memory_entry c.args.kept.now)) (served_office c.loop-round.office (memory_entry c.loop-round.kept)) c.loop-round.invariant.goes_on c.requires.sound
 
@@ -33,7 +33,7 @@ pub returns-in_default-clause-goes_on : goal.returns-in_default-clause-goes_on
 returns-in_default-clause-goes_on g c =
     let known = g.D.Network.known in
     let went = c.service_ready in
-    serves_then (settings_in g.A.SideJobs.whole c.args.serving.server_settings) (stream_of g.D.Stream.Stream.held g.D.Stream.Stream.taken g.D.Stream.Stream.failed)
+    serves_then (settings_in g.A.ServedFile.whole c.args.serving.server_settings) (stream_of g.D.Stream.Stream.held g.D.Stream.Stream.taken g.D.Stream.Stream.failed)
     (state g.S.Store) (known c.args.network.now) (known c.loop-round.network) (known went.new.network) c.args.table.now c.loop-round.table went.new.table
     (served_office c.args.office.now (memory_entry c.args.kept.now)) (served_office c.loop-round.office (memory_entry c.loop-round.kept))
     (served_office went.new.office (memory_entry went.new.kept)) c.loop-round.invariant.goes_on
@@ -41,7 +41,7 @@ returns-in_default-clause-goes_on g c =
 
 pub loop-round-preserved : goal.loop-round-preserved
 loop-round-preserved g c =
-    let settings = settings_in g.A.SideJobs.whole c.args.serving.server_settings in
+    let settings = settings_in g.A.ServedFile.whole c.args.serving.server_settings in
     let stream = stream_of g.D.Stream.Stream.held g.D.Stream.Stream.taken g.D.Stream.Stream.failed in
     let known = g.D.Network.known in
     let so_far = c.loop-round.invariant in
@@ -64,7 +64,7 @@ loop-round-preserved g c =
 
 pub returns-in-Ok-true-clause-goes_on : goal.returns-in-Ok-true-clause-goes_on
 returns-in-Ok-true-clause-goes_on g c =
-    let settings = settings_in g.A.SideJobs.whole c.args.serving.server_settings in
+    let settings = settings_in g.A.ServedFile.whole c.args.serving.server_settings in
     let stream = stream_of g.D.Stream.Stream.held g.D.Stream.Stream.taken g.D.Stream.Stream.failed in
     let known = g.D.Network.known in
     let went = c.service_ready in
@@ -78,7 +78,7 @@ returns-in-Ok-true-clause-goes_on g c =
 
 pub returns-in-Err-clause-goes_on : goal.returns-in-Err-clause-goes_on
 returns-in-Err-clause-goes_on g c =
-    let settings = settings_in g.A.SideJobs.whole c.args.serving.server_settings in
+    let settings = settings_in g.A.ServedFile.whole c.args.serving.server_settings in
     let stream = stream_of g.D.Stream.Stream.held g.D.Stream.Stream.taken g.D.Stream.Stream.failed in
     let known = g.D.Network.known in
     let went = c.service_ready in

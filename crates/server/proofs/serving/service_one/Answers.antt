@@ -12,14 +12,14 @@ use Rattle.server.proofs.serving.service_one.Goals as goal
 -- if the clock fails, it had no turn
 pub returns-in_default-clause-went : goal.returns-in_default-clause-went
 returns-in_default-clause-went g c =
-    let settings = settings_in g.A.SideJobs.whole c.args.server_settings in
+    let settings = settings_in g.A.ServedFile.whole c.args.server_settings in
     went_nowhere (stream_of g.D.Stream.Stream.held g.D.Stream.Stream.taken g.D.Stream.Stream.failed) (is_some settings.clients.gate) settings
     (state g.S.Store) _ (g.D.Network.known c.args.network.now) (g.D.Network.known c.moment_at_gate.new.network)
     c.args.client (served_office c.args.office.now (memory_entry c.args.kept.now)) c.in_default.ensures
 
 pub returns-in-Waits-clause-went : goal.returns-in-Waits-clause-went
 returns-in-Waits-clause-went g c =
-    let settings = settings_in g.A.SideJobs.whole c.args.server_settings in
+    let settings = settings_in g.A.ServedFile.whole c.args.server_settings in
     let stream = stream_of g.D.Stream.Stream.held g.D.Stream.Stream.taken g.D.Stream.Stream.failed in
     let went = c.service-client in
     let known = g.D.Network.known in
@@ -32,7 +32,7 @@ returns-in-Waits-clause-went g c =
 
 pub returns-in-Ok-now-clause-went : goal.returns-in-Ok-now-clause-went
 returns-in-Ok-now-clause-went g c =
-    let settings = settings_in g.A.SideJobs.whole c.args.server_settings in
+    let settings = settings_in g.A.ServedFile.whole c.args.server_settings in
     let stream = stream_of g.D.Stream.Stream.held g.D.Stream.Stream.taken g.D.Stream.Stream.failed in
     let went = c.service-client in
     let known = g.D.Network.known in
@@ -46,7 +46,7 @@ returns-in-Ok-now-clause-went g c =
 
 pub returns-in-Err-clause-went : goal.returns-in-Err-clause-went
 returns-in-Err-clause-went g c =
-    let settings = settings_in g.A.SideJobs.whole c.args.server_settings in
+    let settings = settings_in g.A.ServedFile.whole c.args.server_settings in
     let stream = stream_of g.D.Stream.Stream.held g.D.Stream.Stream.taken g.D.Stream.Stream.failed in
     let went = c.service-client in
     let known = g.D.Network.known in
@@ -60,7 +60,7 @@ returns-in-Err-clause-went g c =
 
 pub returns-in-Leaves-clause-went : goal.returns-in-Leaves-clause-went
 returns-in-Leaves-clause-went g c =
-    let settings = settings_in g.A.SideJobs.whole c.args.server_settings in
+    let settings = settings_in g.A.ServedFile.whole c.args.server_settings in
     let stream = stream_of g.D.Stream.Stream.held g.D.Stream.Stream.taken g.D.Stream.Stream.failed in
     let went = c.service-client in
     let known = g.D.Network.known in

@@ -18,7 +18,7 @@ use Rattle.server.proofs.serving.service_ready.Goals as goal
 
 pub loop-init : goal.loop-init
 loop-init g c =
-    let settings = settings_in g.A.SideJobs.whole c.args.server_settings in
+    let settings = settings_in g.A.ServedFile.whole c.args.server_settings in
     let stream = stream_of g.D.Stream.Stream.held g.D.Stream.Stream.taken g.D.Stream.Stream.failed in
     let known = g.D.Network.known c.args.network.now in
     let table = c.args.table.now in
@@ -33,7 +33,7 @@ loop-init g c =
 -- the one that was named isn't in
 pub loop-preserved-in_default-place_of_number : goal.loop-preserved-in_default-place_of_number
 loop-preserved-in_default-place_of_number g c =
-    let settings = settings_in g.A.SideJobs.whole c.args.server_settings in
+    let settings = settings_in g.A.ServedFile.whole c.args.server_settings in
     let stream = stream_of g.D.Stream.Stream.held g.D.Stream.Stream.taken g.D.Stream.Stream.failed in
     let known = g.D.Network.known in
     let between = served_office c.loop.office (memory_entry c.loop.kept) in
@@ -51,7 +51,7 @@ loop-preserved-in_default-place_of_number g c =
 -- nothing was sent to the connection at the place, if it has no response
 pub service_one-client-requires : goal.service_one-client-requires
 service_one-client-requires g c =
-    let settings = settings_in g.A.SideJobs.whole c.args.server_settings in
+    let settings = settings_in g.A.ServedFile.whole c.args.server_settings in
     let stream = stream_of g.D.Stream.Stream.held g.D.Stream.Stream.taken g.D.Stream.Stream.failed in
     let known = g.D.Network.known in
     let sound = sound_later settings stream (state g.S.Store) (known c.args.network.now) (known c.loop.network) c.args.table.now c.loop.table
@@ -79,7 +79,7 @@ settle-requires-clause-within g c =
 
 pub loop-preserved : goal.loop-preserved
 loop-preserved g c =
-    let settings = settings_in g.A.SideJobs.whole c.args.server_settings in
+    let settings = settings_in g.A.ServedFile.whole c.args.server_settings in
     let stream = stream_of g.D.Stream.Stream.held g.D.Stream.Stream.taken g.D.Stream.Stream.failed in
     let known = g.D.Network.known in
     let at = served_office c.args.office.now (memory_entry c.args.kept.now) in
@@ -115,7 +115,7 @@ loop-preserved g c =
 -- the clock failed
 pub returns-in_default-next-clause-goes_on : goal.returns-in_default-next-clause-goes_on
 returns-in_default-next-clause-goes_on g c =
-    let settings = settings_in g.A.SideJobs.whole c.args.server_settings in
+    let settings = settings_in g.A.ServedFile.whole c.args.server_settings in
     let stream = stream_of g.D.Stream.Stream.held g.D.Stream.Stream.taken g.D.Stream.Stream.failed in
     let known = g.D.Network.known in
     let at = served_office c.args.office.now (memory_entry c.args.kept.now) in
@@ -141,7 +141,7 @@ returns-in_default-next-clause-goes_on g c =
 
 pub returns-in_default-next-clause-called : goal.returns-in_default-next-clause-called
 returns-in_default-next-clause-called g c =
-    let settings = settings_in g.A.SideJobs.whole c.args.server_settings in
+    let settings = settings_in g.A.ServedFile.whole c.args.server_settings in
     let stream = stream_of g.D.Stream.Stream.held g.D.Stream.Stream.taken g.D.Stream.Stream.failed in
     let known = g.D.Network.known in
     let between = served_office c.loop.office (memory_entry c.loop.kept) in
@@ -159,7 +159,7 @@ returns-in_default-next-clause-called g c =
 -- nobody more was named
 pub returns-in_default-clause-goes_on : goal.returns-in_default-clause-goes_on
 returns-in_default-clause-goes_on g c =
-    let settings = settings_in g.A.SideJobs.whole c.args.server_settings in
+    let settings = settings_in g.A.ServedFile.whole c.args.server_settings in
     let stream = stream_of g.D.Stream.Stream.held g.D.Stream.Stream.taken g.D.Stream.Stream.failed in
     let known = g.D.Network.known in
     let between = served_office c.loop.office (memory_entry c.loop.kept) in

@@ -11,7 +11,7 @@ use Rattle.server.proofs.serving.service_ready.Given as goal
 -- some were serviced so far
 abbrev pub invariant-loop : goal.invariant-loop
 invariant-loop g l = record {
-  goes_on : ServesOn (settings_in g.A.SideJobs.whole l.server_settings) (stream_of g.D.Stream.Stream.held g.D.Stream.Stream.taken g.D.Stream.Stream.failed)
+  goes_on : ServesOn (settings_in g.A.ServedFile.whole l.server_settings) (stream_of g.D.Stream.Stream.held g.D.Stream.Stream.taken g.D.Stream.Stream.failed)
       (state g.S.Store) (g.D.Network.known l.fn.network) (g.D.Network.known l.network) l.fn.table l.table (served_office l.fn.office (memory_entry l.fn.kept))
       (served_office l.office (memory_entry l.kept));
   came : l.table.came ≡ l.fn.table.came;

@@ -4,7 +4,7 @@ use Rattle.tables.specs.declared.fault.Fault.TheVariants.{Memory}
 use Rattle.desk.specs.Pages.{failed}
 use Rattle.desk.specs.declared.lines.Failure.TheVariants.{Office}
 use Rattle.desk.proofs.PageLemmas.{error_shown}
-use Rattle.store_tests.proofs.steps.UnaidedSideJobs.journal.Goals as goal
+use Rattle.store_tests.proofs.steps.UnaidedServedFile.journal.Goals as goal
 
 pub returns-clause-told : goal.returns-clause-told
 returns-clause-told g c =

@@ -1,6 +1,6 @@
--- The invariant of the loop in `print_said`, and its measure: the output hasn't failed.
+-- The invariant of the loop in `print_output_frame`, and its measure: the output hasn't failed.
 use Rattle.std.proofs.Common.{◌≡◌}
-use Rattle.count_office.proofs.order_client.print_said.Given as goal
+use Rattle.count_office.proofs.order_client.print_output_frame.Given as goal
 
 abbrev pub invariant-loop-left : goal.invariant-loop-left
 invariant-loop-left g l = g.O.Sink.failed l.out ≡ g.O.Sink.failed l.fn.out

@@ -1,6 +1,6 @@
--- The invariant of the loop in `perform_at`: neither output has failed.
+-- The invariant of the loop in `perform_with_retries`: neither output has failed.
 use Rattle.std.proofs.Common.{◌≡◌}
-use Rattle.count_office.proofs.order_run.perform_at.Given as goal
+use Rattle.count_office.proofs.order_run.perform_with_retries.Given as goal
 
 abbrev pub invariant-loop-pauses : goal.invariant-loop-pauses
 invariant-loop-pauses g l = record {

@@ -1,4 +1,5 @@
-//! What an order needs next to the office that is open: a new file for a copy, and an empty database for the trial of a journal.
+//! The file of the office that is served, and what an order needs next to it: a new file for a copy, and an empty database for the
+//! trial of a journal.
 
 ghost use Rattle.std.specs.Prelude.{◌≡◌, ◌-◌, ◌^◌, ◌<◌, Bool, IfSome, Option, true};
 ghost use Rattle.sqlite.specs.Held.{state};
@@ -19,9 +20,9 @@ pub struct Destination<'a> {
     pub path: &'a str,
 }
 
-/// Copies an open office to a new file, and prints its journal. The office stays open and is only read. The program that
-/// implements this chooses the files.
-pub trait SideJobs {
+/// The file of the office that is served. It copies the open office to a new file, and prints its journal. The office stays open and
+/// is only read. The program that implements this chooses the files.
+pub trait ServedFile {
     /// Whether the file of the office is known to be whole for good, or known not to be. Of a file of this machine nothing is.
     ghost whole: { Self → Option Bool };
 

@@ -4,7 +4,7 @@ use Rattle.sqlite.specs.Held.{state}
 use Rattle.tables.specs.declared.fault.Fault.TheVariants.{Memory}
 use Rattle.desk.specs.declared.lines.Failure.TheVariants.{Office}
 use Rattle.count_office.proofs.CopyLemmas.{failure_told}
-use Rattle.count_office.proofs.side_jobs.LocalJobsSideJobs.copy.Goals as goal
+use Rattle.count_office.proofs.served_file.LocalFileServedFile.copy.Goals as goal
 
 pub returns-in-Err-clause-told : goal.returns-in-Err-clause-told
 returns-in-Err-clause-told g c =

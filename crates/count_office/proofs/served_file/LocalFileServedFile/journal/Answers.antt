@@ -5,7 +5,7 @@ use Rattle.desk.specs.Pages.{failed}
 use Rattle.desk.specs.declared.lines.Failure.TheVariants.{Office}
 use Rattle.desk.proofs.PageLemmas.{error_shown}
 use Rattle.count_office.proofs.MemoryLemmas.{memory_is_blank, memory_is_clean}
-use Rattle.count_office.proofs.side_jobs.LocalJobsSideJobs.journal.Goals as goal
+use Rattle.count_office.proofs.served_file.LocalFileServedFile.journal.Goals as goal
 
 pub returns-in-Ok-clause-told : goal.returns-in-Ok-clause-told
 returns-in-Ok-clause-told g c =

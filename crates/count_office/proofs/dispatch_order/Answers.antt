@@ -1,4 +1,4 @@
--- Proof that `perform_on` meets its contract for the order to serve: the order's words are those of the serving.
+-- Proof that `dispatch_order` meets its contract for the order to serve: the order's words are those of the serving.
 use Rattle.std.proofs.Common.{◌≡◌, ◌∙◌, ap, refl, subst, sym}
 use Rattle.sqlite.specs.Held.{state}
 use Rattle.connections.specs.Streams.{stream_of}
@@ -7,7 +7,7 @@ use Rattle.desk.specs.declared.orders.Order.{Order}
 use Rattle.desk.specs.declared.orders.Order.TheVariants as order
 use Rattle.count_office.specs.Serving.{ServesOrder}
 use Rattle.count_office.specs.declared.serving.Serving.{Serving}
-use Rattle.count_office.proofs.perform_on.Goals as goal
+use Rattle.count_office.proofs.dispatch_order.Goals as goal
 
 -- the words of an order to serve
 serving_in : Serving → Order → Serving

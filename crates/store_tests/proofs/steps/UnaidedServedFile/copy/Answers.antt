@@ -3,7 +3,7 @@ use Rattle.std.proofs.Common.{inr, refl}
 use Rattle.desk.specs.Pages.{failed}
 use Rattle.desk.specs.declared.lines.Failure.TheVariants.{CopyFailed}
 use Rattle.desk.proofs.PageLemmas.{error_shown}
-use Rattle.store_tests.proofs.steps.UnaidedSideJobs.copy.Goals as goal
+use Rattle.store_tests.proofs.steps.UnaidedServedFile.copy.Goals as goal
 
 pub returns-clause-told : goal.returns-clause-told
 returns-clause-told g c =

@@ -9,7 +9,7 @@ use crate::copies::copy_served;
 use crate::file_watch::FileWatch;
 use desk::{Failure, journal_open, tell_failure};
 use office::Office;
-use server::{Destination, SideJobs};
+use server::{Destination, ServedFile};
 use sqlite::{Alter, Connection};
 use std::alloc::{AllocError, Global};
 use std::path::{Path, PathBuf};
@@ -18,7 +18,7 @@ use streams::Sink;
 
 /// This machine, and the files of the office that is being served.
 #[derive(Drop)]
-pub struct LocalJobs<'a> {
+pub struct LocalFile<'a> {
     pub rt: &'a HostRuntime,
     pub file_watch: FileWatch<'a>,
 }
@@ -42,7 +42,7 @@ fn path_of_copy(alloc: Global, database: &str, to: Destination<'_>) -> Result<Pa
     folder.join(alloc, to.path)
 }
 
-impl SideJobs for LocalJobs<'_> {
+impl ServedFile for LocalFile<'_> {
     ghost whole = { λ _. None };
 
     fn is_whole(&self) -> bool {
