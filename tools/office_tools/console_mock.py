@@ -317,9 +317,10 @@ class ConsoleMock(socketserver.ThreadingTCPServer):
 
     allow_reuse_address = daemon_threads = True
     request_queue_size = 64
+    handler = Asked
 
     def __init__(self, town, code, port=0, title=""):
-        super().__init__((HERE, port), Asked)
+        super().__init__((HERE, port), self.handler)
         self.machine, self.code, self.asked, self.cuts, self.port = Machine(town, title), code, [], 0, self.server_address[1]
         self.origin = f"http://{HERE}:{self.port}"
         threading.Thread(target=self.serve_forever, args=[0.02], daemon=True).start()
