@@ -7,7 +7,7 @@ ghost use Rattle.std.specs.Io.KnownBytes.{append_known};
 #[derive(Clone, Copy, Debug, PartialEq, Eq, Drop)]
 pub struct DrawFailed;
 
-/// RandomSource random bytes, and counts the draws that failed.
+/// A source of random bytes, which counts the draws that failed.
 pub trait RandomSource {
     /// The bytes drawn so far, as far as they are known.
     ghost drawn: { Self → Option (List ℕ) };
@@ -15,7 +15,7 @@ pub trait RandomSource {
     /// How many draws failed.
     ghost failed: { Self → ℕ };
 
-    /// RandomSource a byte. After `DrawFailed`, none was drawn.
+    /// Draws a byte. After `DrawFailed`, none was drawn.
     fn draw(&mut self) -> Result<u8, DrawFailed>
         requires { failed self.old < 2 ^ 64 - 1 }
         ensures drew { IfOk result (λ byte. drawn self.new ≡ append_known (drawn self.old) (byte ∷ [])) }

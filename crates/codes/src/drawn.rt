@@ -45,7 +45,7 @@ fn letter_of(byte: u8) -> Option<u8>
     }
 }
 
-/// RandomSource a byte, and appends the letter that it draws, if it draws one.
+/// Draws a byte, and appends the letter that it draws, if it draws one.
 fn draw_letter<D: RandomSource>(draws: &mut D, letters: &mut Vec<u8>) -> Result<(), CodesError>
     requires { D.failed draws.old < 2 ^ 64 - 1 }
     ensures ok { OnOk result (IsDraw (D.drawn draws.old) (D.drawn draws.new) letters.old.items letters.new.items) }
@@ -79,7 +79,7 @@ fn letters_count(clerks: ClerkRange, office: bool) -> usize
     }
 }
 
-/// RandomSource the letters of codes for some clerks, and for the office or not.
+/// Draws the letters of codes for some clerks, and for the office or not.
 fn draw_letters<D: RandomSource>(
     alloc: Global,
     draws: &mut D,
@@ -202,7 +202,7 @@ fn text_by(
     Ok(text)
 }
 
-/// RandomSource the codes of some clerks, and of the office or not, and returns their lines. The error is `NoRandom` if the source fails,
+/// Draws the codes of some clerks, and of the office or not, and returns their lines. The error is `NoRandom` if the source fails,
 /// and `BadRandom` if 100 bytes for each letter draw too few.
 pub(crate) fn draw_lines<D: RandomSource>(
     alloc: Global,

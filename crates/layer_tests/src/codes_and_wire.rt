@@ -226,7 +226,7 @@ fn is_reached_after(
     Ok(limit.is_reached(now))
 }
 
-/// RandomSource these bytes, one after the other. Then it fails.
+/// Returns these bytes, one after the other. Then it fails.
 #[derive(Drop)]
 struct Known<'a> {
     bytes: &'a [u8],
