@@ -25,6 +25,9 @@ from office_tools.web import HERE, basic
 EMPTY_LOG = 64
 NEVER = ("init", "migrate", "serve", "codes")
 MOST, LONGEST = 1_048_576, 32 << 20
+# Pages of the office come from here, at any port.
+ORIGIN = f"http://{HERE}"
+OWN = re.compile(re.escape(ORIGIN) + r"(:\d{1,5})?")
 WARD = re.compile(r"ward (\d+) (\w+): (\d+) seats, (\d+) candidates, (\d+) batches, (\d+) not taken, (\d+) differing, (\d+) doubtful open, "
                   r"(\d+) stages(?:, elected ([\d, ]+), \d+ seats empty)?: (.*)")
 BATCH = re.compile(r"batch (\d+) round (\d+): (\d+) papers((?:, clerk \d+ (?:not )?keyed)+), (\w+), (\d+) doubtful open"
@@ -38,10 +41,9 @@ DUE = re.compile(r"stage (\d+) (?:comes next, (first preferences|surplus|exclusi
                  r"waits for a lot that decides (.*?): (.*))",
                  re.DOTALL)
 TARGETS = {name: re.compile(rf"/office/{pattern}") for name, pattern in {
-    "page": "", "wards": "wards", "ward": r"wards/([1-9]\d{0,4})", "batches": r"wards/([1-9]\d{0,4})/batches", "index": "index",
-    "waiting": "waiting", "doubtful": r"wards/([1-9]\d{0,4})/doubtful", "ward_page": r"wards/([1-9]\d{0,4})/page", "leave": "leave",
-    "orders": "orders", "differences": r"batches/([1-9]\d{0,4})/differences", "papers": r"batches/([1-9]\d{0,4})/papers",
-    "receipts": r"receipts(?:\?actor=(0|[1-9]\d{0,4}))?"}.items()}
+    "page": "", "wards": "wards", "ward": r"wards/([1-9]\d{0,4})", "batches": r"wards/([1-9]\d{0,4})/batches", "leave": "leave",
+    "orders": "orders", "doubtful": r"wards/([1-9]\d{0,4})/doubtful", "differences": r"batches/([1-9]\d{0,4})/differences",
+    "papers": r"batches/([1-9]\d{0,4})/papers", "receipts": r"receipts(?:\?actor=(0|[1-9]\d{0,4}))?"}.items()}
 STEPS = {"the close of nominations comes next": "nominations", "no batch is given out yet": "batches", "the seal comes next": "seal",
          "the seal comes once all are taken and judged": "papers", "the declaration comes next": "declaration"}
 
@@ -65,8 +67,8 @@ def preferences_in(marks):
 class Machine:
     """The program on the file of an office, and the output of its orders."""
 
-    def __init__(self, town, title=""):
-        self.town, self.title, self.lock, self.kept, self.stamp = Path(town).resolve(), title, threading.RLock(), {}, None
+    def __init__(self, town):
+        self.town, self.lock, self.kept, self.stamp = Path(town).resolve(), threading.RLock(), {}, None
 
     def run(self, words, folder=None):
         ended = subprocess.run([program(), str(self.town), *words], cwd=folder or self.town.parent, capture_output=True, check=False)
@@ -107,34 +109,25 @@ class Machine:
             self.kept[key] = self.asked("SELECT candidate, name FROM candidate WHERE ward = ? ORDER BY candidate", ward)
         return [{"candidate": number, "name": name} for number, name in self.kept[key]]
 
-    def with_count(self, **members):
-        return {**members, "receipts": self.output("receipts").count("\n")}
-
     # The reads, each with its name in TARGETS.
 
-    def batch_list(self, ward):
+    def batches(self, ward):
         found = []
         for line in lines(self.output("batches", ward)):
             number, at, size, clerks, standing, doubtful, twin = BATCH.fullmatch(line).groups()
             keyed = [{"clerk": int(clerk), "keyed": not has_not} for clerk, has_not in CLERK.findall(clerks)]
             found.append({"batch": int(number), "clerks": keyed, "doubtful_open": int(doubtful), "round": int(at), "size": int(size),
                           "standing": standing, "twin": int(twin or 0)})
-        return found
-
-    def ward_of(self, line):
-        number, phase, seats, candidates, batches, untaken, differing, doubtful, stages, elected, name = WARD.fullmatch(line).groups()
-        piles = self.batch_list(int(number)) if int(batches) else []
-
-        def papers(*standings):
-            return sum(pile["size"] for pile in piles if pile["standing"] in standings)
-
-        return {"batches": int(batches), "candidates": int(candidates), "differing": int(differing), "doubtful_open": int(doubtful),
-                "elected": [int(each) for each in elected.split(", ")] if elected else [], "name": name, "papers_agreed": papers("taken"),
-                "papers_given_out": papers("taken", "differing", "waiting"), "papers_keyed": papers("taken", "differing"), "phase": phase,
-                "seats": int(seats), "stages": int(stages), "taken": int(batches) - int(untaken), "ward": int(number)}
+        return {"batches": found, "ward": int(ward)}
 
     def wards(self):
-        return self.with_count(wards=[self.ward_of(line) for line in lines(self.output("wards"))])
+        found = []
+        for line in lines(self.output("wards")):
+            number, phase, seats, candidates, batches, untaken, differing, doubtful, stages, elected, name = WARD.fullmatch(line).groups()
+            found.append({"batches": int(batches), "candidates": int(candidates), "differing": int(differing), "doubtful_open": int(doubtful),
+                          "elected": [int(each) for each in elected.split(", ")] if elected else [], "name": name, "phase": phase,
+                          "seats": int(seats), "stages": int(stages), "taken": int(batches) - int(untaken), "ward": int(number)})
+        return {"receipts": self.output("receipts").count("\n"), "wards": found}
 
     def next_of(self, ward, candidates):
         text = self.output("next", ward).split(": ", 1)[1][:-1]
@@ -155,23 +148,11 @@ class Machine:
         return {"step": STEPS.get(last, "nothing")}
 
     def ward(self, ward):
-        candidates = self.candidates(ward)
-        line = next(line for line in lines(self.output("wards")) if line.startswith(f"ward {ward} "))
-        return self.with_count(candidates=candidates, next=self.next_of(ward, candidates), ward=self.ward_of(line))
-
-    def batches(self, ward):
-        return self.with_count(batches=self.batch_list(ward), ward=int(ward))
-
-    def waiting(self):
-        found = {}
-        for line in lines(self.output("wards")):
-            ward = self.ward_of(line)
-            for pile in self.batch_list(ward["ward"]) if ward["phase"] == "keying" else ():
-                for clerk in pile["clerks"] if pile["standing"] == "waiting" else ():
-                    if not clerk["keyed"]:
-                        found.setdefault(clerk["clerk"], []).append(pile["batch"])
-        tellers = [{"batches": len(piles), "clerk": clerk, "first": sorted(piles)[:12]} for clerk, piles in sorted(found.items())]
-        return self.with_count(waiting=tellers)
+        candidates, piles = self.candidates(ward), self.batches(ward)["batches"]
+        return {"candidates": candidates, "next": self.next_of(ward, candidates),
+                "papers_agreed": sum(pile["size"] for pile in piles if pile["standing"] == "taken"),
+                "papers_given_out": sum(pile["size"] for pile in piles),
+                "ward": next(each for each in self.wards()["wards"] if each["ward"] == int(ward))}
 
     def doubtful(self, ward):
         candidates, papers = self.candidates(ward), []
@@ -180,11 +161,11 @@ class Machine:
             marks = word if verdict == "accepted" else ""
             papers.append({"batch": int(batch), "code": int(word) if verdict == "rejected" else 0, "marks": marks, "paper": int(paper),
                            "preferences": [candidates[place]["candidate"] for place in preferences_in(marks)], "verdict": verdict})
-        return self.with_count(candidates=candidates, papers=papers, ward=int(ward))
+        return {"candidates": candidates, "papers": papers, "ward": int(ward)}
 
     def differences(self, batch):
         number, at, papers = DIFFERENCES.fullmatch(self.output("differences", batch)).groups()
-        return self.with_count(batch=int(number), papers=[int(paper) for paper in papers.split(", ")], round=int(at))
+        return {"batch": int(number), "papers": [int(paper) for paper in papers.split(", ")], "round": int(at)}
 
     def papers(self, batch):
         printed = lines(self.output("papers", batch))
@@ -206,24 +187,12 @@ class Machine:
             _, paper, valid, preferences, rejected, code = PAPER.fullmatch(line).groups()
             papers.append({"code": int(code or 0), "paper": int(paper), "preferences": named(preferences or ""),
                            "state": "valid" if valid else "rejected" if rejected else "open"})
-        return self.with_count(batch=int(batch), candidates=candidates, papers=papers)
+        return {"batch": int(batch), "candidates": candidates, "papers": papers}
 
     def receipts(self, actor):
         found = [RECEIPT.fullmatch(line).groups() for line in lines(self.output("receipts", *([actor] if actor else [])))]
         return {"receipts": [{"actor": int(actor), "id": name, "reply": reply, "subject": subject}
                              for actor, name, subject, reply in found]}
-
-    def titled(self):
-        return ["--title", self.title] if self.title else []
-
-    def ward_page(self, ward):
-        return self.output("page", ward, *self.titled())
-
-    def index(self):
-        return self.output("index", *self.titled())
-
-    def leave(self):
-        return {"left": True}
 
     def order(self, body):
         """Runs an order with the files that came with it, and returns what it printed."""
@@ -253,9 +222,10 @@ class Asked(BaseHTTPRequestHandler):
     """A request to the server of the console."""
 
     protocol_version = "HTTP/1.1"
-    TEXTS = {400: "bad request", 401: "unauthorized", 403: "forbidden", 404: "not found", 405: "method not allowed", 413: "too large"}
+    TEXTS = {401: "unauthorized", 403: "forbidden", 404: "not found", 405: "method not allowed", 413: "too large"}
 
-    def reply(self, status, body, **more):
+    def reply(self, status, body=None, **more):
+        body = {"error": self.TEXTS[status]} if body is None else body
         kind = "text/html; charset=utf-8" if isinstance(body, str) else "application/json"
         text = body if isinstance(body, str) else json.dumps(body, separators=(",", ":"), sort_keys=True, ensure_ascii=False)
         sends = text.encode()
@@ -267,39 +237,31 @@ class Asked(BaseHTTPRequestHandler):
         self.wfile.write(sends)
         self.close_connection = True
 
-    def deny(self, status, **more):
-        self.reply(status, {"error": self.TEXTS[status]}, **more)
-
     def answer(self, method):
-        server = self.server
-        server.asked.append(f"{method} {self.path}")
         length = int(self.headers.get("Content-Length") or 0)
         body = self.rfile.read(min(length, MOST + 1)) if method == "POST" else b""
-        site = self.headers.get("Sec-Fetch-Site", "none")
-        if self.headers.get("Origin", server.origin) != server.origin or site not in ("same-origin", "none"):
-            return self.deny(403)
-        if not hmac.compare_digest(self.headers.get("Authorization", ""), basic("office", server.code)):
-            return self.deny(401, **{"WWW-Authenticate": 'Basic realm="office", charset="UTF-8"'})
+        if not OWN.fullmatch(self.headers.get("Origin", ORIGIN)) or self.headers.get("Sec-Fetch-Site", "none") not in ("same-origin", "none"):
+            return self.reply(403)
+        if not hmac.compare_digest(self.headers.get("Authorization", ""), basic("office", self.server.code)):
+            return self.reply(401, **{"WWW-Authenticate": 'Basic realm="office", charset="UTF-8"'})
         name, found = next(((name, found) for name, pattern in TARGETS.items() if (found := pattern.fullmatch(self.path))), ("", None))
         if not found:
-            return self.deny(404)
+            return self.reply(404)
         if method != ("POST" if name == "orders" else "GET"):
-            return self.deny(405, Allow="POST" if name == "orders" else "GET")
+            return self.reply(405, Allow="POST" if name == "orders" else "GET")
         if length > MOST:
-            return self.deny(413)
+            return self.reply(413)
         if name == "page":
             page, policy = page_of_sources(CONSOLE)
             more = {"Content-Security-Policy": policy, "X-Frame-Options": "DENY", "X-Content-Type-Options": "nosniff"}
             return self.reply(200, page, **more)
+        if name == "leave":
+            return self.reply(200, {"left": True}, **{"Clear-Site-Data": '"cookies"'})
         try:
-            with server.machine.lock:
-                said = server.machine.order(body) if name == "orders" else getattr(server.machine, name)(*found.groups())
+            with self.server.machine.lock:
+                said = self.server.machine.order(body) if name == "orders" else getattr(self.server.machine, name)(*found.groups())
         except Refused as refused:
             return self.reply(*refused.args)
-        if name == "orders" and server.cuts:
-            server.cuts -= 1
-            self.close_connection = True
-            return self.connection.close()
         return self.reply(200, said)
 
     def do_GET(self):
@@ -313,29 +275,25 @@ class Asked(BaseHTTPRequestHandler):
 
 
 class ConsoleMock(socketserver.ThreadingTCPServer):
-    """Serves the console of an office. It runs each of the next `cuts` orders, and closes the connection without a response."""
+    """Serves the console of an office."""
 
     allow_reuse_address = daemon_threads = True
     request_queue_size = 64
-    handler = Asked
 
-    def __init__(self, town, code, port=0, title=""):
-        super().__init__((HERE, port), self.handler)
-        self.machine, self.code, self.asked, self.cuts, self.port = Machine(town, title), code, [], 0, self.server_address[1]
-        self.origin = f"http://{HERE}:{self.port}"
+    def __init__(self, town, code, port=0):
+        super().__init__((HERE, port), Asked)
+        self.machine, self.code, self.port = Machine(town), code, self.server_address[1]
         threading.Thread(target=self.serve_forever, args=[0.02], daemon=True).start()
 
     def handle_error(self, *_):
         """Ignores a connection that breaks."""
 
-    def close(self, *_):
+    def kill(self):
         self.shutdown()
         self.server_close()
 
-    __exit__ = close
-
 
 if __name__ == "__main__":
-    mock = ConsoleMock(sys.argv[1], sys.argv[3], int(sys.argv[2]), "Election of 6 May 2027, Harbour Council")
-    print(f"{mock.origin}/office/", flush=True)
+    mock = ConsoleMock(sys.argv[1], sys.argv[3], int(sys.argv[2]))
+    print(f"http://{HERE}:{mock.port}/office/", flush=True)
     threading.Event().wait()

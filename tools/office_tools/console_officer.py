@@ -1,13 +1,21 @@
-"""A returning officer who uses the console in Chromium, and an office whose console console_mock.py serves."""
+"""A returning officer who uses the console in Chromium, and an office that serves it, or for which console_mock.py does."""
+import contextlib
 import json
+import os
+import re
+import time
 
+from office_tools.browser import Browser
 from office_tools.console_mock import ConsoleMock
-from office_tools.office import SCRIPT, TOWN, Office, Wrong, free_port
+from office_tools.election import CODES
+from office_tools.office import SCRIPT, TOWN, Office, Wrong, free_port, temporary_folder
+from office_tools.web import HERE, Proxy
 
 CODE, TITLE = "kf7m2wxth4dnw3hd4psn", "Election of 6 May 2027, Harbour Council"
-# How many seconds to wait for the page on a busy machine.
-PATIENCE = 120
-WIDTHS = ((1280, 900), (800, 900), (400, 900))
+WIDTHS = ((1280, 800), (800, 600), (400, 800))
+# What the page may ask for: docs/CONSOLE-API.md.
+ASKED = re.compile(r"(GET /office/(|leave|wards(/\d+(/batches|/doubtful)?)?|batches/\d+/(differences|papers)|receipts(\?actor=\d+)?)"
+                   r"|POST /office/orders) HTTP/1.1")
 
 
 class Officer:
@@ -16,33 +24,39 @@ class Officer:
     def __init__(self, browser, evening):
         self.browser, self.evening = browser, evening
 
+    def log_in(self, part=""):
+        """Opens the console. The browser has the login from then on, as if it had been typed when the browser asked for it."""
+        self.browser.open(self.evening.address(login=f"office:{CODE}@"))
+        self.open(part)
+
     def open(self, part=""):
+        self.browser.open("about:blank")
         self.browser.open(self.evening.address(part))
         self.shows("Updated at", "health")
 
     def shows(self, words, part="result"):
         """Waits until an element of the page shows these words."""
-        self.browser.until(f"document.getElementById('{part}')?.innerText.includes({json.dumps(words)})", PATIENCE)
+        self.browser.until(f"document.getElementById('{part}')?.innerText.includes({json.dumps(words)})")
 
     def go(self, part, ward=0):
         """Opens a section by its tab, and chooses a ward from the list."""
         self.click(f"tab {part}")
         if ward:
             self.has(f"ward {part}")
-            act = f"it.value = '{ward}'; it.dispatchEvent(new Event('change'));"
-            self.browser.value(f"(() => {{ const it = {self.found(f'ward {part}')}; {act} }})()")
+            self.browser.driver.execute_script(f"const it = {self.found(f'ward {part}')}; it.value = '{ward}';"
+                                               "it.dispatchEvent(new Event('change'));")
             self.browser.until(f"location.hash === '#{part}/{ward}'")
         self.drawn()
 
     def drawn(self):
         """Waits until the section and the ward that were chosen last are shown."""
-        self.browser.until("!document.body.classList.contains('stale')", 300)
+        self.browser.until("!document.body.classList.contains('stale')")
 
     def found(self, key):
         return f"[...document.querySelectorAll('[data-key]')].find((it) => it.dataset.key === {json.dumps(key)} && it.offsetParent)"
 
     def has(self, key):
-        self.browser.until(f"Boolean({self.found(key)}) && !{self.found(key)}.disabled", PATIENCE)
+        self.browser.until(f"Boolean({self.found(key)}) && !{self.found(key)}.disabled")
 
     def click(self, key):
         self.has(key)
@@ -52,16 +66,20 @@ class Officer:
         self.browser.value(f"document.getElementById('{form}').requestSubmit()")
 
     def type(self, name, text):
-        self.browser.value(f"(() => {{ const it = document.getElementById('{name}') ?? {self.found(name)}; it.focus(); it.select(); }})()")
-        self.browser.call("Input.insertText", text=str(text))
+        field = f"(document.getElementById('{name}') ?? {self.found(name)})"
+        self.browser.value(f"({field}.focus(), {field}.select())")
+        self.insert(text)
+
+    def insert(self, text):
+        self.browser.call("Input.insertText", {"text": str(text)})
 
     def drop(self, place, **files):
         """Drops files on an element."""
         given = json.dumps([[name.replace("_", "-") + ".csv", "".join(f"{line}\n" for line in lines)] for name, lines in files.items()])
-        self.browser.value(f"""(() => {{ const data = new DataTransfer();
+        self.browser.driver.execute_script(f"""const data = new DataTransfer();
             for (const [name, text] of {given}) data.items.add(new File([text], name));
             const event = new DragEvent('drop', {{dataTransfer: data, bubbles: true, cancelable: true}});
-            document.getElementById('{place}').dispatchEvent(event); }})()""")
+            document.getElementById('{place}').dispatchEvent(event);""")
 
     def asked(self, *words):
         """Waits for a confirmation dialog, and checks that it has all of these words."""
@@ -81,6 +99,10 @@ class Officer:
     def forget(self):
         self.browser.value("document.getElementById('result').hidden = true")
 
+    def leave_field(self):
+        """Takes the focus from where it is, so that keys are the section's."""
+        self.browser.value("document.activeElement.blur()")
+
     def tab_to(self, key):
         """Reaches an element with the Tab key alone."""
         self.has(key)
@@ -94,43 +116,72 @@ class Officer:
         self.tab_to(key)
         self.browser.press("Enter")
 
+    def said(self):
+        """Returns what the browser's console was told, but for what was done on purpose: connections that broke, and denials."""
+        return [line for line in self.browser.said() if not re.search("ERR_|status of (401|413|503)|Clear-Site-Data", line)]
+
     def picture(self, name):
-        self.evening.picture(self.browser, name)
+        """Writes pictures of the whole page, if they are asked for. Nothing is wider than the window."""
+        for width, height in WIDTHS if self.evening.pictures else ():
+            self.browser.resize(width, height)
+            time.sleep(0.15)
+            self.browser.resize(width, min(2400, max(height, self.browser.value("document.documentElement.scrollHeight"))))
+            time.sleep(0.1)
+            (self.evening.pictures / f"{name}-{width}.png").write_bytes(self.browser.picture())
+            if (wide := self.browser.value("document.documentElement.scrollWidth")) > width:
+                raise Wrong(f"{name}: {wide} pixels wide at {width}")
+        self.browser.resize(*WIDTHS[0])
 
 
 class Evening:
-    """An office, its console, and the folder for pictures."""
+    """An office and its console, the proxy through which the browser reaches it, and the folder for pictures."""
 
-    def __init__(self, folder, pictures):
-        self.folder, self.pictures = folder, pictures
-        self.office = Office(folder / "console").begin()
-        self.port = free_port()
+    def __init__(self, folder, pictures, is_served):
+        self.folder, self.pictures, self.is_served = folder, pictures, is_served
+        self.office, self.line = Office(folder / "console").begin(), Proxy(free_port())
         self.start()
 
-    def start(self):
-        self.mock = ConsoleMock(self.office.folder / TOWN, CODE, self.port, TITLE)
+    def start(self, code=CODE):
+        """Serves the office, by the program itself or by its stand-in."""
+        if self.is_served:
+            self.office.write_codes(CODES | {"office": code})
+            self.server = self.office.serve("--codes", "codes.txt", port=self.line.office).wait()
+        else:
+            self.server = ConsoleMock(self.office.folder / TOWN, code, self.line.office)
 
-    def address(self, part=""):
-        return f"{self.mock.origin}/office/{part}"
-
-    def picture(self, browser, name):
-        for width, height in WIDTHS if self.pictures else ():
-            browser.resize(width, height)
-            browser.wait(0.15)
-            tall = min(2400, max(height, browser.value("document.documentElement.scrollHeight")))
-            browser.resize(width, tall)
-            browser.wait(0.1)
-            (self.pictures / f"{name}-{width}.png").write_bytes(browser.picture())
-            wide = browser.value("document.documentElement.scrollWidth")
-            if wide > width:
-                raise Wrong(f"{name}: {wide} pixels wide at {width}")
-        browser.resize(1280, 900)
+    def address(self, part="", login=""):
+        return f"http://{login}{HERE}:{self.line.port}/office/{part}"
 
     def another(self, orders, folder="another"):
         """Serves another office at the same address."""
-        self.mock.close()
+        self.server.kill()
         self.office = Office(self.folder / folder).begin()
         self.office.write(SCRIPT, orders)
         if printed := self.office.run("replay", SCRIPT, seconds=900).err:
             raise Wrong(printed)
         self.start()
+
+    def check_asked(self):
+        """Checks that the page asked for nothing but what docs/CONSOLE-API.md has."""
+        if strange := {line for line in self.line.asked if not ASKED.fullmatch(line)}:
+            raise Wrong(f"the page asked {strange}")
+
+
+@contextlib.contextmanager
+def played(kind, pictures, program):
+    """Begins an evening with a browser: over `serve` of a program, if one is named, else over the stand-in. Checks how it ended."""
+    if program:
+        os.environ["COUNT_OFFICE"] = program
+    if pictures:
+        pictures.mkdir(parents=True, exist_ok=True)
+    with temporary_folder() as folder, Browser() as browser:
+        evening = kind(folder, pictures, bool(program))
+        officer = Officer(browser, evening)
+        with evening.line:
+            try:
+                yield evening, officer
+                evening.check_asked()
+                if strange := officer.said():
+                    raise Wrong(f"the browser said {strange[:5]}")
+            finally:
+                evening.server.kill()

@@ -17,6 +17,7 @@ use Rattle.console_page.specs.declared.script.journal.TheConstants.{JOURNAL}
 use Rattle.console_page.specs.declared.script.keyings.TheConstants.{KEYINGS}
 use Rattle.console_page.specs.declared.script.nominations.TheConstants.{NOMINATIONS}
 use Rattle.console_page.specs.declared.script.overview.TheConstants.{OVERVIEW}
+use Rattle.console_page.specs.declared.script.papers.TheConstants.{PAPERS}
 use Rattle.console_page.specs.declared.script.pending.TheConstants.{PENDING}
 use Rattle.console_page.specs.declared.script.requests.TheConstants.{REQUESTS}
 use Rattle.console_page.specs.declared.script.sealing.TheConstants.{SEALING}
@@ -27,9 +28,9 @@ use Rattle.console_page.specs.declared.stylesheet.TheConstants.{STYLE}
 -- the script of the page: what its parts declare, and the last one, which starts it
 unfoldable pub script : List ℕ
 script =
-    BASICS.now ++ (ADVICE.now ++ (WORDS.now ++ (REQUESTS.now ++ (PENDING.now ++ (DIALOGS.now ++ (FRAME.now ++ (OVERVIEW.now ++ (
+    BASICS.now ++ (ADVICE.now ++ (WORDS.now ++ (REQUESTS.now ++ (PAPERS.now ++ (PENDING.now ++ (DIALOGS.now ++ (FRAME.now ++ (OVERVIEW.now ++ (
     NOMINATIONS.now ++ (GIVING.now ++ (BATCHES.now ++ (KEYINGS.now ++ (ADJUDICATION.now ++ (VERDICTS.now ++ (SEALING.now ++ (
-    CHART.now ++ (COUNTING.now ++ (DECLARING.now ++ (JOURNAL.now ++ EVENTS.now))))))))))))))))))
+    CHART.now ++ (COUNTING.now ++ (DECLARING.now ++ (JOURNAL.now ++ EVENTS.now)))))))))))))))))))
 
 -- the style of the page
 abbrev pub style : List ℕ

@@ -71,7 +71,7 @@ You can check the list before anything is added.</p>
 <p class="row"><label>First batch <input id="give-from" type="text" inputmode="numeric" autocomplete="off" size="5" data-draft></label>
 <label>Number of batches <input id="give-count" type="text" inputmode="numeric" autocomplete="off" size="5" data-draft></label>
 <label>Papers per batch <input id="give-size" type="text" inputmode="numeric" autocomplete="off" size="4" data-draft></label>
-<label>Papers in the last batch <input id="give-last" type="text" inputmode="numeric" autocomplete="off" size="4" data-draft></label></p>
+<label>In the last batch, if different <input id="give-last" type="text" inputmode="numeric" autocomplete="off" size="4" data-draft></label></p>
 <p class="row"><label>Tellers, in pairs <input id="give-clerks" type="text" autocomplete="off" class="long" data-draft></label></p>
 <p class="hint">The pairs take turns. For example, with 4 9 5 6 the first batch goes to tellers 4 and 9, the second to tellers 5 and 6, and the third to tellers 4 and 9 again.</p>
 <div id="give-preview"></div>
@@ -95,8 +95,8 @@ for example <b>paper 12/4</b> for batch 12 and teller 4.</p>
 <section id="count" aria-labelledby="count-title" hidden>
 <div class="head"><h2 id="count-title" tabindex="-1">Count and result</h2><div class="pick" data-pick="count"></div></div>
 <div id="count-now"></div>
-<div id="count-result"></div>
 <div id="count-chart"></div>
+<div id="count-result"></div>
 </section>
 
 <section id="journal" aria-labelledby="journal-title" hidden>

@@ -21,6 +21,7 @@ mod journal;
 mod keyings;
 mod nominations;
 mod overview;
+mod papers;
 mod pending;
 mod requests;
 mod sealing;
@@ -42,6 +43,7 @@ use crate::script::journal::JOURNAL;
 use crate::script::keyings::KEYINGS;
 use crate::script::nominations::NOMINATIONS;
 use crate::script::overview::OVERVIEW;
+use crate::script::papers::PAPERS;
 use crate::script::pending::PENDING;
 use crate::script::requests::REQUESTS;
 use crate::script::sealing::SEALING;
@@ -55,7 +57,7 @@ pub(crate) fn script_text(alloc: Global) -> Result<String, AllocError>
     ensures { IfOk result (λ text. string_bytes text ≡ script) }
 {
     format!(in alloc;
-        "{BASICS}{ADVICE}{WORDS}{REQUESTS}{PENDING}{DIALOGS}{FRAME}{OVERVIEW}{NOMINATIONS}{GIVING}{BATCHES}\
+        "{BASICS}{ADVICE}{WORDS}{REQUESTS}{PAPERS}{PENDING}{DIALOGS}{FRAME}{OVERVIEW}{NOMINATIONS}{GIVING}{BATCHES}\
 {KEYINGS}{ADJUDICATION}{VERDICTS}{SEALING}{CHART}{COUNTING}{DECLARING}{JOURNAL}{EVENTS}"
     )
 }

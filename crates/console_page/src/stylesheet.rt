@@ -5,7 +5,7 @@ pub(crate) const STYLE: &str = r#"
 * { box-sizing: border-box; }
 html { font-size: 20px; }
 body { margin: 0 auto; max-width: 72rem; padding: 0 .8rem 2rem; font: 1rem/1.4 sans-serif; color: #111; background: #fff; }
-[hidden] { display: none; }
+[hidden] { display: none !important; }
 bdi { unicode-bidi: isolate; overflow-wrap: anywhere; }
 h1 { font-size: 1rem; margin: 0; white-space: nowrap; }
 h2 { font-size: 1.5rem; margin: .6rem 0 .4rem; overflow-wrap: anywhere; }
@@ -34,6 +34,7 @@ button.here { background: #111; border-color: #111; color: #fff; }
 button.quiet { border-color: transparent; background: transparent; text-decoration: underline; color: inherit; }
 input, select { padding: .35rem .45rem; border: 2px solid #595959; border-radius: .25rem; background: #fff; max-width: 100%; }
 input.long { width: 22rem; }
+label > input, label > select { margin-left: .25rem; }
 input.over { border-color: #9a1500; background: #fff0ed; }
 :focus-visible, .button:focus-within { outline: 4px solid #e08a00; outline-offset: 1px; }
 .acts, .row { display: flex; flex-wrap: wrap; gap: .5rem .8rem; align-items: center; }
@@ -55,7 +56,6 @@ input.over { border-color: #9a1500; background: #fff0ed; }
 
 #result, #unsent, #other { margin: .5rem 0; padding: .3rem .8rem; }
 #result { display: flex; justify-content: space-between; align-items: start; gap: 1rem; border: 3px solid #1c6b2a; border-radius: .35rem; background: #edf8ee; }
-#result[hidden] { display: none; }
 #result.refused { border-color: #9a1500; background: #fff0ed; }
 #result .said { font-size: 1.1rem; margin: 0; }
 #result .quiet { padding: .1rem .5rem; }
@@ -69,6 +69,7 @@ input.over { border-color: #9a1500; background: #fff0ed; }
 .pick select { font-weight: bold; min-width: 0; max-width: 26rem; }
 details { margin: .6rem 0; border: 2px solid #bbb; border-radius: .35rem; padding: .4rem .8rem; }
 summary { font-weight: bold; cursor: pointer; }
+#brought li b + b { color: #9a1500; }
 .drop { border: 2px dashed #767676; border-radius: .35rem; padding: .2rem .8rem .6rem; }
 .drop.over { background: #e8eff9; border-color: #174a8b; }
 #preview, #add-ward { border: 2px solid #bbb; border-radius: .35rem; padding: 0 .8rem .6rem; margin: .8rem 0; }
@@ -134,7 +135,7 @@ tr.sum > * { border-top: 2px solid #111; font-weight: bold; }
 .wards td.none { color: #767676; }
 .wards input { width: 5rem; text-align: right; }
 .wards .next { font-size: .85rem; max-width: 13rem; }
-.wards .next button { margin-right: .4rem; font-size: 1rem; }
+.wards .next button { margin-right: .4rem; font-size: 1rem; white-space: nowrap; }
 .wards .next span { display: block; color: #444; }
 @media (min-width: 641px) {
 .wards.close .next span, .wards.close .phase span { display: none; }
@@ -146,7 +147,7 @@ tr.sum > * { border-top: 2px solid #111; font-weight: bold; }
 
 .batches th[scope=row] { font-size: 1.15rem; }
 .keyed, .unkeyed { white-space: nowrap; }
-.unkeyed { color: #9a1500; }
+.unkeyed { color: #6b4300; }
 .keyed small { color: #444; }
 b.differing, b.waiting { color: #9a1500; }
 b.waiting { color: #6b4300; }
@@ -157,6 +158,7 @@ tr.below > td { padding: .2rem .5rem 1rem 2rem; background: #f5f5f5; }
 .case { border: 3px solid #174a8b; border-radius: .5rem; padding: .4rem 1rem .8rem; margin: .5rem 0; }
 .which { font-size: 1.7rem; font-weight: bold; margin: 0; overflow-wrap: anywhere; }
 .case .columns { grid-template-columns: 3fr 2fr; }
+.case h3 { margin-top: .6rem; }
 .candidates { columns: 13rem; column-gap: .35rem; }
 .candidates.few { columns: 1; }
 button.candidate { display: flex; gap: .6rem; align-items: center; width: 100%; margin-bottom: .35rem; break-inside: avoid; }
@@ -179,8 +181,8 @@ button.candidate .badge { background: #174a8b; font-size: 1.15rem; }
 
 fieldset { border: 2px solid #767676; border-radius: .35rem; margin: .6rem 0; }
 legend { font-weight: bold; padding: 0 .4rem; }
-.choice { display: block; padding: .4rem; font-size: 1.25rem; }
-.choice input { width: 1.3rem; height: 1.3rem; vertical-align: middle; }
+.choice { display: flex; gap: .6rem; align-items: center; padding: .4rem; font-size: 1.25rem; }
+.choice input { width: 1.3rem; height: 1.3rem; flex: none; margin: 0; }
 .figures { display: flex; flex-wrap: wrap; gap: .3rem 2rem; }
 .figures b { font-size: 1.25rem; }
 .stagehead { display: flex; flex-wrap: wrap; justify-content: space-between; align-items: center; gap: .5rem; }
@@ -205,6 +207,7 @@ legend { font-weight: bold; padding: 0 .4rem; }
 @media (min-width: 641px) and (max-width: 900px) {
 .wards .next span, .wards .phase, .wards thead th:nth-child(2), .wards .sum td:nth-child(2) { display: none; }
 .phase-here { display: block; }
+.wards tbody th { width: 30%; }
 .wards input { width: 4.2rem; padding: .3rem .2rem; }
 .wards td, .wards tbody th, .wards thead th { padding: .3rem .2rem; }
 .wards td.figure { font-size: .95rem; }
@@ -213,6 +216,10 @@ legend { font-weight: bold; padding: 0 .4rem; }
 @media (max-width: 900px) {
 .case .columns { grid-template-columns: 1fr; }
 }
+@media (min-width: 641px) and (max-width: 900px) {
+.case .columns:has(.few) { grid-template-columns: 1fr 1fr; gap: .5rem 1rem; }
+}
+.judging #tabs kbd, .judging #keys-hint { display: none; }
 @media (max-width: 640px) {
 .wards thead { position: absolute; clip-path: inset(50%); }
 .wards, .wards tbody { display: block; }

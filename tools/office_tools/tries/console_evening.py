@@ -1,19 +1,19 @@
 """Plays the guide's evening on the officer's console in Chromium, partly by keyboard alone, and compares the result with typed orders.
 
-console_mock.py stands in for the server, and runs the program's own orders. Tellers' keyings are dropped on the console as files, and one
-is typed as an order beside it. Connections break after an order was done, the server stops for a while, the page is reloaded while an
-order is being sent, two consoles are open, the file can't be read, and a wrong code and a page from elsewhere are denied. At the end the
+Tellers' keyings are dropped on the console as files, and one is typed as an order beside it. Connections break after an order was done,
+the server stops for a while, the page is reloaded while an order is being sent, two consoles are open, the file can't be read, and a
+wrong code and a page from elsewhere are denied. While nothing changes, the console asks for nothing but the list of wards. At the end the
 office has the rows that the typed orders make, except for the ids. Pictures at 1280, 800 and 400 pixels go into the folder PICTURES.
-It needs `chromium`.
+console_mock.py stands in for the server; with --program PATH this program serves the console itself. It needs `chromium`,
+`chromium-driver` and `python3-selenium`.
 """
 import json
 import sqlite3
 import time
 from pathlib import Path
 
-from office_tools.browser import Browser
-from office_tools.console_officer import CODE, PATIENCE, TITLE, Evening, Officer
-from office_tools.office import TOWN, Office, Wrong, needs, temporary_folder
+from office_tools.console_officer import CODE, TITLE, Evening, Officer, played
+from office_tools.office import TOWN, Office, Wrong, waited
 from office_tools.web import ask, basic, request, status
 
 NAMES = ["ward,candidate,name", "7,2,Bob", "7,3,Cy", "7,4,Dee", "7,5,Gil", '8,1,"Eve, jr"', "8,2,Fay"]
@@ -60,23 +60,26 @@ declare 8""".split("\n")
 class GuideEvening(Evening):
     """The guide's evening: two wards, two batches, a lot, and an uncontested ward."""
 
-    def play(self):
-        with Browser(self.folder, "office", CODE) as browser:
-            officer = Officer(browser, self)
-            officer.open()
-            officer.picture("1-empty")
-            self.nominations(officer)
-            self.papers(officer)
-            self.adjudication(officer)
-            self.counting(officer)
-            self.declaring(officer)
-            self.compare()
-            self.elsewhere(browser)
-            # The server was stopped, and the file couldn't be read, on purpose.
-            strange = [line for line in browser.said if "ERR_" not in line and "status of 503" not in line]
-            if strange:
-                raise Wrong(f"the browser said {strange[:5]}")
-        self.mock.close()
+    def play(self, officer):
+        officer.log_in()
+        officer.picture("1-empty")
+        self.nominations(officer)
+        self.papers(officer)
+        self.adjudication(officer)
+        self.counting(officer)
+        self.declaring(officer)
+        self.compare()
+        self.elsewhere()
+        self.quiet(officer)
+
+    def quiet(self, officer):
+        """Checks that while nothing changes the console asks for nothing but the list of wards."""
+        officer.go("overview")
+        time.sleep(4)
+        del self.line.asked[:]
+        time.sleep(8)
+        if set(self.line.asked) != {"GET /office/wards HTTP/1.1"}:
+            raise Wrong(f"while nothing changed the console asked {self.line.asked}")
 
     def compare(self):
         """Plays the typed orders, and compares all rows except for the ids of receipts."""
@@ -87,17 +90,16 @@ class GuideEvening(Evening):
         if differing := [name for name in wanted if found[name] != wanted[name]]:
             raise Wrong(f"the console's office has other rows of {differing}")
 
-    def elsewhere(self, browser):
+    def elsewhere(self):
         """Checks that a wrong code, a clerk's name and a page from elsewhere are denied."""
         right = f"Authorization: {basic('office', CODE)}"
         for headers, wanted in (((), 401), ((f"Authorization: {basic('office', 'wrong')}",), 401),
                                 ((f"Authorization: {basic('4', CODE)}",), 401), ((right, "Origin: http://elsewhere.example"), 403),
                                 ((right, "Sec-Fetch-Site: cross-site"), 403), ((right,), 200)):
-            if (found := status(ask(self.port, request("/office/wards", *headers)))) != wanted:
+            if (found := status(ask(self.line.port, request("/office/wards", *headers)))) != wanted:
                 raise Wrong(f"{headers}: {found}")
 
     def nominations(self, officer):
-        browser = officer.browser
         officer.click("step none")
         for number, name in ((7, "Harbour"), (8, "Quay")):
             officer.type("ward-number", number)
@@ -105,7 +107,7 @@ class GuideEvening(Evening):
             officer.type("ward-name", name)
             officer.submit("add-ward")
             if number == 7:
-                browser.until("document.getElementById('ask').open")
+                officer.asked("Add ward 7")
                 officer.picture("2-ask-ward")
             officer.yes(f"Add ward {number}", name, "2 seats")
         officer.go("nominations", 7)
@@ -119,7 +121,7 @@ class GuideEvening(Evening):
         officer.picture("3-preview-wrong")
         officer.drop("drop-candidates", names=NAMES)
         officer.shows("Will be added", "preview")
-        self.mock.cuts = 1
+        self.line.cuts = 1
         officer.click("send-file")
         officer.shows("Not confirmed yet", "unsent")
         officer.picture("4-not-confirmed")
@@ -152,14 +154,14 @@ class GuideEvening(Evening):
         officer.picture("6-giving-out")
         officer.submit("give-out")
         officer.yes("2 batches, 14 papers", "Batch 12", "8 papers", "Batch 13", "6 papers", "Tellers 4 and 9")
-        browser.value("document.getElementById('bring').open = true")
+        browser.value("(document.getElementById('bring').open = true)")
         officer.drop("drop-keyings", k4_12=[HEAD[12][4], *TWELVE[:3], "4,1,,2", *TWELVE[4:]])
         officer.shows("file fault 2 at record 4", "brought")
         officer.picture("7-file-fault")
         officer.drop("drop-keyings", k4_12=[HEAD[12][4], *TWELVE], k4_13=[HEAD[13][4], *THIRTEEN], k9_13=[HEAD[13][9], *OTHER],
             nobody=["paper,1,2", "1,1,"])
-        officer.shows("doesn\u2019t name its batch and teller", "brought")
-        browser.until("document.getElementById('brought').innerText.split('accepted').length === 4", PATIENCE)
+        officer.shows("Not imported. The file doesn\u2019t name its batch and teller", "brought")
+        browser.until("document.getElementById('brought').innerText.split('accepted').length === 4")
         officer.picture("8-batches")
         # The console shows an order that was typed beside it.
         self.office.do("key", 9, 12, 1, *[line.split(",", 1)[1] if "D" not in line else "D" for line in TWELVE], "--id", "typed")
@@ -177,7 +179,7 @@ class GuideEvening(Evening):
         officer.shows("teller 9, round 2: accepted", "brought")
         officer.click("third 13")
         officer.asked("third teller")
-        browser.call("Input.insertText", text="9")
+        officer.insert(9)
         officer.picture("11-third")
         browser.press("Enter")
         officer.shows("doesn\u2019t key this batch yet")
@@ -190,21 +192,20 @@ class GuideEvening(Evening):
 
     def third_in_two_windows(self, officer):
         """Adds the third teller on a second console, while the first one shows the batch."""
-        other = Officer(officer.browser.another(), self)
-        other.open("#batches/7")
-        other.click("third 13")
-        other.asked("third teller")
-        other.browser.call("Input.insertText", text="5")
-        other.browser.press("Enter")
-        other.shows("batch 13 third clerk 5")
-        other.browser.close()
-        officer.browser.call("Page.bringToFront")
-        officer.browser.until("![...document.querySelectorAll('[data-key]')].some((it) => it.dataset.key === 'third 13')", PATIENCE)
+        with officer.browser.another():
+            other = Officer(officer.browser, self)
+            other.open("#batches/7")
+            other.click("third 13")
+            other.asked("third teller")
+            other.insert(5)
+            other.browser.press("Enter")
+            other.shows("batch 13 third clerk 5")
+        officer.browser.until("![...document.querySelectorAll('[data-key]')].some((it) => it.dataset.key === 'third 13')")
 
     def adjudication(self, officer):
         """Judges by keyboard alone. The server stops for a while, and the page is reloaded while a verdict is being sent."""
         browser = officer.browser
-        browser.value("document.activeElement.blur()")
+        officer.leave_field()
         browser.press("1")
         officer.shows("2 doubtful papers to judge", "steps")
         officer.picture("13-overview-doubtful")
@@ -215,11 +216,11 @@ class GuideEvening(Evening):
         browser.press("Backspace")
         browser.press("1")
         officer.picture("14-judging")
-        browser.value("document.activeElement.blur()")
+        officer.leave_field()
         browser.press("Enter")
         officer.asked("Batch 12, paper 6", "First preference: 1 Ann")
         officer.picture("15-ask-verdict")
-        self.mock.close()
+        self.server.kill()
         officer.forget()
         browser.press("y")
         officer.shows("Not confirmed yet", "unsent")
@@ -227,7 +228,7 @@ class GuideEvening(Evening):
         self.start()
         officer.shows("batch 12 paper 6 accepted")
         browser.press("r")
-        self.mock.cuts = 1
+        self.line.cuts = 1
         browser.press("4")
         officer.asked("Batch 13, paper 6", "voter identifiable")
         browser.press("y")
@@ -240,12 +241,12 @@ class GuideEvening(Evening):
     def counting(self, officer):
         """Counts, by keyboard alone up to the lot."""
         browser = officer.browser
-        browser.value("document.activeElement.blur()")
+        officer.leave_field()
         browser.press("6")
         officer.press_on("copy")
         officer.shows("copied 2 wards")
         officer.picture("18-journal")
-        browser.value("document.activeElement.blur()")
+        officer.leave_field()
         browser.press("5")
         officer.shows("Next: the seal", "count-now")
         officer.picture("19-seal")
@@ -269,24 +270,29 @@ class GuideEvening(Evening):
 
     def in_two_consoles(self, officer):
         """Confirms stage 2 on two consoles at once, and checks that it is counted once."""
-        other = Officer(officer.browser.another(), self)
-        other.open("#count/7")
-        for each in (other, officer):
-            each.shows("Next: stage 2", "count-now")
-            each.press_on("advance")
-            each.asked("Count stage 2", "the surplus of 1 Ann")
-        officer.picture("21-ask-stage")
-        for each in (officer, other):
-            each.yes(said="ward 7 stage 2 surplus of 1")
+        browser = officer.browser
+        with browser.another():
+            officer.open("#count/7")
+            for window in (-1, 0):
+                browser.show(window)
+                officer.shows("Next: stage 2", "count-now")
+                officer.press_on("advance")
+                officer.asked("Count stage 2", "the surplus of 1 Ann")
+            officer.picture("21-ask-stage")
+            for window in (0, -1):
+                browser.show(window)
+                officer.yes(said="ward 7 stage 2 surplus of 1")
         if " 2 stages" not in (printed := self.office.do("wards")):
             raise Wrong(f"two consoles: {printed}")
-        other.browser.close()
 
     def locked(self, officer):
         """Another program locks the file, so the order fails. It is sent again with its id, and done once."""
         officer.shows("Next: stage 1", "count-now")
         officer.press_on("advance")
         officer.asked("the first preferences")
+        if self.is_served:
+            # It holds the file, so nobody else can lock it.
+            return officer.yes(said="ward 7 stage 1 first preferences")
         holder = sqlite3.connect(self.office.folder / TOWN, isolation_level=None)
         holder.execute("BEGIN EXCLUSIVE")
         officer.browser.press("y")
@@ -295,7 +301,7 @@ class GuideEvening(Evening):
         holder.execute("ROLLBACK")
         holder.close()
         officer.browser.value("document.querySelector('#unsent button').click()")
-        officer.shows("ward 7 stage 1 first preferences")
+        return officer.shows("ward 7 stage 1 first preferences")
 
     def declaring(self, officer):
         officer.shows("Next: the declaration", "count-now")
@@ -317,53 +323,45 @@ class GuideEvening(Evening):
         officer.type("receipt-search", "judge 13")
         officer.shows("batch 13 paper 6 rejected 4", "receipts")
         officer.picture("28-search")
-        self.saved(officer)
+        self.saved(officer, (("save-journal", "journal.txt", ["journal"]), ("file-ballots", "ballots-7.txt", ["ballots", 7]),
+                             ("file-table", "stages-7.csv", ["table", 7]), ("index", "index.html", ["index", "--title", TITLE])))
         self.file_gone(officer)
 
     def printed(self, officer):
         """Prints the declaration and the sheet, and checks that they are what the orders print and that the page is as before."""
         browser = officer.browser
-        browser.value("(() => { window.print = () => { window.printed = document.querySelector('#paper pre').textContent; }; })()")
+        browser.driver.execute_script("window.print = () => { window.printed = document.querySelector('#paper pre').textContent; };")
         for key, words in (("print-result", ["result", 7]), ("print-sheet", ["sheet", 7])):
             officer.click(key)
-            browser.until(f"window.printed === {json.dumps(self.office.do(*words))}", PATIENCE)
+            browser.until(f"window.printed === {json.dumps(self.office.do(*words))}")
             browser.value("dispatchEvent(new Event('afterprint'))")
         if browser.value("document.getElementById('paper').children.length || document.body.classList.contains('printing')"):
             raise Wrong("the printed text is still on the page")
+        officer.type("title page", TITLE)
+        self.saved(officer, (("page", "result-7.html", ["page", 7, "--title", TITLE]), ("save-sheet", "sheet-7.txt", ["sheet", 7])))
 
-    def saved(self, officer):
-        """Downloads the journal, the ballots and the stages, and opens the page and the index: each is what the order prints."""
+    def saved(self, officer, files):
+        """Downloads files, and checks that each is what the order prints."""
         folder = self.folder / "saved"
-        folder.mkdir()
-        officer.browser.command("Browser.setDownloadBehavior", behavior="allow", downloadPath=str(folder))
-        for key, name, words in (("save-journal", "journal.txt", ["journal"]), ("file-ballots", "ballots-7.txt", ["ballots", 7]),
-                                 ("file-table", "stages-7.csv", ["table", 7])):
+        folder.mkdir(exist_ok=True)
+        officer.browser.call("Browser.setDownloadBehavior", {"behavior": "allow", "downloadPath": str(folder)})
+        for key, name, words in files:
             officer.click(key)
-            end = time.monotonic() + PATIENCE
-            while not (folder / name).exists() and time.monotonic() < end:
-                officer.browser.wait(0.1)
-            if (folder / name).read_text(encoding="utf-8") != self.office.do(*words):
+            if not waited((folder / name).exists) or (folder / name).read_text(encoding="utf-8") != self.office.do(*words):
                 raise Wrong(f"{name} isn't what the order prints")
-        for target, words in (("wards/7/page", ["page", 7]), ("index", ["index"])):
-            sends = request(f"/office/{target}", f"Authorization: {basic('office', CODE)}")
-            if self.office.do(*words, "--title", TITLE) not in ask(self.port, sends).decode():
-                raise Wrong(f"{target} isn't what the order prints")
 
     def file_gone(self, officer):
-        """While the office can't be read, the console says so and what to do, and still shows what it read before."""
-        town = self.office.folder / TOWN
+        """While the office can't be read or written, the console says so and what to do, and still shows what it read before."""
+        town, browser = self.office.folder / TOWN, officer.browser
         town.rename(town.with_suffix(".away"))
-        officer.shows("fault 105", "health")
+        officer.click("copy")
+        officer.shows("ault 113" if self.is_served else "ault 105", "top")
         officer.go("overview")
         officer.picture("29-file-gone")
         town.with_suffix(".away").rename(town)
-        officer.browser.until("!document.getElementById('health').classList.contains('down')", PATIENCE)
+        browser.until("!document.getElementById('health').classList.contains('down')")
 
 
-def main(pictures: Path = None):
-    needs("chromium")
-    if pictures:
-        pictures.mkdir(parents=True, exist_ok=True)
-    with temporary_folder() as folder:
-        GuideEvening(folder, pictures).play()
-    return 0
+def main(pictures: Path = None, *, program: str = ""):
+    with played(GuideEvening, pictures, program) as (evening, officer):
+        evening.play(officer)

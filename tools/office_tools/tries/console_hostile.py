@@ -1,40 +1,32 @@
 """Plays the officer's console in Chromium with hostile names, an evening of twelve tellers, and the largest office.
 
-console_mock.py stands in for the server, and runs the program's own orders. Names that look like markup, that change the direction of
-writing, or that have 120 bytes are shown as names. Another office is served at the same address, and the console asks whether it is the
-right one. A script of batches is refused halfway, and the code changes. Twelve tellers key 22 batches, some of which differ, 19 doubtful
-papers are judged by keyboard, and each lot is recorded. Then 99 wards and 9,999 batches are shown, and the time to draw them is printed.
---only PLAY plays one of names, refused, evening_of_tellers and large. Pictures at 1280, 800 and 400 pixels go into the folder PICTURES.
-It needs `chromium`.
+Names that look like markup, that change the direction of writing, or that have 120 bytes are shown as names. Another office is served at
+the same address, and the console asks whether it is the right one. A script of batches is refused halfway, and a file is too large. Twelve
+tellers key 22 batches, some of which differ, 19 doubtful papers are judged by keyboard, and each lot is recorded. Then 99 wards and 9,999
+batches are shown, and the time to draw them is printed. console_mock.py stands in for the server; with --program PATH this program serves
+the console itself. --only PLAY plays one of names, refused, evening_of_tellers and large. Pictures at 1280, 800 and 400 pixels go into the
+folder PICTURES. It needs `chromium`, `chromium-driver` and `python3-selenium`.
 """
 import json
 import random
-import shlex
 from pathlib import Path
 
-from office_tools.browser import Browser
-from office_tools.console_officer import CODE, PATIENCE, Evening, Officer
-from office_tools.election import LARGE
-from office_tools.office import Wrong, needs, temporary_folder
+from office_tools.console_officer import Evening, played
+from office_tools.election import LARGE, ward_orders
+from office_tools.office import Wrong, timed
 from office_tools.tables import Table
 
 # Puts 9,000 batches into what the page has read of ward 1.
-FAKE = """(() => { const batches = Array.from({length: 9000}, (_, place) => ({
+FAKE = """const batches = Array.from({length: 9000}, (_, place) => ({
     batch: place + 1, clerks: [{clerk: 4, keyed: true}, {clerk: 9, keyed: place % 3 > 0}], doubtful_open: 0, round: 1, size: 75,
     standing: ['waiting', 'differing', 'taken'][place % 3], twin: 0}));
-    office.reads.set('wards/1/batches', {receipts: office.receipts, found: Promise.resolve({says: {batches, ward: 1}})}); })()"""
+    office.reads.set('wards/1/batches', Promise.resolve({says: {batches, ward: 1}}));"""
 # How long a section takes to draw, in milliseconds, when all that it shows was read before.
 DRAWN = """(async () => { await draw(); const began = performance.now(); await draw(); document.body.offsetHeight;
     return performance.now() - began; })()"""
 SETTLED = "document.getElementById('count-now').innerText.match(/Next:|duly elected/)?.[0] ?? ''"
 MARKUP = "<img src=x onerror=document.title='marked'>"
 PLAYS = ("names", "refused", "evening_of_tellers", "large")
-
-
-def ward_lines(ward, seats, name, candidates):
-    """Returns the orders of a ward up to the close of its nominations."""
-    added = [f"candidate --id c{ward}-{number} -- {ward} {number} {shlex.quote(each)}" for number, each in enumerate(candidates, 1)]
-    return [f"ward --id w{ward} -- {ward} {seats} {shlex.quote(name)}", *added, f"close {ward} --id n{ward}"]
 
 
 def numbered(count):
@@ -44,25 +36,25 @@ def numbered(count):
 class HostileEvening(Evening):
     """The offices that the console has to show."""
 
-    def names(self, browser):
+    def names(self, officer):
         """Shows names that look like markup, change the direction of writing or have 120 bytes: as names, and within the window."""
-        officer = Officer(browser, self)
+        browser = officer.browser
         turning = ["\u05d0" * 60, "\u0627\u062d\u0645\u062f, 2 Bob", "\x85x"]
         names = [*LARGE[-2:], "A" * 120, turning[0], "Maximiliane " * 9 + "Oberhuber-F.", "=1+1", *turning[1:]]
         valid = [",".join({0: "1", 1: "2"}.get((place - number) % 8, "") for place in range(8)) for number in range(12)]
         keyed = " ".join(["D", "D", *valid])
-        self.another(ward_lines(1, 2, "Before", numbered(3)), "before")
-        officer.open()
-        papers = ["batch 1 9 14 4 9 --id b", f"key 4 1 1 {keyed} --id k", f"key 9 1 1 {keyed} --id k"]
+        self.another(ward_orders(candidates=numbered(3), ward=1, name="Before"), "before")
+        officer.log_in()
+        papers = [f"key 4 1 1 {keyed} --id k", f"key 9 1 1 {keyed} --id k"]
         browser.open("about:blank")
-        self.another([*ward_lines(9, 3, MARKUP + names[1], names), *papers])
+        self.another([*ward_orders((1, 14, 4, 9), candidates=names, seats=3, ward=9, name=MARKUP + names[1]), *papers])
         officer.open("#nominations/9")
         self.other_office(officer)
         for part, words in (("nominations", "AAAA"), ("doubtful", "Batch 1, paper 1")):
             officer.go(part, 9)
             officer.shows(words, {"nominations": "nominated", "doubtful": "judging"}[part])
             officer.picture(f"40-names-{part}")
-        browser.value("document.activeElement.blur()")
+        officer.leave_field()
         for key in ("1", "2", "8", "Enter"):
             browser.press(key)
         officer.asked("First preference: 1", "Third preference: 8")
@@ -86,54 +78,51 @@ class HostileEvening(Evening):
         if browser.value("document.querySelectorAll('img, main i b, main script').length") or browser.value("document.title") == "marked":
             raise Wrong("a name is markup")
 
-    def refused(self, browser):
-        """A script of batches is refused halfway, and the rest goes to the tellers whose turn it is. Then the code changes."""
-        officer = Officer(browser, self)
-        self.another([*ward_lines(1, 2, "A", numbered(4)), "batch 3 1 10 4 9 --id x"])
-        officer.open()
-        officer.go("batches", 1)
-        browser.value("(() => { document.getElementById('give').open = true; })()")
-        for field, value in (("from", 1), ("count", 4), ("size", 10), ("last", 7), ("clerks", "4 9 5 6 7 8")):
-            officer.type(f"give-{field}", value)
-        officer.submit("give-out")
+    def refused(self, officer):
+        """A script of batches is refused halfway, and the rest goes to the tellers whose turn it is. A file is too large."""
+        browser = officer.browser
+        self.another(ward_orders((3, 10, 4, 9), candidates=numbered(4), ward=1, name="A"))
+        officer.log_in()
+        self.give_out(officer, 1, {"from": 1, "count": 4, "size": 10, "last": 7, "clerks": "4 9 5 6 7 8"})
         officer.yes("4 batches, 37 papers", said="line 3: refused 8: batch exists")
         officer.picture("46-refused")
-        browser.until("document.getElementById('give-clerks').value === '7 8 4 9 5 6'", PATIENCE)
+        browser.until("document.getElementById('give-clerks').value === '7 8 4 9 5 6'")
         left = [browser.value(f"document.getElementById('give-{field}').value") for field in ("from", "count", "size", "last")]
         if left != ["3", "2", "10", "7"]:
             raise Wrong(f"the rest to give out is {left}")
-        self.mock.code, browser.code = "another-code-of-the-office", "wrong"
-        officer.type("give-from", 11)
-        officer.submit("give-out")
-        officer.asked("Batch 11")
-        browser.press("y")
-        officer.shows("Nothing was changed", "unsent")
-        officer.picture("47-code")
+        browser.value("(document.getElementById('bring').open = true)")
+        officer.drop("drop-keyings", large=["paper 3/4,1,2,3,4", *["1,1,2,3,4"] * 120000])
+        officer.shows("too large for the console", "unsent")
+        officer.picture("47-too-large")
         browser.value("[...document.querySelectorAll('#unsent button')].at(-1).click()")
-        browser.until("document.getElementById('unsent').hidden && pendingOrders().length === 0", PATIENCE)
-        if "batch 11" in self.office.do("batches", 1):
-            raise Wrong("an order that was discarded was done")
-        self.mock.code = browser.code = CODE
-        browser.until("!document.getElementById('health').classList.contains('down')", PATIENCE)
+        browser.until("document.getElementById('unsent').hidden && pendingOrders().length === 0")
         browser.value("document.getElementById('sign-out').click()")
-        browser.until("document.body.innerText.includes('You have signed out')", PATIENCE)
-        browser.said = [line for line in browser.said if "status of 401" not in line]
+        browser.until("document.body.innerText.includes('You have signed out')")
+        browser.open("about:blank")
+        browser.open(self.address())
+        if "Count office" in browser.text():
+            raise Wrong("an officer who signed out isn't asked for the code")
 
-    def evening_of_tellers(self, browser):
+    def give_out(self, officer, ward, fields):
+        """Fills in the form for giving out batches, and sends it."""
+        officer.go("batches", ward)
+        officer.browser.value("(document.getElementById('give').open = true)")
+        for field, value in fields.items():
+            officer.type(f"give-{field}", value)
+        officer.submit("give-out")
+
+    def evening_of_tellers(self, officer):
         """Two wards have a poll and one has none: twelve tellers key 22 batches, with 19 doubtful papers, and each lot is recorded."""
-        officer, chance = Officer(browser, self), random.Random(7)
+        chance = random.Random(7)
         wards = {1: ("Inchmore", 3, 6, 12), 2: ("Old Town", 4, 12, 10), 3: ("Quay", 2, 2, 0)}
-        self.another([line for ward, (name, seats, count, _) in wards.items() for line in ward_lines(ward, seats, name, numbered(count))])
-        officer.open()
+        self.another([line for ward, (name, seats, count, _) in wards.items()
+                      for line in ward_orders(candidates=numbered(count), seats=seats, ward=ward, name=name)])
+        officer.log_in()
         first, doubtful = 1, 19
         for ward, (name, _, candidates, count) in wards.items():
             if not count:
                 continue
-            officer.go("batches", ward)
-            browser.until("document.getElementById('give').open")
-            for field, value in (("from", first), ("count", count), ("size", 66), ("last", 61), ("clerks", "1 2 3 4 5 6 7 8 9 10 11 12")):
-                officer.type(f"give-{field}", value)
-            officer.submit("give-out")
+            self.give_out(officer, ward, {"from": first, "count": count, "size": 66, "last": 61, "clerks": "1 2 3 4 5 6 7 8 9 10 11 12"})
             officer.yes(f"{count} batches, {66 * (count - 1) + 61} papers", f"Batch {first}", name)
             doubtful = self.keyed(chance, range(first, first + count), candidates, doubtful)
             if ward == 1:
@@ -186,20 +175,20 @@ class HostileEvening(Evening):
             batch = int(found.split()[1])
             officer.click(found)
             officer.asked("third teller")
-            officer.browser.call("Input.insertText", text="13")
+            officer.insert(13)
             officer.forget()
             officer.browser.press("Enter")
             officer.shows(f"batch {batch} third clerk 13")
             officer.browser.until("!document.body.classList.contains('busy')")
             self.office.do("key", 13, batch, 1, *self.marks[batch], "--id", f"k{batch}")
             officer.browser.value("refresh(true).then(() => 1)")
-            officer.browser.until(f"!{officer.found(f'third {batch}')}", PATIENCE)
+            officer.browser.until(f"!{officer.found(f'third {batch}')}")
 
     def judged(self, officer, chance, ward):
         """Judges all doubtful papers of a ward by keyboard alone."""
         browser, count, pictured = officer.browser, 0, set()
         officer.go("doubtful", ward)
-        browser.value("document.activeElement.blur()")
+        officer.leave_field()
         while (which := browser.value("document.querySelector('#judging .which')?.textContent ?? ''")):
             columns = browser.value("judging.candidates.length")
             if chance.random() < 0.4:
@@ -230,7 +219,7 @@ class HostileEvening(Evening):
         browser = officer.browser
         officer.go("count", ward)
         for _ in range(40):
-            browser.until(SETTLED, PATIENCE)
+            browser.until(SETTLED)
             text = browser.value("document.getElementById('count-now').innerText")
             if "duly elected" in text:
                 return
@@ -252,45 +241,38 @@ class HostileEvening(Evening):
         officer.browser.value("document.querySelector('#other button').click()")
         officer.browser.until("document.getElementById('other').hidden")
 
-    def large(self, browser):
+    def large(self, officer):
         """Shows 99 wards and 9,999 batches, then a ward of 9,000: each section is drawn within a second, at most 300 rows at once."""
-        officer = Officer(browser, self)
-        wards = [line for ward in range(1, 100) for line in ward_lines(ward, 3, f"Ward name {ward}", numbered(5))]
-        batches = [f"batch {it} {it % 99 + 1} 500 {it % 20 * 2 + 1} {it % 20 * 2 + 2} --id b{it}" for it in range(1, 10000)]
-        self.another([*wards, *batches])
-        # The stand-in runs an order for each ward, and keeps its output.
-        self.mock.machine.waiting()
-        browser.open(self.address())
-        browser.until("document.getElementById('waiting').innerText.includes('Teller 1')", 200)
+        browser = officer.browser
+        batches = {ward: [(it, 500, it % 20 * 2 + 1, it % 20 * 2 + 2) for it in range(ward, 10000, 99)] for ward in range(1, 100)}
+        self.another([line for ward, given in batches.items()
+                      for line in ward_orders(*given, candidates=numbered(5), seats=3, ward=ward, name=f"Ward name {ward}")])
+        for ward in batches if not self.is_served else ():
+            # The stand-in runs an order for each ward, and keeps its output.
+            self.server.machine.batches(str(ward))
+        officer.log_in()
+        table = Table("section", "milliseconds to draw")
+        _, seconds = timed(browser.until, "office.wards.length === 99 && !office.wards.some(isStale)")
+        officer.shows("Teller 1", "waiting")
         officer.picture("50-large-overview")
-        spent = {part: self.seconds(officer, part) for part in ("overview", "nominations", "batches", "doubtful", "count", "journal")}
+        spent = {part: self.milliseconds(officer, part) for part in ("overview", "nominations", "batches", "doubtful", "count", "journal")}
         officer.go("batches", 1)
-        browser.value(FAKE)
-        spent["batches, 9,000 in the ward"] = self.seconds(officer, "batches")
+        browser.driver.execute_script(FAKE)
+        spent["batches, 9,000 in the ward"] = self.milliseconds(officer, "batches")
         officer.shows("Page 1 of 225", "batch-more")
         officer.picture("51-large-batches")
         most = browser.value("document.querySelectorAll('tr').length")
-        table = Table("section", "milliseconds to draw")
-        for part, seconds in spent.items():
-            table.row(part, f"{seconds:.0f}")
+        for part, took in [*spent.items(), ("all wards, until each was read", 1000 * seconds)]:
+            table.row(part, f"{took:.0f}")
         if max(spent.values()) > 1000 or most > 300:
             raise Wrong(f"{spent}; {most} rows")
 
-    def seconds(self, officer, part):
+    def milliseconds(self, officer, part):
         officer.go(part, 1 if part not in ("overview", "journal") else 0)
-        return officer.browser.value(DRAWN, 300)
+        return officer.browser.value(DRAWN)
 
 
-def main(pictures: Path = None, *, only: str = ""):
-    needs("chromium")
-    if pictures:
-        pictures.mkdir(parents=True, exist_ok=True)
+def main(pictures: Path = None, *, only: str = "", program: str = ""):
     for play in [only] if only else PLAYS:
-        with temporary_folder() as folder:
-            evening = HostileEvening(folder, pictures)
-            with Browser(folder, "office", CODE) as browser:
-                getattr(evening, play)(browser)
-                if strange := [line for line in browser.said if "ERR_" not in line]:
-                    raise Wrong(f"{play}: the browser said {strange[:5]}")
-            evening.mock.close()
-    return 0
+        with played(HostileEvening, pictures, program) as (evening, officer):
+            getattr(evening, play)(officer)

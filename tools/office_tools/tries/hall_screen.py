@@ -15,11 +15,11 @@ from pathlib import Path
 from office_tools.browser import Browser
 from office_tools.election import LARGE, ward_orders
 from office_tools.office import TOWN, Office, Wrong, free_port, temporary_folder
-from office_tools.screen_mock import ScreenMock
+from office_tools.screen_mock import TITLE, ScreenMock
 from office_tools.wards import Ward, sealed_office
-from office_tools.web import ask, request
+from office_tools.web import HERE, ask, request
 
-TITLE, CODE = "Election of 6 May 2027, Harbour Council", "kf7m2wxth4dnw3hd4psn"
+CODE = "kf7m2wxth4dnw3hd4psn"
 WIDTH, HEIGHT = 1920, 1080
 NAMES = ["Ann Baird", "Bob Cairns", "Catriona MacGillivray-Stewart", "Dee Drummond", "Ewan Forsyth", "Flora Geddes"]
 PAPERS = ["1,2,,,,"] * 40 + ["1,,2,,,"] * 20 + [",1,2,,,"] * 12 + [",,1,2,,"] * 18 + [",,,1,2,"] * 9 + [",,,2,1,"] * 9 + [",,,,,1"] * 8 + ["D"]
@@ -47,11 +47,11 @@ class Screen:
         """Serves an office, and opens its screen, which stays where it is until it is told."""
         self.office, self.title = office, title
         self.start()
-        self.browser.open(f"{self.mock.origin}/screen")
+        self.browser.open(f"http://{HERE}:{self.port}/screen")
         self.browser.until("office.text !== null && office.wards.filter(isCounted).every((it) => office.counts.has(it.ward))")
         self.browser.value("(() => { shown.hold = 'part'; })()")
         yield self
-        self.mock.close()
+        self.mock.kill()
 
     def start(self):
         self.mock = ScreenMock(self.office.folder / TOWN, CODE, self.port, self.title)
@@ -189,7 +189,7 @@ def counting(screen):
 def stopped(screen):
     """The server stops: the screen still shows the last state, says so, and goes on when the server is there again."""
     screen.go(7, 2)
-    screen.mock.close()
+    screen.mock.kill()
     screen.look()
     screen.shows("Not connected since ", part="down")
     screen.shows_sheet(7, 2)

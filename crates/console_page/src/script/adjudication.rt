@@ -83,7 +83,8 @@ const drawPaper = (ward, open) => {
           made('div', {className: 'rejects'},
             ...[3, 4, 5].map((code) => button([made('kbd', {}, `R ${code}`), ` ${REJECTIONS[code]}`], () => reject(code), {key: `reject ${code}`}))),
           open.length > 1 ? made('p', {}, made('label', {}, 'Paper to judge ', otherPapers(open))) : '',
-          made('p', {className: 'hint'}, 'Keyboard: type a candidate\u2019s number to choose, Backspace to undo, Enter to accept. To reject, press R, then 3, 4 or 5.')))),
+          made('p', {className: 'hint'}, 'Keyboard: type a candidate\u2019s number to choose, Backspace to undo, Enter to accept. To reject, press R, then 3, 4 or 5. '
+            + 'Esc returns to the overview.')))),
   ];
 };
 

@@ -133,7 +133,7 @@ DRAW.batches = async (isNow) => {
     ? 'This ward is uncontested, so it has no batches.' : '');
   const {batches = []} = says ?? {};
   const expected = expectedOf(ward?.ward) ? `, ${expectedOf(ward.ward).toLocaleString('en')} expected` : '';
-  const progress = isPolled ? `${batchesOf(batches.length)} given out: ${papersOf(ward.papers_given_out)}${expected}, ${ward.papers_agreed.toLocaleString('en')} agreed` : '';
+  const progress = isPolled ? `${batchesOf(batches.length)} given out: ${papersOf(papersIn(batches).givenOut)}${expected}, ${papersIn(batches).agreed.toLocaleString('en')} agreed` : '';
   fill(at('batches-note'), note || progress);
   suggestBatch(batches);
   if (ward?.phase === 'keying' && !batches.length) at('give').open = true;

@@ -31,8 +31,8 @@ const countOn = async (ward, next) => {
 };
 
 const lotTexts = {
-  exclusion: ['Who is excluded?', 'is excluded'],
-  surplus: ['Whose surplus is transferred first?', 'has the surplus that is transferred first'],
+  exclusion: ['Who is excluded?', 'is excluded', 'who is excluded'],
+  surplus: ['Whose surplus is transferred first?', 'has the surplus that is transferred first', 'whose surplus is transferred first'],
 };
 
 const recordLot = async (ward, next, candidates) => {
@@ -55,7 +55,7 @@ const drawLot = (ward, next, candidates) => {
   return [
     made('p', {className: 'said'}, `Next: a lot, for stage ${next.stage}`),
     made('p', {}, ...listed(namesOf(candidates, next.tied)),
-      ' had equal votes at every stage. Draw a lot among them in front of witnesses, as the law requires. Then choose the candidate who was drawn.'),
+      ` had equal votes at every stage. Draw a lot among them in front of witnesses to decide ${lotTexts[next.decides][2]}. Then choose that candidate.`),
     made('fieldset', {}, made('legend', {}, lotTexts[next.decides][0]), ...choices),
     made('p', {className: 'acts'}, button('Record lot', () => recordLot(ward, next, candidates), {key: 'lot', main: true, disabled: !drawn.candidate})),
   ];
@@ -87,11 +87,13 @@ DRAW.count = async (isNow) => {
     for (const id of ['count-result', 'count-chart']) fill(at(id));
     return fill(at('count-now'), made('p', {}, why ?? 'There are no wards yet.'));
   }
-  const isSealed = ward.phase === 'sealed' || ward.phase === 'declared';
+  const isSealed = wasSealed(ward);
   const [now, chart] = [await drawNow(ward, says), isSealed ? await drawChart(ward) : []];
   if (!isNow()) return undefined;
-  fill(at('count-now'), made('div', {className: ward.phase === 'declared' ? '' : 'case'}, made('p', {className: 'which'}, wardName(ward)), ...now));
-  fill(at('count-result'), isSealed ? printsOf(ward) : []);
+  const isDeclared = ward.phase === 'declared';
+  fill(at('count-now'), made('div', {className: isDeclared ? '' : 'case'}, made('p', {className: 'which'}, wardName(ward)), ...now),
+    isDeclared ? printsOf(ward) : []);
+  fill(at('count-result'), isSealed && !isDeclared ? printsOf(ward) : []);
   return fill(at('count-chart'), chart);
 };
 

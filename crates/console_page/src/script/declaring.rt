@@ -49,17 +49,25 @@ const saveOutput = async (name, type, ...words) => {
   if (output) saveAs(name, output, type); else tell('refused', 'The file couldn\u2019t be downloaded.', why);
 };
 
-// Opens a page in a new window, from which it can be printed.
-const openPage = (target) => { window.open(HERE + target, '_blank', 'noopener'); };
+// Returns the field for the election's title. The browser stores it.
+const titleField = (key) => {
+  const field = made('input', {type: 'text', autocomplete: 'off', className: 'long', defaultValue: stored('title', ''), data: {key}});
+  field.addEventListener('input', () => store('title', field.value));
+  return made('label', {}, 'Election title, for printed pages ', field);
+};
+
+// Downloads an HTML page with the election's title. A page that this one opened would have this one's policy, and so lose its style.
+const savePage = (name, ...words) => saveOutput(name, 'text/html', ...words, ...(stored('title') ? [`--title=${stored('title')}`] : []));
 
 const printsOf = (ward) => {
   const {ward: number} = ward;
-  return made('p', {className: 'acts'},
-    button('Open result page to print and sign', () => openPage(`wards/${number}/page`), {key: 'page', main: ward.phase === 'declared'}),
+  return [made('h3', {}, 'Print and download'), made('p', {className: 'row'}, titleField('title page')), made('p', {className: 'acts'},
+    button('Download result page', () => savePage(`result-${number}.html`, 'page', number), {key: 'page', main: ward.phase === 'declared'}),
     ward.phase === 'declared' ? button('Print declaration', () => printOutput('Declaration', 'result', number), {key: 'print-result'}) : '',
     button('Print stage sheet', () => printOutput('Stage sheet', 'sheet', number), {key: 'print-sheet'}),
     button('Download stage sheet', () => saveOutput(`sheet-${number}.txt`, 'text/plain', 'sheet', number), {key: 'save-sheet'}),
-    isUncontested(ward) ? '' : button('Download ballots', () => saveOutput(`ballots-${number}.txt`, 'text/plain', 'ballots', number), {key: 'save-ballots'}));
+    isUncontested(ward) ? '' : button('Download ballots', () => saveOutput(`ballots-${number}.txt`, 'text/plain', 'ballots', number), {key: 'save-ballots'})),
+  made('p', {className: 'hint'}, 'Open the downloaded result page in the browser to print and sign it.')];
 };
 
 "#;

@@ -76,6 +76,7 @@ const route = () => {
     forgetTold();
   }
   if (view !== before) {
+    document.body.classList.remove('judging');
     scrollTo(0, 0);
     at(`${view}-title`).focus({preventScroll: true});
   }
@@ -97,7 +98,8 @@ const compareOffice = () => {
       `The previous one had ${seen.receipts.toLocaleString('en')} and ${seen.wards.length}. `,
       'Another file may be served, or an older copy. Check that this is the right office before you continue.'),
     made('p', {className: 'acts'}, button('This is the right office', () => {
-      for (const name of [...storedNames('expected'), ...storedNames('draft'), ...storedNames(PENDING), 'copy', 'log']) unstore(name);
+      for (const name of [...storedNames('expected'), ...storedNames('draft'), ...storedNames(PENDING), 'copy', 'log', 'title']) unstore(name);
+      details.clear();
       store('seen', {receipts: office.receipts, wards: office.wards.map((it) => `${it.ward} ${it.seats} ${it.name}`)});
       at('other').hidden = true;
       giveUp();
@@ -114,12 +116,13 @@ const refreshOnce = async (isForced) => {
   if (!office.down) {
     const {receipts, wards} = answer.says;
     office.at = Date.now();
-    if (receipts !== office.receipts || isForced) {
-      if (receipts !== office.receipts) office.reads.clear();
-      Object.assign(office, {receipts, wards});
+    const isChanged = answer.text !== office.text;
+    if (isChanged) {
+      office.reads.clear();
+      Object.assign(office, {receipts, text: answer.text, wards});
       compareOffice();
-      if (isFirst) route(); else await draw();
     }
+    if (isFirst) route(); else if (isChanged || isForced) await draw();
   }
   drawHealth();
 };
@@ -133,6 +136,7 @@ const refresh = (isForced = false) => {
 // Refreshes the page every few seconds. Once a minute it is drawn even if nothing changed, to update the times shown.
 const keepFresh = async () => {
   for (let turns = 1; ; turns += 1) {
+    await catchUp().catch(() => {});
     await new Promise((resolve) => setTimeout(resolve, 1000 * SECONDS));
     if (!document.hidden) await refresh(turns % 20 === 0).catch(() => {});
   }

@@ -34,7 +34,7 @@ const sumText = (list) => `${batchesOf(list.length)}, ${papersOf(sumOf(list))}`;
 
 const expectedText = (ward, list) => {
   const expected = expectedOf(ward.ward);
-  const sum = ward.papers_given_out + sumOf(list);
+  const sum = (papersFor(ward)?.givenOut ?? 0) + sumOf(list);
   if (!expected) return '';
   const text = `With these batches, ${sum.toLocaleString('en')} of ${expected.toLocaleString('en')} expected papers are given out.`;
   return sum > expected ? warningText(text, ' That is more than expected: check the batch sizes.') : made('p', {}, text);

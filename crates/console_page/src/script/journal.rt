@@ -30,14 +30,14 @@ const drawCopies = () => {
 };
 
 const drawFiles = () => {
-  const sealed = office.wards.filter((it) => it.phase === 'sealed' || it.phase === 'declared');
-  const counted = sealed.filter((it) => !isUncontested(it));
+  const counted = office.wards.filter((it) => wasSealed(it) && !isUncontested(it));
   const select = made('select', {ariaLabel: 'Ward', data: {key: 'file-ward'}},
     ...counted.map((it) => made('option', {value: String(it.ward)}, `${it.ward} ${spokenName(it.name)}`)));
   fill(at('files'),
     made('p', {}, 'The journal lists every accepted order, and the office can be rebuilt from it. Don\u2019t show it to the tellers: it contains what each of them keyed.'),
     made('p', {className: 'acts'}, button('Download journal', () => saveOutput('journal.txt', 'text/plain', 'journal'), {key: 'save-journal'}),
-      button('Open index of all wards', () => openPage('index'), {key: 'index'})),
+      button('Download index of all wards', () => savePage('index.html', 'index'), {key: 'index'})),
+    made('p', {className: 'row'}, titleField('title index')),
     counted.length ? made('p', {className: 'acts'}, made('label', {}, 'Ward ', select),
       button('Download ballots', () => saveOutput(`ballots-${select.value}.txt`, 'text/plain', 'ballots', select.value), {key: 'file-ballots'}),
       button('Download stages (CSV)', () => saveOutput(`stages-${select.value}.csv`, 'text/csv', 'table', select.value), {key: 'file-table'})) : '');

@@ -12,9 +12,10 @@ const headingOf = (text) => {
   return batch ? {batch: Number(batch), clerk: Number(clerk)} : null;
 };
 
-// Returns the current round of a batch, or 0 if no ward in keying has the batch.
+// Returns the current round of a batch, or 0 if no ward in keying has the batch. Looks first where the batch was when it was last read.
 const roundOf = async (batch) => {
-  for (const {ward} of office.wards.filter((it) => it.phase === 'keying')) {
+  const had = (ward) => Boolean(detailOf(ward).batches?.some((it) => it.batch === batch));
+  for (const {ward} of office.wards.filter((it) => it.phase === 'keying').sort((one, other) => had(other) - had(one))) {
     const found = (await readBatches(ward)).says?.batches.find((it) => it.batch === batch);
     if (found) return found.round;
   }
@@ -24,16 +25,21 @@ const roundOf = async (batch) => {
 const bringFile = async (file) => {
   const text = await textOf(file);
   const heading = text === null ? null : headingOf(text);
-  if (text === null) return {name: file.name, text: 'isn\u2019t UTF-8. Save it as CSV (UTF-8), then drop it again.', isWrong: true};
-  if (!heading) return {name: file.name, text: 'doesn\u2019t name its batch and teller. Its first line must begin with, for example, paper 12/4.', isWrong: true};
+  if (text === null) return {name: file.name, text: 'The file isn\u2019t UTF-8. Save it as CSV (UTF-8), then drop it again.', isWrong: true};
+  if (!heading) {
+    return {name: file.name, text: 'The file doesn\u2019t name its batch and teller. Its first line must begin with, for example, paper 12/4.', isWrong: true};
+  }
   const round = await roundOf(heading.batch);
-  if (!round) return {name: file.name, text: `is for batch ${heading.batch}, but no ward that is being keyed has this batch. Check the number in the first line.`, isWrong: true};
+  if (!round) {
+    const why = `No ward that is being keyed has batch ${heading.batch}. Check the number in the file\u2019s first line.`;
+    return {name: file.name, text: why, isWrong: true};
+  }
   const name = `k${heading.clerk}-${heading.batch}.csv`;
   const printed = await order(`import the keying of batch ${heading.batch}, round ${round}, by teller ${heading.clerk}`,
     ['import-keying', heading.clerk, heading.batch, round, name, '--id', newId()], {[name]: text});
-  const what = `batch ${heading.batch}, teller ${heading.clerk}, round ${round}`;
+  const what = `Batch ${heading.batch}, teller ${heading.clerk}, round ${round}`;
   if (isAccepted(printed)) return {name: file.name, text: `${what}: accepted`};
-  return {name: file.name, text: `${what}: ${printed ? `${explainedError(printed.errors).line}. ${explainedError(printed.errors).todo}` : 'not sent'}`, isWrong: true};
+  return {name: file.name, text: `${what}: ${printed ? `${explainedError(printed.errors).line}. ${explainedError(printed.errors).todo}` : 'discarded'}`, isWrong: true};
 };
 
 const bringKeyings = async (files) => {
@@ -41,7 +47,8 @@ const bringKeyings = async (files) => {
   await refresh();
   for (const file of files) {
     brought.push(await bringFile(file));
-    fill(at('brought'), made('ul', {}, ...brought.map((it) => made('li', {className: it.isWrong ? 'urgent' : ''}, made('b', {}, isolated(it.name)), ' ', it.text))));
+    fill(at('brought'), made('ul', {}, ...brought.map((it) =>
+      made('li', {}, made('b', {}, isolated(it.name), ':'), ' ', it.isWrong ? made('b', {}, 'Not imported. ') : '', it.text))));
   }
 };
 

@@ -46,7 +46,7 @@ const dropCandidates = async ([file]) => {
   const known = await knownIn(records);
   dropped = {
     name: file.name, fault: isHeaded ? '' : 'The first line must be ward,candidate,name. Correct the file, then drop it again.',
-    records: records.map((record, place) => ({record, line: place + 1, fault: faultOf(record, seen, known), isThere: known.has(`${record[0]} ${record[1]}`)})),
+    records: records.map((record, place) => ({record, line: place + 2, fault: faultOf(record, seen, known), isThere: known.has(`${record[0]} ${record[1]}`)})),
   };
   drawPreview();
   at('preview').scrollIntoView({block: 'nearest'});

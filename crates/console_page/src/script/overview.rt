@@ -28,7 +28,8 @@ const stepOf = (ward, next) => {
   const waiting = ward.batches - ward.taken;
   if (waiting) return {rank: 8, text: `${batchesOf(waiting)} being keyed`, to: 'batches', button: 'Batches', isWaiting: true};
   const expected = expectedOf(ward.ward);
-  if (expected > ward.papers_given_out) return {rank: 5, text: `Give out the remaining ${papersOf(expected - ward.papers_given_out)}`, to: 'batches', button: 'Give out'};
+  const left = expected - (papersFor(ward)?.givenOut ?? expected);
+  if (left > 0) return {rank: 5, text: `Give out the remaining ${papersOf(left)}`, to: 'batches', button: 'Give out'};
   return {rank: 3, text: 'All batches agreed, all doubtful papers judged: seal the ward', to: 'count', button: 'Seal'};
 };
 
@@ -79,10 +80,12 @@ const expectedField = (ward) => {
 
 const compareExpected = (field, ward) => {
   const expected = expectedOf(ward.ward);
-  field.classList.toggle('over', expected > 0 && expected < ward.papers_given_out);
+  field.classList.toggle('over', expected > 0 && expected < (papersFor(ward)?.givenOut ?? 0));
 };
 
-const figure = (text, value, className = '') => made('td', {className: `figure ${className}`.trim(), data: {label: text}}, value.toLocaleString('en'));
+// Returns the cell of a figure. One that isn't read yet has an ellipsis.
+const figure = (text, value, className = '') =>
+  made('td', {className: `figure ${className}`.trim(), data: {label: text}}, value === null ? '\u2026' : value.toLocaleString('en'));
 
 const differing = (count) => figure(noun(count, 'differing batch', 'differing batches'), count, count ? 'bad' : '');
 const toJudge = (count) => figure(noun(count, 'paper to judge', 'papers to judge'), count, count ? 'bad' : '');
@@ -100,13 +103,14 @@ const wardRow = ({ward, step}) => {
   const isKeyed = ward.phase === 'keying';
   const isPolled = ward.phase !== 'nominations' && !isUncontested(ward);
   const dash = (text) => made('td', {className: 'figure none', data: {label: text}}, '\u2013');
-  const papers = (text, value) => (isPolled ? figure(text, value) : dash(text));
+  const papers = papersFor(ward);
+  const cell = (text, member) => (isPolled ? figure(text, papers ? papers[member] : null) : dash(text));
   return made('tr', {className: step.isUrgent ? 'urgent' : ''},
     made('th', {scope: 'row'}, wardName(ward), made('small', {className: 'phase-here'}, phaseWord(ward))),
     phaseCell(ward),
     made('td', {className: expectedOf(ward.ward) || ward.phase === 'nominations' || isKeyed ? 'figure' : 'figure none', data: {label: 'expected'}},
       ward.phase === 'nominations' || isKeyed ? expectedField(ward) : expectedOf(ward.ward) && isPolled ? expectedOf(ward.ward).toLocaleString('en') : '\u2013'),
-    papers('given out', ward.papers_given_out), papers('keyed', ward.papers_keyed), papers('agreed', ward.papers_agreed),
+    cell('given out', 'givenOut'), cell('keyed', 'keyed'), cell('agreed', 'agreed'),
     isKeyed ? differing(ward.differing) : dash('differing batches'), isKeyed ? toJudge(ward.doubtful_open) : dash('papers to judge'),
     made('td', {className: 'next', data: {label: ''}},
       button(step.button, () => go(step.to, ward.ward), {key: `row ${ward.ward}`, ariaLabel: `${step.button}: ward ${ward.ward}`}), made('span', {}, step.text)));
@@ -117,42 +121,34 @@ const WARD_HEADS = ['Ward', 'Phase', 'Papers expected', 'Given out', 'Keyed', 'A
 const sumRow = () => {
   const sum = (member) => office.wards.reduce((total, it) => total + it[member], 0);
   const expected = office.wards.reduce((total, it) => total + expectedOf(it.ward), 0);
-  return made('tr', {className: 'sum'}, made('th', {scope: 'row'}, 'All wards'), made('td', {}, ''), figure('expected', expected),
-    figure('given out', sum('papers_given_out')), figure('keyed', sum('papers_keyed')), figure('agreed', sum('papers_agreed')),
+  const polled = office.wards.filter((it) => it.phase !== 'nominations' && !isUncontested(it)).map(papersFor);
+  const papers = (member) => (polled.includes(null) ? null : polled.reduce((total, it) => total + it[member], 0));
+  return made('tr', {className: 'sum'}, made('th', {scope: 'row'}, 'All wards'), made('td', {}, ''), figure('expected', expected || '\u2013'),
+    figure('given out', papers('givenOut')), figure('keyed', papers('keyed')), figure('agreed', papers('agreed')),
     differing(sum('differing')), toJudge(sum('doubtful_open')), made('td', {}, ''));
 };
 
 const MOST_TELLERS = 40;
 
-const tellerRow = ({clerk, batches, first}) =>
-  row(made('th', {scope: 'row'}, `Teller ${clerk}`), numeric(batches), first.join(', ') + (batches > first.length ? ', \u2026' : ''));
+const tellerRow = ({clerk, batches}) => row(made('th', {scope: 'row'}, `Teller ${clerk}`), numeric(batches.length), firstOf(batches));
 
-const drawWaiting = async (isNow) => {
-  const isAny = office.wards.some((it) => it.phase === 'keying' && it.batches > it.taken + it.differing);
-  const {says, why} = isAny ? await read('waiting') : {};
-  if (!isNow()) return;
-  const tellers = [...says?.waiting ?? []].sort((one, other) => other.batches - one.batches);
+const drawWaiting = () => {
+  const tellers = tellersWaiting();
+  const isUnread = office.wards.some((it) => it.phase === 'keying' && !papersFor(it));
   const rows = tellers.slice(0, MOST_TELLERS).map(tellerRow);
   const more = tellers.length > MOST_TELLERS ? made('p', {}, `And ${many(tellers.length - MOST_TELLERS, 'more teller')}`) : '';
-  fill(at('waiting'), tellers.length ? table({className: 'plain'}, ['Teller', 'Batches', 'Batch numbers'], rows) : made('p', {}, why ?? 'No batch is waiting for a teller.'),
-    more);
+  fill(at('waiting'), tellers.length ? table({className: 'plain'}, ['Teller', 'Batches', 'Batch numbers'], rows) : isUnread ? '' : made('p', {}, 'No batch is waiting for a teller.'),
+    isUnread ? made('p', {}, 'Reading the batches\u2026') : more);
 };
 
-// Returns the next step of each ward. For a sealed ward it has to be read; for the others it follows from their figures.
-const stepsOf = async () => {
-  const sealed = office.wards.filter((it) => it.phase === 'sealed' && !isUncontested(it)).slice(0, 20);
-  const nexts = new Map(await Promise.all(sealed.map(async ({ward}) => [ward, (await readWard(ward)).says?.next])));
-  return office.wards.map((ward) => ({ward, step: stepOf(ward, nexts.get(ward.ward))}));
-};
-
-DRAW.overview = async (isNow) => {
-  const steps = await stepsOf();
-  if (!isNow()) return;
+// Draws what is known of each ward. What isn't up to date is read by and by.
+DRAW.overview = async () => {
+  const steps = office.wards.map((ward) => ({ward, step: stepOf(ward, nextOf(ward))}));
   drawSteps(steps);
   fill(at('wards'), steps.length
     ? table({className: steps.length > MOST_ROOMY ? 'wards close' : 'wards'}, WARD_HEADS, [...steps.map(wardRow), ...(steps.length > 1 ? [sumRow()] : [])])
     : noWards());
-  await drawWaiting(isNow);
+  drawWaiting();
 };
 
 "#;

@@ -61,7 +61,7 @@ const showUnsent = (order, text, isPaused) => {
   at('unsent').hidden = false;
   const forgetIt = button('Discard this order', giveUp);
   at('unsent').replaceChildren(
-    made('p', {className: 'said'}, `Not confirmed yet: ${order.title}.`), made('p', {}, text),
+    made('p', {className: 'said'}, `${order.open ? 'Not confirmed yet' : 'Not done yet'}: ${order.title}.`), made('p', {}, text),
     made('p', {className: 'acts'}, button('Send again now', () => wakeUp(), {main: true}), isPaused ? forgetIt : ''));
 };
 

@@ -1,18 +1,19 @@
 //! Part of the script: the requests to the office, and what is read of it.
 
-/// Declares the requests. What was read stays valid while the office has the same number of receipts.
+/// Declares the requests. What was read stays valid while the list of wards is the same text.
 pub(crate) const REQUESTS: &str = r#"// ---- requests to the office
 
 const PATIENCE = 120;
 
-// Sends a request. Returns the status of the response and its JSON, or null if there was none or it wasn't JSON.
+// Sends a request. Returns the status of the response, its text and its JSON, or null if there was none or it wasn't JSON.
 const ask = async (target, body) => {
   const end = new AbortController();
   const timer = setTimeout(() => end.abort(), 1000 * PATIENCE);
   const sent = body === undefined ? {} : {method: 'POST', headers: {'Content-Type': 'application/json'}, body};
   try {
     const answer = await fetch(HERE + target, {...sent, cache: 'no-store', redirect: 'error', signal: end.signal});
-    return {status: answer.status, says: await answer.json()};
+    const text = await answer.text();
+    return {status: answer.status, text, says: JSON.parse(text)};
   } catch {
     return null;
   } finally {
@@ -20,25 +21,26 @@ const ask = async (target, body) => {
   }
 };
 
-// What was last read. A read stays valid while the office has the same number of receipts.
-const office = {receipts: -1, wards: [], reads: new Map(), at: 0, down: ''};
+// What was last read: the list of wards and its text. Each accepted order changes that text, so other reads stay valid while it is the same.
+const office = {receipts: -1, text: '', wards: [], reads: new Map(), at: 0, down: ''};
 
 const wardAt = (number) => office.wards.find((it) => it.ward === number);
 
-// Reads a target, once for each number of receipts. Returns {says}, or {why} if it couldn't be read.
-const read = async (target) => {
-  const {receipts} = office;
-  const kept = office.reads.get(target);
-  if (kept?.receipts === receipts) return kept.found;
-  const found = ask(target).then((answer) => (answer?.status === 200 ? {says: answer.says} : {why: explainedAnswer(answer), status: answer?.status, says: null}));
-  office.reads.set(target, {receipts, found});
-  const result = await found;
-  if (result.why && result.status !== 409) office.reads.delete(target);
+// Returns what was found under a key since the list of wards changed, or finds it. What failed is tried again next time.
+const once = async (key, find) => {
+  const {reads} = office;
+  if (!reads.has(key)) reads.set(key, find());
+  const result = await reads.get(key);
+  if (result.why && result.status !== 409) reads.delete(key);
   return result;
 };
 
-const readWard = (ward) => read(`wards/${ward}`);
-const readBatches = (ward) => read(`wards/${ward}/batches`);
+// Reads a target. Returns {says}, or {why} if it couldn't be read.
+const readNow = async (target) => {
+  const answer = await ask(target);
+  return answer?.status === 200 ? {says: answer.says} : {why: explainedAnswer(answer), status: answer?.status, says: null};
+};
+const read = (target) => once(target, () => readNow(target));
 const readDoubtful = (ward) => read(`wards/${ward}/doubtful`);
 
 // Sends an order that only prints, such as `sheet`. Returns {output}, or {why} if it failed.
@@ -49,18 +51,8 @@ const outputOf = async (...words) => {
   return status === 0 ? {output} : {why: `${said(explainedError(errors).line)} ${explainedError(errors).todo}`};
 };
 
-// Like outputOf, but sends the order once for each number of receipts.
-const outputOnce = async (...words) => {
-  const key = `print ${words.join(' ')}`;
-  const {receipts} = office;
-  const kept = office.reads.get(key);
-  if (kept?.receipts === receipts) return kept.found;
-  const found = outputOf(...words);
-  office.reads.set(key, {receipts, found});
-  const result = await found;
-  if (result.why) office.reads.delete(key);
-  return result;
-};
+// Like outputOf, but sends the order once until the list of wards changes.
+const outputOnce = (...words) => once(`print ${words.join(' ')}`, () => outputOf(...words));
 
 // Downloads a text as a file.
 const saveAs = (name, text, type = 'text/plain') => {

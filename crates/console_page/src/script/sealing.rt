@@ -18,9 +18,10 @@ const sealChecks = (ward, batches) => {
   const twins = batches.filter((it) => it.twin);
   const copy = stored('copy');
   const isCopied = Boolean(copy) && Date.now() - copy.at < COPY_AFTER;
-  const differs = expected - ward.papers_given_out;
+  const {givenOut} = papersIn(batches);
+  const differs = expected - givenOut;
   const compared = !expected ? 'The number of expected papers is missing. Enter it above.'
-    : differs ? `${papersOf(ward.papers_given_out)} given out, but ${expected.toLocaleString('en')} expected: ${papersOf(Math.abs(differs))} too ${differs > 0 ? 'few' : 'many'}.`
+    : differs ? `${papersOf(givenOut)} given out, but ${expected.toLocaleString('en')} expected: ${papersOf(Math.abs(differs))} too ${differs > 0 ? 'few' : 'many'}.`
       : `All expected papers were given out: ${expected.toLocaleString('en')}`;
   return {
     isReady: ward.taken === ward.batches && !ward.doubtful_open, isSure: expected > 0 && !differs && !twins.length,

@@ -55,6 +55,7 @@ DRAW.doubtful = async (isNow) => {
     return fill(at('judged'));
   }
   const open = says.papers.filter((it) => it.verdict === 'open');
+  document.body.classList.toggle('judging', open.length > 0);
   judging.candidates = says.candidates;
   const isOpen = open.some((it) => it.batch === judging.batch && it.paper === judging.paper) && judging.ward === ward.ward;
   if (!isOpen && open.length) choosePaper(ward.ward, open[0]);

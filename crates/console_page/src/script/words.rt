@@ -38,6 +38,7 @@ const preferencesOf = (candidates, numbers) =>
     ...numbers.map((it, place) => made('span', {className: 'preference'}, made('i', {}, `${place + 1}.`), ' ', isolated(nameIn(candidates, it).name))));
 
 const isUncontested = (ward) => ward.phase !== 'nominations' && ward.candidates <= ward.seats;
+const wasSealed = (ward) => ward?.phase === 'sealed' || ward?.phase === 'declared';
 
 // Returns how long ago something was.
 const ago = (time) => {
