@@ -22,7 +22,8 @@ from office_tools.web import HERE, ask, request
 CODE = "kf7m2wxth4dnw3hd4psn"
 WIDTH, HEIGHT = 1920, 1080
 NAMES = ["Ann Baird", "Bob Cairns", "Catriona MacGillivray-Stewart", "Dee Drummond", "Ewan Forsyth", "Flora Geddes"]
-PAPERS = ["1,2,,,,"] * 40 + ["1,,2,,,"] * 20 + [",1,2,,,"] * 12 + [",,1,2,,"] * 18 + [",,,1,2,"] * 9 + [",,,2,1,"] * 9 + [",,,,,1"] * 8 + ["D"]
+PAPERS = [*["1,2,,,,"] * 40, *["1,,2,,,"] * 20, *[",1,2,,,"] * 12, *[",,1,2,,"] * 18, *[",,,1,2,"] * 9, *[",,,2,1,"] * 9, *[",,,,,1"] * 8,
+          "D"]
 TARGETS = ("/screen/wards", "/", "/wards/7/sheet", "/wards/7/result", "/wards/7/page")
 LETTERS = {"E": "Elected", "e": "Elected", "x": "Excluded", "-": ""}
 # What a row of the chart shows, as a line of the sheet has it.
@@ -30,7 +31,8 @@ ROWS = """[...document.querySelectorAll('#bars li')].map((it) => [it.querySelect
     it.querySelector('.standing'), it.querySelector('.name')].map((each) => each.textContent))"""
 # The elements that are wider or taller than their places.
 CUT = """[document.documentElement, ...document.querySelectorAll('#which, #title, #view, #view > *, .name, .state, .standing, .votes')]
-    .filter((it) => it.scrollWidth > it.clientWidth + 1 || it.className === 'name' && it.firstChild.getBoundingClientRect().height > it.clientHeight
+    .filter((it) => it.scrollWidth > it.clientWidth + 1
+        || it.className === 'name' && it.firstChild.getBoundingClientRect().height > it.clientHeight
         || !/state|standing|votes/.test(it.className) && it.scrollHeight > it.clientHeight + 1)
     .map((it) => `${it.tagName} ${it.id || it.className}: ${it.textContent.slice(0, 60)}`)"""
 PLAYS = ("evening", "longest", "many", "ties")
@@ -213,9 +215,9 @@ def keys(screen):
 
 
 def longest(screen, folder):
-    """Shows thirty candidates for fifteen seats, with names that have 120 bytes, look like markup, or change the direction of writing."""
-    names = [*LARGE[-2:], "A" * 120, "\u05d0" * 60, "Maximiliane " * 9 + "Oberhuber-F.", "\u0627\u062d\u0645\u062f, 2 Bob", "\u0085x", "=1+1"]
-    names += [f"{number} {'Featherstonehaugh-Marjoribanks ' * 4}"[:120].strip() for number in range(9, 31)]
+    """Shows thirty candidates for fifteen seats: names have 120 bytes, look like markup, or change the direction of writing."""
+    names = [*LARGE[-2:], "A" * 120, "\u05d0" * 60, "Maximiliane " * 9 + "Oberhuber-F.", "\u0627\u062d\u0645\u062f, 2 Bob"]
+    names += ["\u0085x", "=1+1"] + [f"{number} {'Featherstonehaugh-Marjoribanks ' * 4}"[:120].strip() for number in range(9, 31)]
     chance, papers = random.Random(3), []
     for _ in range(300):
         order = sorted(chance.sample(range(30), 20), key=lambda place: place + chance.randrange(30))
@@ -238,7 +240,7 @@ def longest(screen, folder):
             screen.picture(f"40-longest-{ward}-declared")
         screen.go(0)
         screen.picture("40-longest-list")
-        if screen.browser.value("document.querySelectorAll('img, #view script').length") or "marked" in screen.browser.value("document.title"):
+        if screen.browser.value("document.querySelectorAll('img, #view script').length || document.title === 'marked'"):
             raise Wrong("a name is markup")
 
 

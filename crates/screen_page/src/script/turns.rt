@@ -69,13 +69,13 @@ const placeFrom = (all, {ward, part}, by) => {
   return later < 0 ? 0 : later;
 };
 
-// Goes to the next turn. Every other time a ward with something new comes first.
+// Goes to the next turn. If nothing is new there, every other time a ward with something new comes first.
 const nextTurn = () => {
   const all = turns();
   if (!all.length) return;
   const next = all[placeFrom(all, shown.turn, 1)];
-  const news = shown.isNews ? undefined : office.wards.find((it) => hasNews(it) && it.ward !== next.ward);
-  shown.isNews = Boolean(news) && hasNews(news);
+  const news = shown.isNews || hasNews(next) ? undefined : office.wards.find(hasNews);
+  shown.isNews = Boolean(news);
   if (!news) shown.turn = next;
   showTurn(news ?? next);
 };
