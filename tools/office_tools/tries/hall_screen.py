@@ -81,6 +81,7 @@ class Screen:
             self.browser.until("document.getAnimations().length === 0")
         if cut := self.browser.value(CUT):
             raise Wrong(f"{name}: cut off: {cut[:5]}")
+        self.browser.value(f"(() => {{ document.getElementById('keys').hidden = {'false' if 'held' in name else 'true'}; }})()")
         if self.pictures:
             (self.pictures / f"{name}.png").write_bytes(self.browser.picture())
 
@@ -264,6 +265,7 @@ def many(screen, folder):
         pages = screen.browser.value("turns().filter((it) => it.ward === 0).length")
         for page in range(pages):
             screen.browser.value(f"(() => {{ showTurn({{ward: 0, part: {page}}}); draw(); }})()")
+            screen.shows(f"Wards {24 * page + 1} to {min(24 * page + 24, 99)}", part="which")
             screen.picture(f"50-many-{page + 1}")
         if found := screen.browser.value("turns().length") != pages + 39:
             raise Wrong(f"{found} turns")

@@ -18,8 +18,19 @@ const stateOf = (ward) => {
   return count.stages.length ? `Stage ${count.stages.length} counted` : 'Sealed, to be counted';
 };
 
-const drawList = (page) => {
-  const listedWards = office.wards.slice(page * LISTED, (page + 1) * LISTED);
+// Returns the wards on the page of the list that is shown.
+const wardsOfList = () => {
+  const page = Math.min(shown.part, Math.ceil(office.wards.length / LISTED) - 1);
+  return office.wards.slice(page * LISTED, (page + 1) * LISTED);
+};
+
+const listName = () => {
+  const {wards} = office, these = wardsOfList();
+  return these.length < wards.length ? `Wards ${these[0].ward} to ${these.at(-1).ward}` : wards.length ? 'All wards' : '';
+};
+
+const drawList = () => {
+  const listedWards = wardsOfList();
   const rows = listedWards.map((it) => made('li', {className: it.phase}, made('b', {className: 'number'}, String(it.ward)),
     made('span', {className: 'name'}, isolated(it.name)), made('span', {className: 'state'}, stateOf(it))));
   const list = made('ol', {id: 'wards', className: rows.length > ONE_COLUMN ? 'two' : 'one'}, ...rows);
@@ -72,7 +83,7 @@ const drawView = () => {
   const ward = wardAt(shown.ward);
   if (office.text === null) return drawLarge(made('p', {}, 'Waiting for the office'));
   if (!office.wards.length) return drawLarge(made('p', {}, 'There are no wards yet'));
-  return ward ? drawWard(ward) : drawList(Math.min(shown.part, Math.ceil(office.wards.length / LISTED) - 1));
+  return ward ? drawWard(ward) : drawList();
 };
 
 // ---- around the view
@@ -88,7 +99,7 @@ const draw = () => {
   const ward = wardAt(shown.ward), declared = office.wards.filter((it) => it.phase === 'declared').length;
   document.title = office.title || 'The count';
   at('title').textContent = shownName(office.title);
-  fill(at('which'), ward ? wardName(ward) : office.wards.length ? 'All wards' : '');
+  fill(at('which'), ward ? wardName(ward) : listName());
   for (const id of ['title', 'which']) fit(at(id));
   at('changed').textContent = office.changed ? `Last change at ${clock(office.changed)}` : office.since ? `No change since ${clock(office.since)}` : '';
   at('place').textContent = office.wards.length ? `${declared} of ${many(office.wards.length, 'ward')} declared` : '';
