@@ -216,7 +216,8 @@ fn read_behind<'a, R: Source>(
     behind: &[u8],
 ) -> Result<HttpRequest<'a>, ReadFailure>
     requires { R.failed reader.old < 2 ^ 64 - 1 }
-    ensures asks { IfSome (R.held reader.old) (λ left. IfOk result (λ asked. http_request_entry asked ≡ asked_of (settings_entry settings.entry).gate (settings_entry settings.entry).public head.now.wanted head.now.body
+    ensures asks { IfSome (R.held reader.old) (λ left. IfOk result (λ asked. http_request_entry asked
+        ≡ asked_of (settings_entry settings.entry).gate (settings_entry settings.entry).public head.now.wanted head.now.body
         (behind.now ++ left))) }
     ensures ok { OnOk result (R.failed reader.new ≡ R.failed reader.old) }
     ensures err { IfErr result (IsUnread (R.failed reader.old) (R.failed reader.new)) }
