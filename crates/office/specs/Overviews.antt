@@ -5,11 +5,16 @@ use Rattle.register.specs.declared.refusal.Reason.TheVariants.{NumberOutOfRange,
 use Rattle.register.specs.Ranges.{is_batch_number, is_clerk, is_office, is_ward_number}
 use Rattle.register.specs.Offices.{OfficeState, ReceiptEntry}
 use Rattle.store.specs.Overviews.{BatchView, DifferencesView, DoubtfulPapersView, PapersView, WardView, batch_views_at, differences_at, doubtful_at, papers_at, receipts_of, ward_views}
+use Rattle.store.specs.Memories.{ProgressView, progress_views}
 use Rattle.office.specs.Reads.{found_or}
 
 -- the answer for all wards
 abbrev pub wards_told : OfficeState → Result (List WardView) Reason
 wards_told s = Ok (ward_views s)
+
+-- the answer for the progress of all wards
+abbrev pub progress_told : OfficeState → Result (List ProgressView) Reason
+progress_told s = Ok (progress_views s)
 
 -- the answer for the batches of a ward
 abbrev pub batches_told : OfficeState → ℕ → Result (List BatchView) Reason

@@ -1,5 +1,5 @@
-//! Overviews for the office alone: its wards, the batches of a ward, their doubtful papers, where the keyings of a
-//! batch differ, the papers of a batch as they count, and the receipts. No read changes the state.
+//! Overviews for the office alone: its wards, the progress of all of them, the batches of a ward, their doubtful papers,
+//! where the keyings of a batch differ, the papers of a batch as they count, and the receipts. No read changes the state.
 #![tactic(auto, using(crate::proofs::StopLemmas::stops_of_memory))]
 
 ghost use Rattle.std.specs.Prelude.{◌≡◌, true, map, IfErr, Err};
@@ -7,9 +7,10 @@ ghost use Rattle.sqlite.specs.Held.{state};
 ghost use Rattle.register.specs.Offices.{receipt_entry};
 ghost use Rattle.tables.specs.Reading.{OnlyReads};
 ghost use Rattle.store.specs.Overviews.{ward_view, batch_view, doubtful_papers_view, differences_view, papers_view};
+ghost use Rattle.store.specs.Memories.{progress_view};
 ghost use Rattle.office.specs.Answers.{WhenOpenAt};
 ghost use Rattle.office.specs.Reads.{ReadWhenOpen, StopsBy, ClosesAt};
-ghost use Rattle.office.specs.Overviews.{wards_told, batches_told, doubtful_told, differences_told, papers_told, receipts_told, may_have_receipts};
+ghost use Rattle.office.specs.Overviews.{wards_told, batches_told, doubtful_told, differences_told, papers_told, progress_told, receipts_told, may_have_receipts};
 
 use crate::answers::Stop;
 use crate::open_office::Office;
@@ -17,7 +18,9 @@ use crate::reads::{read, refused};
 use register::ranges::{is_batch_number, is_clerk, is_ward_number};
 use register::{Reason, Receipt};
 use sqlite::Alter;
-use store::{BatchOverview, CountedPapers, Differences, DoubtfulPapers, Fault, WardOverview};
+use store::{
+    BatchOverview, CountedPapers, Differences, DoubtfulPapers, Fault, WardOverview, WardProgress,
+};
 
 /// The office itself, as an actor.
 const OFFICE: u32 = 0;
@@ -58,6 +61,20 @@ impl<S: Alter> Office<S> {
         ensures closed { self.old.closed ≡ true → (result ≡ Err (Stop.Fault Fault.Closed)) × (self.new ≡ self.old) }
     {
         read!(self, is_ward_number(ward) => load_batches(ward), Reason::NoSuchWard)
+    }
+
+    /// Returns the progress of all wards, in the order of their numbers: each with its overview, and those of its batches
+    /// without their twins.
+    ///
+    /// Changes nothing. `Memory` leaves the office open; any other fault closes it. A closed office returns `Closed`.
+    pub fn progress(&mut self) -> Result<Vec<WardProgress>, Stop>
+        ensures reads { ReadWhenOpen (state S.Store) self.old self.new (λ wards. map progress_view wards.items) (λ s. progress_told s) result }
+        ensures same { OnlyReads (state S.Store self.old.held) (state S.Store self.new.held) }
+        ensures closes { IfErr result (ClosesAt self.new.closed) }
+        ensures cause { WhenOpenAt (state S.Store) self.old self.new (λ s. IfErr result (StopsBy (state S.Store self.old.held) (state S.Store self.new.held))) }
+        ensures closed { self.old.closed ≡ true → (result ≡ Err (Stop.Fault Fault.Closed)) × (self.new ≡ self.old) }
+    {
+        read!(self, true => load_progress())
     }
 
     /// Returns the doubtful papers of the batches of a ward that are taken, by batch and paper; and the candidates of
