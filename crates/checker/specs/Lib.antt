@@ -8,12 +8,16 @@ pub mod ForeignComments
 pub mod Names
 pub mod BallotsComments
 pub mod Reading
+pub mod Fields
+pub mod Records
 pub mod Differences
 pub mod Wards
 pub mod Checks
 pub mod Counts
 pub mod BallotsRoundTrip
 pub mod Values
+pub mod FieldViews
+pub mod RecordViews
 pub mod Texts
 pub mod Remedies
 pub mod Reports

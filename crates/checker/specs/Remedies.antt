@@ -31,6 +31,13 @@ flaw_remedy flaw.Twice = codes "(remove one of the two lines)\n"
 flaw_remedy flaw.NoSize = codes "(begin with the highest number of a candidate and the seats, such as 4 2)\n"
 flaw_remedy flaw.NoEnd = codes "(write a line 0 after the papers)\n"
 flaw_remedy flaw.NamesWanting = codes "(write a name for each number, and then the ward's)\n"
+flaw_remedy flaw.Field = codes "(put the whole field in quotation marks, and two for one within it)\n"
+flaw_remedy flaw.NoColumns = codes "(begin with the names of the columns, such as count,Ann,Bob,Cy)\n"
+flaw_remedy flaw.NoColumnName = codes "(write the name of its candidate in the first line)\n"
+flaw_remedy flaw.RankColumn = codes "(give a column to each candidate, with the rank of the candidate on the paper)\n"
+flaw_remedy flaw.TooManyColumns = codes "(a ward has at most 30 candidates)\n"
+flaw_remedy flaw.FieldCount = codes "(write as many fields as the first line has; an empty one has no rank)\n"
+flaw_remedy flaw.NotRank = codes "(write a rank from 1 to 99 in digits, or nothing)\n"
 
 -- about a problem; nothing if the problem says it
 abbrev pub remedy : Problem → Text

@@ -38,6 +38,13 @@ flaw_text flaw.Twice = codes "given a second time"
 flaw_text flaw.NoSize = codes "the file ends before the candidates and seats"
 flaw_text flaw.NoEnd = codes "the file ends before the line 0 behind the papers"
 flaw_text flaw.NamesWanting = codes "the file ends before the ward's name"
+flaw_text flaw.Field = codes "a field is not in quotation marks as a whole"
+flaw_text flaw.NoColumns = codes "the file ends before the line of its columns"
+flaw_text flaw.NoColumnName = codes "a column has no name"
+flaw_text flaw.RankColumn = codes "a column is one of ranks, not of a candidate"
+flaw_text flaw.TooManyColumns = codes "too many candidates"
+flaw_text flaw.FieldCount = codes "another number of fields than columns"
+flaw_text flaw.NotRank = codes "a field is not a rank"
 
 -- the problem that prevents a check
 abbrev pub problem_text : Problem → Text

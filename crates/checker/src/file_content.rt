@@ -62,3 +62,18 @@ pub(crate) struct Reader {
     pub(crate) names: CandidateNames,
     pub(crate) comments: Comments,
 }
+
+/// The content of a file of records so far.
+#[derive(Drop)]
+pub(crate) struct Records {
+    /// Whether the first line is read.
+    pub(crate) headed: bool,
+    /// Whether each line begins with a number of papers.
+    pub(crate) counted: bool,
+    /// The names of the candidates, numbered from 1.
+    pub(crate) names: Vec<String>,
+    pub(crate) papers: PaperTotals,
+    /// The numbers of rejected papers, by code 1 to 5.
+    pub(crate) rejected: [u32; 5],
+    ghost few: { length names.items ≤ max_candidates },
+}

@@ -22,7 +22,7 @@ pub(crate) const COUNT_HELP: &str =
     "Counts the ballots of a ward, without an office, and prints the stage sheet.
 
 Usage: count-office - count <BALLOTS> [--declaration | --page [--title <TEXT>] | --table |
-       --ballots] [--lot <STAGE>:<CANDIDATE>]..
+       --ballots] [--lot <STAGE>:<CANDIDATE>].. [--seats <N> --name <TEXT>]
 
 Arguments:
   <BALLOTS>  The path of the ballots, as the order ballots prints them, or as other programs
@@ -36,6 +36,9 @@ Options:
   --ballots                  Print the ballots and the lots instead
   --lot <STAGE>:<CANDIDATE>  A lot that the ballots don't record: its stage, and the number of
                              the candidate drawn; give one for each such stage
+  --seats <N>                The seats of the ward: the ballots are cast-vote records, a candidate
+                             in each column
+  --name <TEXT>              The name of the ward, with --seats
 
 The status is 0 if the count is finished. It is 1 if a lot is needed: the program prints the
 text for the stages so far, and on standard error the stage and the tied candidates. It is 2 if

@@ -40,7 +40,7 @@ pub(crate) struct Quoted {
 }
 
 /// Returns a name if it is UTF-8 and not too long.
-fn as_text(name: Vec<u8>) -> Result<String, BallotsFlaw>
+pub(crate) fn as_text(name: Vec<u8>) -> Result<String, BallotsFlaw>
     ensures { told_as (λ text. string_bytes text) result ≡ as_text name.items }
 {
     if name.len() > MAX_NAME {

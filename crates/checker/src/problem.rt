@@ -55,6 +55,20 @@ pub enum BallotsFlaw {
     NoEnd,
     /// The file ends before the name of the ward.
     NamesWanting,
+    /// A field is in quotation marks only in part.
+    Field,
+    /// The file ends before its first line.
+    NoColumns,
+    /// A column has no name.
+    NoColumnName,
+    /// A column is one of ranks.
+    RankColumn,
+    /// There are more candidates than a ward can have.
+    TooManyColumns,
+    /// The number of fields isn't that of the columns.
+    FieldCount,
+    /// A field isn't empty, and not a rank from 1 to 99.
+    NotRank,
 }
 
 impl BallotsFlaw {
@@ -90,6 +104,13 @@ impl BallotsFlaw {
             BallotsFlaw::NoSize => "the file ends before the candidates and seats",
             BallotsFlaw::NoEnd => "the file ends before the line 0 behind the papers",
             BallotsFlaw::NamesWanting => "the file ends before the ward's name",
+            BallotsFlaw::Field => "a field is not in quotation marks as a whole",
+            BallotsFlaw::NoColumns => "the file ends before the line of its columns",
+            BallotsFlaw::NoColumnName => "a column has no name",
+            BallotsFlaw::RankColumn => "a column is one of ranks, not of a candidate",
+            BallotsFlaw::TooManyColumns => "too many candidates",
+            BallotsFlaw::FieldCount => "another number of fields than columns",
+            BallotsFlaw::NotRank => "a field is not a rank",
         }
     }
 }

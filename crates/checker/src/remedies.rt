@@ -51,6 +51,17 @@ fn flaw_remedy(flaw: BallotsFlaw) -> &'static str
         }
         BallotsFlaw::NoEnd => "(write a line 0 after the papers)\n",
         BallotsFlaw::NamesWanting => "(write a name for each number, and then the ward's)\n",
+        BallotsFlaw::Field =>
+            "(put the whole field in quotation marks, and two for one within it)\n",
+        BallotsFlaw::NoColumns =>
+            "(begin with the names of the columns, such as count,Ann,Bob,Cy)\n",
+        BallotsFlaw::NoColumnName => "(write the name of its candidate in the first line)\n",
+        BallotsFlaw::RankColumn =>
+            "(give a column to each candidate, with the rank of the candidate on the paper)\n",
+        BallotsFlaw::TooManyColumns => "(a ward has at most 30 candidates)\n",
+        BallotsFlaw::FieldCount =>
+            "(write as many fields as the first line has; an empty one has no rank)\n",
+        BallotsFlaw::NotRank => "(write a rank from 1 to 99 in digits, or nothing)\n",
     }
 }
 

@@ -3,14 +3,16 @@
 ghost use Rattle.std.specs.Prelude.{◌≡◌, Ok, map, option_map, string_bytes, IfOk, IfErr};
 ghost use Rattle.checker.specs.BallotsComments.{is_word as is_word_of};
 ghost use Rattle.checker.specs.Counts.{text_of};
-ghost use Rattle.checker.specs.Requests.{count_request, done_as, is_option, lot_in_word, lot_of, nothing_asked, request_at, text_asked, text_option};
-ghost use Rattle.checker.specs.Requests.{with_any, with_ballots, with_lot, with_next, with_text, with_text_or_ballots, with_title, with_word, with_words};
-ghost use Rattle.checker.specs.RequestViews.{IsRequest, request_told, words_told};
+ghost use Rattle.checker.specs.Requests.{count_request, done_as, form_asked, is_option, lot_in_word, lot_of, nothing_asked, request_at, text_asked, text_option};
+ghost use Rattle.checker.specs.Requests.{with_any, with_ballots, with_lot, with_name, with_seats, with_text, with_title, with_word};
+ghost use Rattle.checker.specs.RequestViews.{IsRequest, form_told, request_told, words_told};
 
 use crate::ballot_counts::CountText;
 use crate::comments::small_in;
+use crate::records_ward::RecordsWard;
 use crate::tokens::{Separator, pieces_of};
 use std::alloc::{AllocError, Global};
+use votes::MAX_SEATS;
 
 /// What the next word is.
 #[derive(Clone, Copy)]
@@ -21,6 +23,10 @@ pub(crate) enum NextWord {
     Title,
     /// A lot.
     Lot,
+    /// The seats of the ward.
+    Seats,
+    /// The name of the ward.
+    Name,
 }
 
 /// An option that asks for a text other than the sheet.
@@ -49,8 +55,12 @@ pub enum WordsFlaw {
     Lot,
     /// There is a title, but no page is asked for.
     TitleAlone,
-    /// There are two titles.
-    SecondTitle,
+    /// An option that can be given once is given twice.
+    SecondTime,
+    /// The seats aren't a number in range.
+    Seats,
+    /// There are seats without a name, or a name without seats.
+    HalfWard,
 }
 
 /// A request to count ballots.
@@ -58,6 +68,8 @@ pub enum WordsFlaw {
 pub(crate) struct CountRequest<'a> {
     /// The path of the ballots.
     pub(crate) ballots: &'a str,
+    /// The ward of cast-vote records; `None` for a BLT file.
+    pub(crate) ward: Option<RecordsWard<'a>>,
     pub(crate) text: CountText<'a>,
     /// Lots that the file doesn't have.
     pub(crate) lots: Vec<(u8, u8)>,
@@ -71,6 +83,8 @@ pub(crate) struct CountWords<'a> {
     text: Option<TextOption>,
     title: Option<&'a str>,
     lots: Vec<(u8, u8)>,
+    seats: Option<u8>,
+    name: Option<&'a str>,
 }
 
 /// Returns the text that an option asks for.
@@ -131,6 +145,8 @@ impl<'a> CountWords<'a> {
             text: None,
             title: None,
             lots: Vec::new(alloc),
+            seats: None,
+            name: None,
         }
     }
 
@@ -166,10 +182,37 @@ impl<'a> CountWords<'a> {
         ensures { done_as result (words_told self.new) ≡ with_title (words_told self.old) title.now }
     {
         if self.title.is_some() {
-            return Err(WordsFlaw::SecondTitle);
+            return Err(WordsFlaw::SecondTime);
         }
         self.next = NextWord::Any;
         self.title = Some(title);
+        Ok(())
+    }
+
+    /// Stores the seats of the ward.
+    fn take_seats(&mut self, word: &str) -> Result<(), WordsFlaw>
+        ensures { done_as result (words_told self.new) ≡ with_seats (words_told self.old) word.now }
+    {
+        if self.seats.is_some() {
+            return Err(WordsFlaw::SecondTime);
+        }
+        let Some(seats) = small_in(word.as_bytes()) else {
+            return Err(WordsFlaw::Seats);
+        };
+        self.next = NextWord::Any;
+        self.seats = Some(seats);
+        Ok(())
+    }
+
+    /// Stores the name of the ward.
+    fn take_name(&mut self, name: &'a str) -> Result<(), WordsFlaw>
+        ensures { done_as result (words_told self.new) ≡ with_name (words_told self.old) name.now }
+    {
+        if self.name.is_some() {
+            return Err(WordsFlaw::SecondTime);
+        }
+        self.next = NextWord::Any;
+        self.name = Some(name);
         Ok(())
     }
 
@@ -197,6 +240,14 @@ impl<'a> CountWords<'a> {
             self.next = NextWord::Title;
             return Ok(());
         }
+        if word == "--seats" {
+            self.next = NextWord::Seats;
+            return Ok(());
+        }
+        if word == "--name" {
+            self.next = NextWord::Name;
+            return Ok(());
+        }
         match text_option(word) {
             Some(text) => self.take_text(text),
             None => self.take_ballots(word),
@@ -214,6 +265,8 @@ impl<'a> CountWords<'a> {
                 let lot = lot_in_word(alloc, word)?;
                 self.take_lot(lot)
             }
+            NextWord::Seats => Ok(self.take_seats(word)),
+            NextWord::Name => Ok(self.take_name(word)),
         }
     }
 
@@ -224,14 +277,18 @@ impl<'a> CountWords<'a> {
     {
         match self.next {
             NextWord::Any => {}
-            NextWord::Title | NextWord::Lot => return Err(WordsFlaw::NoValue),
+            NextWord::Title | NextWord::Lot | NextWord::Seats | NextWord::Name => {
+                return Err(WordsFlaw::NoValue);
+            }
         }
         let Some(ballots) = self.ballots else {
             return Err(WordsFlaw::NoBallots);
         };
         let text = text_asked(self.text, self.title)?;
+        let ward = ward_asked(self.seats, self.name)?;
         Ok(CountRequest {
             ballots,
+            ward,
             text,
             lots: self.lots,
         })
@@ -254,6 +311,26 @@ fn text_asked<'a>(
         (Some(TextOption::Page), None) => Ok(CountText::Page("")),
         (Some(TextOption::Table), None) => Ok(CountText::Table),
         (Some(TextOption::Ballots), None) => Ok(CountText::Ballots),
+    }
+}
+
+/// Returns the ward of cast-vote records, if its seats and its name are given.
+fn ward_asked<'a>(
+    seats: Option<u8>,
+    name: Option<&'a str>,
+) -> Result<Option<RecordsWard<'a>>, WordsFlaw>
+    ensures ok { IfOk result (λ ward. form_asked seats (option_map (λ t. t.now) name.entry) ≡ Ok (form_told ward)) }
+    ensures err { IfErr result (λ flaw. form_asked seats (option_map (λ t. t.now) name.entry) ≡ Err flaw) }
+{
+    match (seats, name) {
+        (None, None) => Ok(None),
+        (Some(seats), Some(name)) => {
+            if seats < 1 || seats > MAX_SEATS {
+                return Err(WordsFlaw::Seats);
+            }
+            Ok(Some(RecordsWard { seats, name }))
+        }
+        (Some(_), None) | (None, Some(_)) => Err(WordsFlaw::HalfWard),
     }
 }
 

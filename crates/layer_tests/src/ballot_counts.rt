@@ -3,7 +3,7 @@
 
 use crate::checker_texts::{BALLOTS, DECLARATION, SHEET};
 use crate::sheet_outputs::is_text;
-use checker::{CountProblem, CountText, CountedText, count_ballots};
+use checker::{CountProblem, CountText, CountedText, RecordsWard, count_ballots, count_records};
 use std::alloc::{AllocError, Global};
 use std::process::Abort;
 use std::test::Fail;
@@ -192,6 +192,103 @@ fn shows_page(rt: &(impl Abort + AllocGlobal), ballots: &str, declared: bool) ->
     Ok(())
 }
 
+/// Cast-vote records of a ward, with a byte order mark, carriage returns and an empty line; one paper has no first preference, and
+/// two have several.
+const RECORDS: &str = "\u{feff}count,\"Ann \"\"A\"\", jr.\",Bob,Cy\r
+4,1,2,\r
+\r
+2,1,,2\r
+1,,1,\r
+2,,,1\r
+1,,2,\r
+2,1,1,2\r
+";
+
+/// The ballots that they are.
+const RECORDED: &str = r#"3 2
+4 1 2 0
+2 1 3 0
+1 2 0
+2 3 0
+0
+"Ann \"A\", jr."
+"Bob"
+"Cy"
+"Harbour"
+# Ward 1
+# Rejected 1: 1, 2: 2, 3: 0, 4: 0, 5: 0
+"#;
+
+/// Records that aren't understood, and the first such line.
+const NOT_RECORDS: [(&str, &str); 10] = [
+    (
+        "",
+        "line 1 of the ballots: the file ends before the line of its columns",
+    ),
+    ("Ann,", "line 1 of the ballots: a column has no name"),
+    (
+        "rank1,rank2",
+        "line 1 of the ballots: a column is one of ranks, not of a candidate",
+    ),
+    (
+        "Ann,B\"ob",
+        "line 1 of the ballots: a field is not in quotation marks as a whole",
+    ),
+    (
+        "Ann,\"Bob",
+        "line 1 of the ballots: a quotation mark is not closed",
+    ),
+    (
+        "Ann,Bob,Cy\n1,2",
+        "line 2 of the ballots: another number of fields than columns",
+    ),
+    (
+        "Ann,Bob,Cy\n1,2,x",
+        "line 2 of the ballots: a field is not a rank",
+    ),
+    (
+        "Ann,Bob,Cy\n1,2,\n1,02,",
+        "line 3 of the ballots: a field is not a rank",
+    ),
+    (
+        "count,Ann,Bob,Cy\n0,1,2,",
+        "line 2 of the ballots: no papers",
+    ),
+    (
+        "count,Ann,Bob,Cy\n,1,2,",
+        "line 2 of the ballots: a word is not a number",
+    ),
+];
+
+/// Counts the records of a ward, and returns what comes of it, in words.
+fn recorded(alloc: Global, records: &str, text: &CountText) -> Result<String, AllocError> {
+    let ward = RecordsWard {
+        seats: 2,
+        name: "Harbour",
+    };
+    match count_records(alloc, &ward, records.as_bytes(), &[], text) {
+        Ok(counted) => Ok(counted.text),
+        Err(problem) => words_of(alloc, &problem),
+    }
+}
+
+/// Records are counted as the ballots that they are.
+fn counts_records(rt: &(impl Abort + AllocGlobal)) -> Result<(), Fail> {
+    let ballots = recorded(rt.alloc(), RECORDS, &CountText::Ballots)?;
+    is_text(rt, ballots.as_str(), RECORDED);
+    let sheet = recorded(rt.alloc(), RECORDS, &CountText::Sheet)?;
+    let wanted = counted(rt.alloc(), RECORDED, &[], &CountText::Sheet)?;
+    is_text(rt, sheet.as_str(), wanted.text.as_str());
+    for (records, flaw) in &NOT_RECORDS {
+        is_text(
+            rt,
+            recorded(rt.alloc(), *records, &CountText::Sheet)?.as_str(),
+            *flaw,
+        );
+    }
+    Ok(())
+}
+
 #[test]
 fn ballots_are_counted(rt: HostRuntime) -> Result<(), Fail> {
     for case in &COUNTED {
@@ -201,5 +298,6 @@ fn ballots_are_counted(rt: HostRuntime) -> Result<(), Fail> {
         refuses(&rt, case)?;
     }
     shows_page(&rt, BALLOTS, true)?;
-    shows_page(&rt, TIED, false)
+    shows_page(&rt, TIED, false)?;
+    counts_records(&rt)
 }
