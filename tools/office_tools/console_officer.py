@@ -1,17 +1,14 @@
-"""A returning officer who uses the console in Chromium, and an office that serves it, or for which console_mock.py does."""
+"""A returning officer who uses the console in Chromium, and an office that serves it."""
 import contextlib
 import json
-import os
 import re
 import time
 
 from office_tools.browser import Browser
-from office_tools.console_mock import ConsoleMock
-from office_tools.election import CODES
-from office_tools.office import SCRIPT, TOWN, Office, Wrong, free_port, temporary_folder
+from office_tools.election import CODES, OFFICE_CODE
+from office_tools.office import SCRIPT, Office, Wrong, free_port, temporary_folder
 from office_tools.web import HERE, Proxy
 
-CODE, TITLE = "kf7m2wxth4dnw3hd4psn", "Election of 6 May 2027, Harbour Council"
 SECTIONS = ["overview", "nominations", "batches", "doubtful", "count", "journal"]
 WIDTHS = ((1280, 800), (800, 600), (400, 800))
 # What has the focus: its key, its id, and the id of the list that it opens.
@@ -30,7 +27,7 @@ class Officer:
 
     def log_in(self, part=""):
         """Opens the console. The browser has the login from then on, as if it had been typed when the browser asked for it."""
-        self.browser.open(self.evening.address(login=f"office:{CODE}@"))
+        self.browser.open(self.evening.address(login=f"office:{OFFICE_CODE}@"))
         self.open(part)
 
     def open(self, part=""):
@@ -117,7 +114,7 @@ class Officer:
 
     def said(self):
         """Returns what the browser's console was told, but for what was done on purpose: connections that broke, and denials."""
-        return [line for line in self.browser.said() if not re.search("ERR_|status of (401|413|503)|Clear-Site-Data", line)]
+        return [line for line in self.browser.said() if not re.search("ERR_|status of (401|503)|Clear-Site-Data", line)]
 
     def picture(self, name):
         """Writes pictures of the whole page, if they are asked for. Nothing is wider than the window."""
@@ -135,18 +132,14 @@ class Officer:
 class Evening:
     """An office and its console, the proxy through which the browser reaches it, and the folder for pictures."""
 
-    def __init__(self, folder, pictures, is_served):
-        self.folder, self.pictures, self.is_served = folder, pictures, is_served
+    def __init__(self, folder, pictures):
+        self.folder, self.pictures = folder, pictures
         self.office, self.line = Office(folder / "console").begin(), Proxy(free_port())
         self.start()
 
-    def start(self, code=CODE):
-        """Serves the office, by the program itself or by its stand-in."""
-        if self.is_served:
-            self.office.write_codes(CODES | {"office": code})
-            self.server = self.office.serve("--codes", "codes.txt", port=self.line.office).wait()
-        else:
-            self.server = ConsoleMock(self.office.folder / TOWN, code, self.line.office)
+    def start(self):
+        self.office.write_codes(CODES | {"office": OFFICE_CODE})
+        self.server = self.office.serve("--codes", "codes.txt", port=self.line.office).wait()
 
     def address(self, part="", login=""):
         return f"http://{login}{HERE}:{self.line.port}/office/{part}"
@@ -167,14 +160,12 @@ class Evening:
 
 
 @contextlib.contextmanager
-def played(kind, pictures, program):
-    """Begins an evening with a browser: over `serve` of a program, if one is named, else over the stand-in. Checks how it ended."""
-    if program:
-        os.environ["COUNT_OFFICE"] = program
+def played(kind, pictures):
+    """Begins an evening with a browser, and checks how it ended."""
     if pictures:
         pictures.mkdir(parents=True, exist_ok=True)
     with temporary_folder() as folder, Browser() as browser:
-        evening = kind(folder, pictures, bool(program))
+        evening = kind(folder, pictures)
         officer = Officer(browser, evening)
         with evening.line:
             try:

@@ -129,6 +129,7 @@ def execute(path, *statements):
 
 
 CODES = {4: "kf7m-2wxt-h4dn", 9: "w3hd-4psn-7kfr"}
+OFFICE_CODE = "kf7m-2wxt-h4dn-p3cs"
 SMALL = ["Ann", "Bob", "Cy", "Dee", "Maximiliane Oberhuber-Featherstonehaugh of the Old Harbour Road"]
 LARGE = [*(f"Candidate {c}" for c in range(1, 29)), "<img src=x onerror=document.title='marked'>", "\u202eesrever\u2066 in"]
 

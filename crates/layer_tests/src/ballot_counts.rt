@@ -164,18 +164,26 @@ fn words_of(alloc: Global, problem: &CountProblem) -> Result<String, AllocError>
     }
 }
 
+/// Why ballots aren't counted.
+fn problem_of(alloc: Global, ballots: &str, lots: &[(u8, u8)]) -> Result<CountProblem, Fail> {
+    match count_ballots(alloc, ballots.as_bytes(), lots, &CountText::Sheet) {
+        Ok(text) => {
+            drop(text);
+            Err(Fail::from("counted"))
+        }
+        Err(problem) => Ok(problem),
+    }
+}
+
 /// Ballots aren't counted, for this reason.
 fn refuses(
     rt: &(impl Abort + AllocGlobal),
     (ballots, lots, wanted): &(&str, &[(u8, u8)], &str),
 ) -> Result<(), Fail> {
-    match count_ballots(rt.alloc(), ballots.as_bytes(), *lots, &CountText::Sheet) {
-        Ok(_) => Err(Fail::from("counted")),
-        Err(problem) => {
-            is_text(rt, words_of(rt.alloc(), &problem)?.as_str(), *wanted);
-            Ok(())
-        }
-    }
+    let problem = problem_of(rt.alloc(), *ballots, *lots)?;
+    let words = words_of(rt.alloc(), &problem)?;
+    is_text(rt, words.as_str(), *wanted);
+    Ok(())
 }
 
 /// The page of ballots has this title, and says whether the result is declared.

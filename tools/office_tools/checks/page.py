@@ -3,14 +3,14 @@
 A page of crates/keying_page or crates/console_page is ASCII, has one script and one style, loads nothing from elsewhere, makes no markup
 of a text, and has no style or handler in an attribute, which its policy forbids. The page and the policy that the code of the crate makes
 are those of the crate's definitions, byte for byte, and the policy has the SHA-256 of the page's script and style. If COUNT_OFFICE names a
-program, it serves an office, and the clerks' page and the policy of its response are compared with the sources, byte for byte.
+program, it serves an office, and both pages and the policies of their responses are compared with the sources, byte for byte.
 """
 import base64
 import hashlib
 import os
 import re
 
-from office_tools.election import CODES, evening_office
+from office_tools.election import CODES, OFFICE_CODE, evening_office
 from office_tools.office import ROOT, temporary_folder
 from office_tools.web import basic, request
 
@@ -21,8 +21,8 @@ HASHED = re.compile(r"let (\w+) = hash_source\(alloc, (\w+)\.as_bytes\(\)\)")
 PIECE = re.compile(r'codes "([^"]*)"|([A-Z]+)\.now|hash_source (\w+)|\b(?:its_)?(script|style)\b')
 PAGES = KEYING, CONSOLE = "keying_page", "console_page"
 PARTS, CLERK = ("script", "style"), 4
-# Where a program serves a page, and to whom. No program serves the console yet.
-SERVED = {KEYING: (f"/clerks/{CLERK}/", CLERK, CODES[CLERK])}
+# Where a program serves a page, and to whom.
+SERVED = {KEYING: (f"/clerks/{CLERK}/", CLERK, CODES[CLERK]), CONSOLE: ("/office/", "office", OFFICE_CODE)}
 FORBIDDEN = {
     "a text from elsewhere": r"""(?i)\b(src|href)\s*=(?!\s*["']?data:,)|@import|\burl\(|https?://""",
     "markup made of a text": r"innerHTML|outerHTML|insertAdjacentHTML|document\.write|\beval\b|new Function|DOMParser",
@@ -88,7 +88,7 @@ def wrong_defined(crate):
 
 def wrong_served(crate, target, name, code):
     """Returns what of the page that a program serves at a target, and of its policy, is otherwise than in the sources."""
-    with temporary_folder() as folder, evening_office(folder).serve("--codes", "codes.txt") as serving:
+    with temporary_folder() as folder, evening_office(folder, CODES | {"office": OFFICE_CODE}).serve("--codes", "codes.txt") as serving:
         head, _, served = serving.ask(request(target, f"Authorization: {basic(name, code)}")).decode().partition("\r\n\r\n")
     page, policy = page_of_sources(crate)
     told = re.search(r"(?i)^content-security-policy: (.*?)\r?$", head, re.M)[1]

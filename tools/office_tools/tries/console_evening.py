@@ -1,21 +1,21 @@
 """Plays the guide's evening on the officer's console in Chromium, partly by keyboard alone, and compares the result with typed orders.
 
 Tellers' keyings are dropped on the console as files, and one is typed as an order beside it. Connections break after an order was done,
-the server stops for a while, the page is reloaded while an order is being sent, two consoles are open, the file can't be read, and a
-wrong code and a page from elsewhere are denied. While nothing changes, the console asks for nothing but the list of wards. At the end the
-office has the rows that the typed orders make, except for the ids. Pictures at 1280, 800 and 400 pixels go into the folder PICTURES.
-console_mock.py stands in for the server; with --program PATH this program serves the console itself. It needs `chromium`,
-`chromium-driver` and `python3-selenium`.
+the server stops for a while, the page is reloaded while an order is being sent, two consoles are open, the file is gone, and a wrong code
+and a page from elsewhere are denied. While nothing changes, the console asks for nothing but the list of wards. At the end the office has
+the rows that the typed orders make, except for the ids. Pictures at 1280, 800 and 400 pixels go into the folder PICTURES. It needs
+`chromium`, `chromium-driver` and `python3-selenium`.
 """
 import json
-import sqlite3
 import time
 from pathlib import Path
 
-from office_tools.console_officer import CODE, TITLE, Evening, Officer, played
+from office_tools.console_officer import Evening, Officer, played
+from office_tools.election import OFFICE_CODE
 from office_tools.office import TOWN, Office, Wrong, waited
 from office_tools.web import ask, basic, request, status
 
+TITLE = "Election of 6 May 2027, Harbour Council"
 NAMES = ["ward,candidate,name", "7,2,Bob", "7,3,Cy", "7,4,Dee", "7,5,Gil", '8,1,"Eve, jr"', "8,2,Fay"]
 HEAD = {batch: {clerk: f"paper {batch}/{clerk},1,2,3,4" for clerk in (4, 5, 9)} for batch in (12, 13)}
 TWELVE = ["1,1,2,,", "2,1,2,,", "3,1,2,,", "4,1,,2,", "5,1,,,2", "6,D,,,", "7,1,,,", "8,,,,"]
@@ -92,9 +92,9 @@ class GuideEvening(Evening):
 
     def elsewhere(self):
         """Checks that a wrong code, a clerk's name and a page from elsewhere are denied."""
-        right = f"Authorization: {basic('office', CODE)}"
+        right = f"Authorization: {basic('office', OFFICE_CODE)}"
         for headers, wanted in (((), 401), ((f"Authorization: {basic('office', 'wrong')}",), 401),
-                                ((f"Authorization: {basic('4', CODE)}",), 401), ((right, "Origin: http://elsewhere.example"), 403),
+                                ((f"Authorization: {basic('4', OFFICE_CODE)}",), 401), ((right, "Origin: http://elsewhere.example"), 403),
                                 ((right, "Sec-Fetch-Site: cross-site"), 403), ((right,), 200)):
             if (found := status(ask(self.line.port, request("/office/wards", *headers)))) != wanted:
                 raise Wrong(f"{headers}: {found}")
@@ -256,7 +256,9 @@ class GuideEvening(Evening):
         officer.asked("All expected papers were given out: 14")
         officer.picture("20-ask-seal")
         officer.yes("Seal Ward 7", said="ward 7 sealed: 12 valid, 2 rejected, quota 5.00000")
-        self.locked(officer)
+        officer.shows("Next: stage 1", "count-now")
+        officer.click("advance")
+        officer.yes("the first preferences", said="ward 7 stage 1 first preferences")
         self.in_two_consoles(officer)
         officer.shows("Next: a lot", "count-now")
         officer.picture("22-lot")
@@ -287,24 +289,6 @@ class GuideEvening(Evening):
                 officer.yes(said="ward 7 stage 2 surplus of 1")
         if " 2 stages" not in (printed := self.office.do("wards")):
             raise Wrong(f"two consoles: {printed}")
-
-    def locked(self, officer):
-        """Another program locks the file, so the order fails. It is sent again with its id, and done once."""
-        officer.shows("Next: stage 1", "count-now")
-        officer.click("advance")
-        officer.asked("the first preferences")
-        if self.is_served:
-            # It holds the file, so nobody else can lock it.
-            return officer.yes(said="ward 7 stage 1 first preferences")
-        holder = sqlite3.connect(self.office.folder / TOWN, isolation_level=None)
-        holder.execute("BEGIN EXCLUSIVE")
-        officer.browser.press("y")
-        officer.shows("Fault 102: store", "unsent")
-        officer.picture("21-fault")
-        holder.execute("ROLLBACK")
-        holder.close()
-        officer.click("send-again")
-        return officer.shows("ward 7 stage 1 first preferences")
 
     def declaring(self, officer):
         officer.shows("Next: the declaration", "count-now")
@@ -361,13 +345,13 @@ class GuideEvening(Evening):
         for field, value in (("number", 9), ("seats", 2), ("name", "Shore")):
             officer.type(f"ward-{field}", value)
         browser.press("Enter")
-        officer.yes("Add ward 9", said="fault 113" if self.is_served else "fault 105")
+        officer.yes("Add ward 9", said="fault 113")
         officer.go("overview")
         officer.picture("29-file-gone")
         town.with_suffix(".away").rename(town)
         browser.until("!document.getElementById('health').classList.contains('down')")
 
 
-def main(pictures: Path = None, *, program: str = ""):
-    with played(GuideEvening, pictures, program) as (evening, officer):
+def main(pictures: Path = None):
+    with played(GuideEvening, pictures) as (evening, officer):
         evening.play(officer)

@@ -3,9 +3,8 @@
 Names that look like markup, that change the direction of writing, or that have 120 bytes are shown as names. Another office is served at
 the same address, and the console asks whether it is the right one. A script of batches is refused halfway, and a file is too large. Twelve
 tellers key 22 batches, some of which differ, 19 doubtful papers are judged by keyboard, and each lot is recorded. Then 99 wards and 9,999
-batches are shown, and the time to draw them is printed. console_mock.py stands in for the server; with --program PATH this program serves
-the console itself. --only PLAY plays one of names, refused, evening_of_tellers and large. Pictures at 1280, 800 and 400 pixels go into the
-folder PICTURES. It needs `chromium`, `chromium-driver` and `python3-selenium`.
+batches are shown, and the time to draw them is printed. --only PLAY plays one of names, refused, evening_of_tellers and large. Pictures at
+1280, 800 and 400 pixels go into the folder PICTURES. It needs `chromium`, `chromium-driver` and `python3-selenium`.
 """
 import json
 import random
@@ -92,10 +91,9 @@ class HostileEvening(Evening):
             raise Wrong(f"the rest to give out is {left}")
         browser.value("(document.getElementById('bring').open = true)")
         officer.drop("drop-keyings", large=["paper 3/4,1,2,3,4", *["1,1,2,3,4"] * 120000])
-        officer.shows("too large for the console", "unsent")
+        officer.shows("not sent", "brought")
+        officer.shows("too large for the console")
         officer.picture("47-too-large")
-        officer.click("discard")
-        browser.until("document.getElementById('unsent').hidden && pendingOrders().length === 0")
         officer.tab_to("sign-out")
         browser.press("Enter")
         browser.until("document.body.innerText.includes('You have signed out')")
@@ -249,9 +247,6 @@ class HostileEvening(Evening):
         batches = {ward: [(it, 500, it % 20 * 2 + 1, it % 20 * 2 + 2) for it in range(ward, 10000, 99)] for ward in range(1, 100)}
         self.another([line for ward, given in batches.items()
                       for line in ward_orders(*given, candidates=numbered(5), seats=3, ward=ward, name=f"Ward name {ward}")])
-        for ward in batches if not self.is_served else ():
-            # The stand-in runs an order for each ward, and keeps its output.
-            self.server.machine.batches(str(ward))
         officer.log_in()
         table = Table("section", "milliseconds to draw")
         is_read, seconds = timed(waited, lambda: browser.value("office.wards.length === 99 && !office.wards.some(isStale)"), 600)
@@ -276,7 +271,7 @@ class HostileEvening(Evening):
         return officer.browser.value(DRAWN)
 
 
-def main(pictures: Path = None, *, only: str = "", program: str = ""):
+def main(pictures: Path = None, *, only: str = ""):
     for play in [only] if only else PLAYS:
-        with played(HostileEvening, pictures, program) as (evening, officer):
+        with played(HostileEvening, pictures) as (evening, officer):
             getattr(evening, play)(officer)

@@ -39,7 +39,7 @@ const bringFile = async (file) => {
     ['import-keying', heading.clerk, heading.batch, round, name, '--id', newId()], {[name]: text});
   const what = `Batch ${heading.batch}, teller ${heading.clerk}, round ${round}`;
   if (isAccepted(printed)) return {name: file.name, text: `${what}: accepted`};
-  return {name: file.name, text: `${what}: ${printed ? `${explainedError(printed.errors).line}. ${explainedError(printed.errors).todo}` : 'discarded'}`, isWrong: true};
+  return {name: file.name, text: `${what}: ${printed ? `${explainedError(printed.errors).line}. ${explainedError(printed.errors).todo}` : 'not sent'}`, isWrong: true};
 };
 
 const bringKeyings = async (files) => {

@@ -6,6 +6,8 @@ pub(crate) const PENDING: &str = r#"// ---- sending orders
 const WAITS = [2, 5, 10, 20, 30];
 const PENDING = 'order ';
 const MOST_LOGGED = 200;
+// What the office accepts as the body of a request.
+const MOST_BYTES = 1048576;
 // A day, in seconds: an order waits this long unless the officer acts.
 const LONG = 86400;
 
@@ -92,9 +94,12 @@ const whyUnsent = (order, answer, turn) => {
 const replyTo = (order, says) =>
   (order.words[0] === 'copy' && order.open && /^fault 109/.test(says.errors) ? {status: 0, output: 'copy already made\n', errors: ''} : says);
 
+const bodyOf = ({files, words}) => JSON.stringify({files: files ?? {}, words});
+const isTooLarge = (order) => new TextEncoder().encode(bodyOf(order)).length > MOST_BYTES;
+
 // Sends an order until the office replies. Returns what the program printed, or null if the officer discarded the order.
 const sendAsLong = async (order) => {
-  const body = JSON.stringify({files: order.files ?? {}, words: order.words});
+  const body = bodyOf(order);
   for (let turn = 0; !order.given; turn += 1) {
     if (turn) await refresh();
     const answer = isOther() ? null : await ask('orders', body);
@@ -146,6 +151,10 @@ const order = async (title, words, files = {}) => {
   }
   const key = newId();
   const sent = {key, at: Date.now(), title, words: words.map(String), files, open: false};
+  if (isTooLarge(sent)) {
+    tell('refused', 'The order wasn\u2019t sent.', AFTER_STATUS[413]);
+    return null;
+  }
   store(PENDING + key, sent);
   return finish(sent);
 };
