@@ -1,7 +1,7 @@
-"""Measures each order, alone and while the office is served, in offices of several sizes, and prints a table for docs/COST.md.
+"""Measures each order, alone and while the office is served, in offices of several sizes, and prints a table.
 
 An office has a ward of PAPERS papers, by default 1000 10000 100000, which come from a fixed generator; it has 10 candidates and 4 seats,
-and two clerks keyed it alike, in batches of 500. Beside it the small election of tools/try is played, and each of its orders is timed on a
+and two clerks keyed it alike, in batches of 500. Next to it the small election of tools/try is played, and each of its orders is timed on a
 copy of the file: the shortest of five runs counts. Then the large ward is counted. The first line is what the stock SQLite of Python takes
 to read all rows, and the last one the highest peak of memory, which is that of `journal`. Take the machine for half an hour.
 """

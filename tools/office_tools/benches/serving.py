@@ -1,4 +1,4 @@
-"""Times clients that are served side by side, and prints a table for docs/COST.md. It needs `ab` of apache2-utils.
+"""Times clients that are served side by side, and prints a table. It needs `ab` of apache2-utils.
 
 Each program that --program A --program B names serves a few times, in turns, or the one alone that is set: the table has the middle of
 its turns, and what part that is of the first one's. Next to 300 silent connections one clerk keys, and then 19 at once, all as fast as they

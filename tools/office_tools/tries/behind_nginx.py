@@ -1,8 +1,9 @@
 """Guesses codes through nginx, as docs/HTTP.md configures it, while forty tellers ask with theirs.
 
-Its ports, certificate and network alone are others. For three minutes (or --seconds N) an outsider in the tellers' network guesses ten
-codes a second, under all forty numbers in turn, and each teller asks twice a second: at least 99 of 100 requests of tellers must get 200.
-Then each of a thousand requests without a code, with a body of 200,000 bytes, must get 401, and the right code from another network 403.
+Only ports, certificate and network are changed. Each teller has an address of their own, and asks twice a second. For three minutes (or
+--seconds N) an outsider at another address of the same network guesses ten codes a second, under all forty numbers in turn. At least 99 of
+100 requests of tellers get 200, and each wrong code 401, or 503 of nginx. Then each of a thousand requests without a code, with a body of
+200,000 bytes, gets 401, and the right code from another network 403.
 """
 import contextlib
 import socket

@@ -1,10 +1,19 @@
 """Plays the guide's evening on the officer's console in Chromium, partly by keyboard alone, and compares the result with typed orders.
 
-Tellers' keyings are dropped on the console as files, and one is typed as an order beside it. Connections break after an order was done,
-the server stops for a while, the page is reloaded while an order is being sent, two consoles are open, the file is gone, and a wrong code
-and a page from elsewhere are denied. While nothing changes, the console asks for nothing but the list of wards. At the end the office has
-the rows that the typed orders make, except for the ids. Pictures at 1280, 800 and 400 pixels go into the folder PICTURES. It needs
-`chromium`, `chromium-driver` and `python3-selenium`.
+Tellers' keyings are dropped on the console as files, and one is typed as an order beside it.
+
+- At the end the office has the rows that the typed orders make, except for the ids.
+- Each order is done once, though the connection breaks after it was done, the server stops and starts again, the page is reloaded while an
+  order is being sent, or two consoles confirm the same stage at once.
+- What was typed is still there after a reload. An order that was typed in a terminal is shown.
+- While nothing changes, the console requests nothing but the list of wards. It never requests what isn't in docs/CONSOLE-API.md.
+- Each file that is downloaded or printed is what the order of that name prints.
+- A wrong code, a clerk's name with the office's code, and a page from elsewhere are denied.
+- If the office's file is gone, the console says so and what to do.
+- The browser reports nothing but the connections and requests that failed on purpose. Nothing is wider than a window of 1280, 800 or 400
+  pixels.
+
+Pictures go into the folder PICTURES. It needs `chromium`, `chromium-driver` and `python3-selenium`.
 """
 import json
 import time

@@ -1,10 +1,14 @@
 """Plays the officer's console in Chromium with hostile names, an evening of twelve tellers, and the largest office.
 
-Names that look like markup, that change the direction of writing, or that have 120 bytes are shown as names. Another office is served at
-the same address, and the console asks whether it is the right one. A script of batches is refused halfway, and a file is too large. Twelve
-tellers key 22 batches, some of which differ, 19 doubtful papers are judged by keyboard, and each lot is recorded. Then 99 wards and 9,999
-batches are shown, and the time to draw them is printed. --only PLAY plays one of names, refused, evening_of_tellers and large. Pictures at
-1280, 800 and 400 pixels go into the folder PICTURES. It needs `chromium`, `chromium-driver` and `python3-selenium`.
+- *Names* that look like markup, that change the direction of writing, or that have 120 bytes are shown as names, and break no line's
+  direction. Before that, another office is served at the same address: the console asks whether it is the right one, and sends nothing.
+- *Refused*: a script of batches stops halfway, and the rest goes to the tellers whose turn it is. A file is too large. Anyone who signed
+  out is asked for the code.
+- *Twelve tellers* key 22 batches, some of which differ. 19 doubtful papers are judged by keyboard, and each lot is recorded.
+- *Large*: 99 wards and 9,999 batches. Each section is drawn within a second, with at most 300 rows at once.
+
+--only PLAY plays one of names, refused, evening_of_tellers and large. Pictures at 1280, 800 and 400 pixels go into the folder PICTURES. It
+needs `chromium`, `chromium-driver` and `python3-selenium`.
 """
 import json
 import random

@@ -1,8 +1,9 @@
 """Opens pages from elsewhere in Chromium, which try to key and to read at an office on this machine.
 
-None of them may. With --codes the office asks for codes, and the browser is logged in as the clerk whose batches they are. Then the work
-is opened as if typed, and a page of the origin that `serve` was given by `--origin` keys and reads through a proxy: these must be answered.
-It needs `chromium`, `chromium-driver` and `python3-selenium`.
+The office keeps none of their keyings, and the pages read nothing. A request that is typed, and a page of the origin that `serve` was given
+by `--origin`, which keys and reads through a proxy, are answered. With --codes the office asks for codes, and the browser is logged in as
+the clerk whose batches they are: the pages still read nothing, and the office keeps nothing of theirs. It needs `chromium`,
+`chromium-driver` and `python3-selenium`.
 """
 import json
 

@@ -1,7 +1,15 @@
 """Meets `serve` with clients that mean harm, are slow, or go away, and prints what they and the others get.
 
-docs/HOSTILE.md says what the good client must get. `serve` may print nothing. A client has half a minute, so all takes two minutes. With
---codes the office asks for codes.
+Clients of many kinds come to one `serve`. After each kind a good client gets the response that it got at first, and at the end the office
+holds the rows that it held. `serve` prints nothing. A client has 30 seconds for its whole request, and 30 more to receive the response;
+the last two kinds never finish a request, and are disconnected when 30 seconds are over.
+
+Then a thousand clients of a kind come at once, and one that is disconnected comes again. Meanwhile a good client gets the same response
+each time, within three seconds. All takes two minutes.
+
+With --codes the office asks for codes. The good client requests clerk 4's page, with that code. The others ask under another clerk's
+number, with that clerk's code as far as they send it whole. Their wrong codes keep nobody out: the good client gets its page each time,
+within three seconds.
 """
 import contextlib
 import select

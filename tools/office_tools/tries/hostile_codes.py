@@ -1,6 +1,10 @@
 """Asks an office with codes for what is a clerk's, mostly without the code, and prints its answers.
 
-docs/HOSTILE.md says what must be denied, and what must be answered. It takes somewhat more than a minute.
+First 6,000 wrong codes come as fast as possible, under the numbers of all forty tellers in turn. The next one gets 429, also under a number
+that the file has no line for, and all tellers are let in. When the minute is over, a wrong code gets 401 again. Then each request of the
+table gets the answer that is named there. Then come 2,000 requests with the right code, in each of which bytes are changed, left out or
+doubled: only those that still have that clerk's whole code get something of the office. At last a thousand requests without a code come,
+with bodies of 200,000 bytes: each is read whole, and gets 401. It takes somewhat more than a minute.
 """
 import functools
 import random

@@ -1,7 +1,18 @@
 """Gives the program files that are no office, or a damaged one, and prints what it reports.
 
-docs/HOSTILE.md says what must hold of each. Then files belong to other accounts, which needs root: an order doesn't read another account's
-log, but root's, or if others may write to DB; `serve` refuses another's codes (codes fault 5), and makes no socket for another's DB.
+- *Damaged files.* The program is asked for a status, and to add a ward. It always ends with a status of its own. If it reports a fault,
+  the files stay byte for byte as they were, and it reports the same again. If the office opens, it adds the ward, and the file is whole.
+  A bit turned in a name, or in a part of a page that nothing uses, is no damage that rows can show.
+- *A log without its file.* All orders are given while DB is missing or empty, and something has the name of its log, or of a rollback
+  journal. Each order reports fault 105, and touches nothing: what a killed `serve` answered stays in its log until its file is back.
+  Only `init` makes an office there, if DB is empty and its log has no more than 41 bytes: an `init` begins with these, so a stopped one
+  can be repeated. A file of one byte counts as empty, as in SQLite: `init` makes an office of it, any other order leaves it.
+- *Other accounts*, if the tool runs as root. An order doesn't read a log that belongs to another account than DB: it reports fault 102,
+  says why, and leaves both as they are. It reads root's log, and any if others may write to DB. `serve` refuses another account's codes
+  (codes fault 5). If root serves a DB of another account, `serve` makes no socket for orders, and says so.
+
+Not an error: the log of another database, put next to the file of an office, is taken for the office's own, as SQLite does. No order can
+tell them apart. The file then holds what that log says, and the office is lost.
 """
 import os
 import random

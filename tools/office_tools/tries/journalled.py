@@ -1,7 +1,14 @@
 """Plays made-up evenings, sends the journal of each to a new office, and compares all rows.
 
-docs/HOSTILE.md says what the evenings have, and what must hold. As many evenings are played side by side as there are processors
-(`taskset -c 0,1` for two).
+Candidates are added, withdrawn and added again. Batches are keyed in several rounds, and by a third clerk. There are verdicts, counts with
+lots, and wards that are left in each phase. Names and ids look like words of a script. Refused orders, and ids that were given to something
+else, come between. As many evenings are played side by side as there are processors (`taskset -c 0,1` for two).
+
+- `journal` ends with status 0, and has a line for each receipt. `replay` of it ends with status 0, and each line is accepted.
+- By the stock `sqlite` all tables of both offices have the same rows, with receipts, bundles and votes, and the new office has the same
+  journal.
+- The journal of one evening in ten is also sent twice, cut, and shuffled. Sent twice, it makes the same tables. In each case the result is
+  an office that opens and has a journal.
 """
 import collections
 import contextlib

@@ -1,6 +1,12 @@
 """Kills `serve` at random moments while clients are answered, and sees that nothing is lost.
 
-Twenty clerks key at once, and ten orders are handed over. docs/HOSTILE.md says what must hold after each kill.
+Twenty clerks key at once, each their own batch. Meanwhile the office gives ten orders, one after the other, which are handed over to
+`serve`. The tool kills `serve` (SIGKILL) at a random moment in between. Then:
+
+- The file is whole. It holds some of the keyings and orders, each whole and with its receipt: that of each clerk who had the whole
+  response with code 200, and each order that was answered.
+- An order is answered, or prints fault 102.
+- All of them, sent again to another `serve`, get their replies, and leave the rows of all.
 """
 import collections
 import random

@@ -1,7 +1,18 @@
 """Gives two orders at one file at once, takes files away, and looks at the rights of what is made.
 
-docs/HOSTILE.md says what the orders may print, and what the files hold afterwards. By `strace` an order stops within its calls on the file
-that it makes, and the last table looks at the rights with which files are made: all must be their owner's alone.
+- *Two orders at once*, the second a random time after the first. What both print, and the rows, are as if one had been given after the
+  other: the one that finds the file held waits. An order given while `init` runs may report 105: there is no office yet. A copy has the
+  rows before the other order or those after it, or isn't there; if another office is made at its path at the same time, one of the two
+  reports that. A script of four orders opens the file once, so no other order comes between them.
+- *Files taken away.* The file or its log is removed, or replaced by another office's. An order continues with the files that it has open:
+  they have the rows before it, or those after it if it was answered, and the other office's file isn't changed. `serve` notices that a
+  file is gone: it prints fault 113 on standard error, and accepts nothing more; a keying gets 503 with that fault, and an order that is
+  handed over prints it.
+- *No room.* An order that makes a file finds no room for an office in it, and removes it again. By `strace` it stops after one of its calls
+  on the file, and another order at that file after one of its own, both drawn at random. The first then finishes, and the second after
+  it. If the second was answered, the file at that name holds what it printed. If it wasn't, nothing is left, not even a log, and an
+  `init` makes an office.
+- *Rights.* By `strace`: DB, its log, a copy and the socket are made for their owner alone, and are their owner's alone then.
 """
 import contextlib
 import os

@@ -1,7 +1,7 @@
 """Gives orders while their file is held, served, or about to be, and prints how long they took.
 
-docs/HOSTILE.md has a line for each case. An order that finds its file held tries again for ten seconds. It reads its own files before it
-connects to `serve`, which waits less for a silent connection than the pipe of the table takes.
+An order that finds its file held tries again for ten seconds. It reads its own files before it connects to `serve`, which waits less for a
+silent connection than the pipe of the table takes. Each line of the table says what must happen.
 """
 import fcntl
 import itertools
