@@ -1,11 +1,11 @@
-"""The page docs/PROOFS-TABLE.md, made from the sources: each public function, its clauses, and the wrong bodies of it."""
+"""The table of proofs, made from the sources: each public function, its clauses, and the wrong bodies of it."""
 import re
 
 HEAD = """# Every public function and its clauses
 
-`tools/check proofs --write` makes this page from the sources, and `tools/check proofs` compares it with them. What the promises rest on, what is only tested, the premises and what is trusted stand in [PROOFS.md](PROOFS.md).
+`tools/check proofs --write` makes this page from the sources; it isn't committed. docs/engineering/proofs.md has the promises that these clauses carry, docs/engineering/limits.md their premises.
 
-Each function is proved safe, to return, and to meet its clauses. They stand above its body, as its documentation does, of which the first sentence is shown; a clause without a name most often says what the result is, and a dash stands where the type or the trait says all. A *wrong body* is an edit in `must-fail/` or `wrong-bodies/` of the crate that turns the meaning of the function in its row, and that the contract of its own crate refuses. Functions that aren't public, and definitions, are listed only where an edit changes them. All crates together have {public} public functions with {clauses} clauses, and {edits} wrong bodies.
+Each function is proved safe, to return, and to meet its clauses, which are above its body in the sources, with its documentation, of which the first sentence is shown. A clause without a name mostly says what the result is; a dash means that the type or the trait says all. A *wrong body* is an edit in `must-fail/` or `wrong-bodies/` of the crate that turns the meaning of the function in its row, and that the contract of its own crate refuses. Functions that aren't public, and definitions, are listed only if an edit changes them. All crates together have {public} public functions with {clauses} clauses, and {edits} wrong bodies.
 """
 
 

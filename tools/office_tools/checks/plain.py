@@ -2,8 +2,8 @@
 
 A sentence ends at a full stop, a question mark or an exclamation mark before a blank; so does the cell of a table, an item of a list, and
 a heading. Those of fewer than 4 words aren't counted. Code in fences isn't read, and what is in backticks counts as one word. Each page
-has a share of sentences of more than 30 words that it may have, in a hundred, but docs/PROOFS-TABLE.md. No sentence of a comment in src/
-and specs/ may have more than 40. Of a page that has too many they are printed.
+has a share of sentences of more than 30 words that it may have, in a hundred. No sentence of a comment in src/ and specs/ may have more
+than 40. Of a page that has too many they are printed.
 """
 import re
 
@@ -11,7 +11,7 @@ from office_tools.checks.links import FENCED, pages
 from office_tools.office import ROOT
 
 MOST, LEAST, MOST_IN_COMMENTS = 30, 4, 40
-SHARES, OTHERS = {5: "README ELECTION TELLERS AGENTS RULES REFUSALS GLOSSARY INSTALLING", 20: "PROOFS",
+SHARES, OTHERS = {5: "README ELECTION TELLERS AGENTS RULES REFUSALS GLOSSARY INSTALLING", 20: "proofs limits",
                   10: "FORMATS ORDERS IMPORTS SHEETS BALLOTS HTTP"}, 15
 # What begins a line of a comment, and such lines in a row.
 SIGN = r"^[ \t]*(?:///|//!|//|--)(?: |$)"
@@ -42,9 +42,8 @@ def is_over(what, texts, most, allowed):
 
 
 def main():
-    read = [page for page in pages() if page.name != "PROOFS-TABLE.md"]
     allowed = {name: share for share, names in SHARES.items() for name in names.split()}
-    found = [is_over(page.relative_to(ROOT), [page.read_text()], MOST, allowed.get(page.stem, OTHERS)) for page in read]
+    found = [is_over(page.relative_to(ROOT), [page.read_text()], MOST, allowed.get(page.stem, OTHERS)) for page in pages()]
     for crate in sorted((ROOT / "crates").iterdir()):
         sources = [path.read_text() for path in (*crate.glob("src/**/*.rt"), *crate.glob("specs/**/*.antt"))]
         texts = [re.sub(SIGN, "", comment, flags=re.M) for source in sources for comment in COMMENTS.findall(source)]

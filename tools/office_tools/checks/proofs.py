@@ -1,19 +1,20 @@
 """Compares what the pages of docs/ name of the sources with them.
 
-docs/PROOFS-TABLE.md is made from the sources: --write writes it anew. docs/PROOFS.md is written by hand. Each row of its table | crate |
-promise | where | names in its last column functions of the crate and, after a colon, clauses of each of them, in parts like `Office::run`:
-`headline`, `answers`; `order`: `ok`. In its text `opened`, `told` of `Store::open_from` names clauses of a function, and each word in
-backticks is one of the sources, or a wrong body; so in lines of docs/RULES.md, ORDERS.md, SHEETS.md or BALLOTS.md that begin with
-`- Definition` or `The definition`, and in rows of docs/GLOSSARY.md. Each path like `Rattle.votes.specs.Units.IsQuota` has its definition
-there. Each refusal and fault of the sources has its heading in docs/REFUSALS.md. Each edit's old text is just once in its file.
+docs/engineering/proofs.md and limits.md are about the sources throughout. Each row of a table | crate | promise | where | names in its last
+column functions of the crate and, after a colon, clauses of each of them, in parts like `Office::run`: `headline`, `answers`; `order`: `ok`.
+In their text `opened`, `told` of `Store::open_from` names clauses of a function, and each word in backticks is one of the sources, or a
+wrong body; so in lines of docs/RULES.md, ORDERS.md, SHEETS.md or BALLOTS.md that begin with `- Definition` or `The definition`, and in rows
+of docs/GLOSSARY.md. Each path like `Rattle.votes.specs.Units.IsQuota` has its definition there. Each refusal and fault of the sources has
+its heading in docs/REFUSALS.md. Each edit's old text is just once in its file. --write makes out/proofs-table.md: each public function, its
+clauses, and its wrong bodies.
 """
-import difflib
 import re
 
 from office_tools import proofs_table, sources
 from office_tools.office import ROOT
 
-HAND, MESSAGES, MADE = (ROOT / f"docs/{name}.md" for name in ("PROOFS", "REFUSALS", "PROOFS-TABLE"))
+HAND, MESSAGES = [ROOT / f"docs/engineering/{name}.md" for name in ("proofs", "limits")], ROOT / "docs/REFUSALS.md"
+MADE = ROOT / "out/proofs-table.md"
 DEFINED = [ROOT / f"docs/{name}.md" for name in ("RULES", "ORDERS", "SHEETS", "BALLOTS", "GLOSSARY")]
 # What the program prints before a number, the file of definitions, and the definitions of the number and of the text after it.
 NUMBERED = [
@@ -89,24 +90,20 @@ def faults_of(crates):
             defined = re.findall(r"^(?:\w+ )?pub (?:\w+ )?(\w+)", text, re.M)
             words.update(re.findall(r"\w+", text), [name], (f"{name}.{own}" for own in defined))
     clauses = clauses_of(crates)
-    for page in [HAND, *DEFINED]:
+    for page in [*HAND, *DEFINED]:
         for number, line in enumerate(page.read_text().splitlines(), 1):
             faults, cells = [], [cell.strip() for cell in re.split(r"(?<!\\)\|", line)[1:-1]]
-            if page is HAND and len(cells) == 3 and cells[0] != "crate" and not set(cells[0]) <= set("-: "):
+            if page in HAND and len(cells) == 3 and cells[0] != "crate" and not set(cells[0]) <= set("-: "):
                 faults = missing_of_row(crates, cells[0], cells[2])
-            elif page is HAND or line.startswith(("- Definition", "The definition")) or page.stem == "GLOSSARY" and line.startswith("|"):
+            elif page in HAND or line.startswith(("- Definition", "The definition")) or page.stem == "GLOSSARY" and line.startswith("|"):
                 faults = missing_of_text(line, clauses, words)
             yield from (f"{page.name}:{number}: {fault}" for fault in faults)
 
 
 def main(*, write=False):
     crates = sources.crates()
-    page = proofs_table.page(crates)
     if write:
-        MADE.write_text(page)
-    there = MADE.read_text() if MADE.is_file() else ""
-    differing = list(difflib.unified_diff(there.splitlines(), page.splitlines(), lineterm="", n=0))[2:]
-    faults = [f"{MADE.name}: {line}" for line in differing if line[0] in "+-"]
-    faults += [line for crate in crates for line in proofs_table.misplaced(crate)] + list(faults_of(crates))
-    faults += [f"{MESSAGES.name}: {fault}" for fault in missing_messages()]
-    return faults + ["run tools/check proofs --write"] * (there != page)
+        MADE.parent.mkdir(exist_ok=True)
+        MADE.write_text(proofs_table.page(crates))
+    faults = [line for crate in crates for line in proofs_table.misplaced(crate)] + list(faults_of(crates))
+    return faults + [f"{MESSAGES.name}: {fault}" for fault in missing_messages()]
