@@ -15,7 +15,7 @@ PRINTED = re.compile(r"^(refused \d+|file fault \d+|fault \d+)\b", re.M)
 
 
 def pages():
-    return [ROOT / name for name in ("README.md", "CHANGELOG.md", "CONTRIBUTING.md")] + sorted((ROOT / "docs").glob("*.md"))
+    return [ROOT / name for name in ("README.md", "CHANGELOG.md", "CONTRIBUTING.md")] + sorted((ROOT / "docs").glob("**/*.md"))
 
 
 def headings(page):
@@ -33,7 +33,7 @@ def lost(page):
         if re.match(r"[a-z]+:", target):
             continue
         if not to.exists() or heading and (to.suffix != ".md" or heading not in headings(to)):
-            yield f"{page.name}: no file or heading of {target}"
+            yield f"{page.relative_to(ROOT)}: no file or heading of {target}"
 
 
 def unlinked():
