@@ -71,7 +71,7 @@ path_in serving = option_map (λ path. path.now) serving.codes
 
 -- the settings with an origin, a gate, a file, and whether that file is known to be whole throughout
 abbrev pub settings_with : Option (List ℕ) → Option GateEntry → FileNumbers → Option Bool → ServerSettingsEntry
-settings_with origin gate file whole = record { clients = record { origin = origin; gate = gate }; file = file; whole = whole }
+settings_with origin gate file whole = record { clients = record { origin = origin; gate = gate; public = None }; file = file; whole = whole }
 
 -- the settings of the server
 abbrev pub server_settings_of : ServeSettings → Option Bool → ServerSettingsEntry

@@ -74,6 +74,7 @@ fn serve_through<D: Network, A: ServedFile, S: Alter>(
         http: HttpSettings {
             origin: settings.serving.origin,
             gate: gate_of(settings.gate_files),
+            public: None,
         },
         file: settings.file,
         served_file,

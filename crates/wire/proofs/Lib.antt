@@ -8,6 +8,7 @@ pub mod TargetLemmas
 pub mod RowLemmas
 pub mod PartLemmas
 pub mod OfficeTargetLemmas
+pub mod PublicTargetLemmas
 pub mod PathLemmas
 pub mod LengthLemmas
 pub mod RequestLemmas
@@ -20,4 +21,5 @@ pub mod ToldLemmas
 pub mod ResponseLemmas
 pub mod OutcomeLemmas
 pub mod AnswerLemmas
+pub mod PublicLemmas
 pub mod ServingLemmas

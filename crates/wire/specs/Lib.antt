@@ -2,6 +2,7 @@
 pub mod Heads
 pub mod Numbers
 pub mod OfficeTargets
+pub mod PublicTargets
 pub mod Targets
 pub mod Lengths
 pub mod Origins
@@ -14,6 +15,7 @@ pub mod Parsing
 pub mod Replies
 pub mod OfficeReads
 pub mod OfficeReplies
+pub mod PublicReplies
 pub mod Responses
 pub mod Told
 pub mod Serving
