@@ -12,6 +12,7 @@ pub mod PublicTargetLemmas
 pub mod PathLemmas
 pub mod LengthLemmas
 pub mod RequestLemmas
+pub mod PublicRequestLemmas
 pub mod GateLemmas
 pub mod AuthenticationLemmas
 pub mod ParsedLemmas
@@ -22,4 +23,5 @@ pub mod ResponseLemmas
 pub mod OutcomeLemmas
 pub mod AnswerLemmas
 pub mod PublicLemmas
+pub mod PublicLawLemmas
 pub mod ServingLemmas

@@ -1,4 +1,4 @@
--- What is shown in public: the list of wards rests on their table alone, and the page of a ward is the one that an order prints.
+-- What is shown in public: the list of wards has no fractions, and the page of a ward is the one that an order prints.
 use Rattle.std.proofs.Common.{◌≡◌, ◌∙◌, Bool, true, false, ℕ, List, [], ◌∷◌, Option, Some, None, Result, Ok, Err, ap, inl, inr, map, refl, subst, sym}
 use Rattle.std.specs.Borrow.{Bor}
 use Rattle.serde_json.specs.Written.{has_float}
@@ -6,7 +6,7 @@ use Rattle.sqlite.specs.State.{State}
 use Rattle.register.specs.Offices.{OfficeState, WardEntry, ward_at}
 use Rattle.register.specs.Ranges.{is_ward_number}
 use Rattle.register.specs.declared.refusal.Reason.{Reason}
-use Rattle.store.specs.Overviews.{WardView, ward_view_of, ward_views}
+use Rattle.store.specs.Overviews.{WardView}
 use Rattle.tables.specs.Faults.{fault_number}
 use Rattle.office.specs.Reads.{Read}
 use Rattle.office.specs.Sheets.{text_found, text_told}
@@ -14,7 +14,7 @@ use Rattle.office.specs.declared.answers.Stop.{Stop}
 use Rattle.office.specs.declared.answers.Stop.TheVariants.{Refused, Fault as Failed}
 use Rattle.office.specs.declared.sheets.Text.TheVariants as text
 use Rattle.wire.specs.Gates.{PublicEntry}
-use Rattle.wire.specs.PublicReplies.{RestsOnWards, page_found, page_told, screen_data, screen_of, screen_ward_data}
+use Rattle.wire.specs.PublicReplies.{page_found, page_told, screen_of, screen_ward_data}
 use Rattle.wire.specs.Requests.{public}
 use Rattle.wire.specs.Responses.{ResponseEntry, fault_response}
 use Rattle.wire.specs.Serving.{IsReadTold, Readies, public_response, read_response}
@@ -26,13 +26,6 @@ use Rattle.wire.proofs.ReplyLemmas.{list-float}
 
 pub screen-float : (title : List ℕ) (views : List WardView) → has_float (screen_of title views) ≡ false
 screen-float title views = rw (list-float screen_ward_data (λ _. refl) (map (λ v. v.ward) views)) refl
-
-wards-again : (s : OfficeState) (wards : List WardEntry) → map (λ v. v.ward) (map (ward_view_of s) wards) ≡ wards
-wards-again s [] = refl
-wards-again s (w ∷ wards) = ap (λ ws. w ∷ ws) (wards-again s wards)
-
-pub RestsOnWards-all : (title : List ℕ) → RestsOnWards title
-RestsOnWards-all title s = ap (screen_data title) (wards-again s s.wards)
 
 -- ---- the page of a ward
 

@@ -10,6 +10,7 @@ pub mod Bodies
 pub mod ConsoleOrders
 pub mod Gates
 pub mod Requests
+pub mod PublicRequests
 pub mod Completeness
 pub mod Parsing
 pub mod Replies
@@ -19,3 +20,4 @@ pub mod PublicReplies
 pub mod Responses
 pub mod Told
 pub mod Serving
+pub mod PublicLaws

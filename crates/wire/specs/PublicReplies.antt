@@ -6,7 +6,7 @@ use Rattle.register.specs.Offices.{OfficeState, WardEntry, ward_at}
 use Rattle.register.specs.Ranges.{is_ward_number}
 use Rattle.register.specs.declared.refusal.Reason.{Reason}
 use Rattle.register.specs.declared.refusal.Reason.TheVariants.{NoSuchWard, NumberOutOfRange, WrongPhase}
-use Rattle.store.specs.Overviews.{WardView, ward_views}
+use Rattle.store.specs.Overviews.{WardView}
 use Rattle.office.specs.Sheets.{result_page_of}
 use Rattle.wire.specs.OfficeReplies.{phase_word}
 use Rattle.wire.specs.Replies.{list_data, number_data}
@@ -25,13 +25,9 @@ screen_ward_data w = object
 abbrev pub screen_data : List ℕ → List WardEntry → Data
 screen_data title wards = object (member (codes "title") (string title) (member (codes "wards") (list_data screen_ward_data wards) no_members))
 
--- the same of what is read of the wards, of which the screen shows nothing else
+-- the same of what is read of the wards, of which the list has nothing else
 abbrev pub screen_of : List ℕ → List WardView → Data
 screen_of title views = screen_data title (map (λ v. v.ward) views)
-
--- What the screen reads rests on the table of wards alone. No keying, batch, verdict or candidate changes it.
-abbrev pub RestsOnWards : List ℕ → Type 0
-RestsOnWards title = (s : OfficeState) → screen_of title (ward_views s) ≡ screen_data title s.wards
 
 -- ---- the page of a ward
 

@@ -74,7 +74,7 @@ pub use head::MAX_HEAD_BYTES;
 pub use office_read::OfficeRead;
 pub use origins::Origin;
 pub use parsed::{Head, Parsed, parse};
-pub use public::screen_rests_on_wards;
+pub use public::unsealed_wards_show_nothing;
 pub use public_target::PublicTarget;
 pub use read_failure::ReadFailure;
 pub use request::{HttpRequest, Keying, read_request};

@@ -8,7 +8,8 @@ ghost use Rattle.register.specs.Offices.{OfficeState};
 ghost use Rattle.store.specs.StateTables.{IsAt};
 ghost use Rattle.store.specs.Overviews.{ward_view};
 ghost use Rattle.wire.specs.Gates.{public_entry};
-ghost use Rattle.wire.specs.PublicReplies.{RestsOnWards, screen_of, screen_ward_data};
+ghost use Rattle.wire.specs.PublicLaws.{AlikeShowAlike, ListsUnsealed, RestsOnWards};
+ghost use Rattle.wire.specs.PublicReplies.{screen_of, screen_ward_data};
 ghost use Rattle.wire.specs.Replies.{list_data};
 ghost use Rattle.wire.specs.Requests.{public};
 ghost use Rattle.wire.specs.Responses.{printed_response};
@@ -26,10 +27,14 @@ use sqlite::Alter;
 use std::alloc::{AllocError, Global};
 use store::WardOverview;
 
-/// The law of the wards that the screen reads, for its callers: they rest on the table of wards alone. So before the seal of a ward
-/// the screen shows its name and its phase, and nothing that a keying, a batch, a verdict or a candidate changes.
-pub fn screen_rests_on_wards()
-    ensures { (title : List ℕ) → RestsOnWards title }
+/// The law of what is shown in public, for its callers. It depends on the table of wards and on the elections of sealed wards alone:
+/// two offices that have these alike show the same. So before the seal of a ward nothing that is nominated, given out, keyed or
+/// judged in it changes what is shown. The list of wards depends on the table of wards alone; before the seal of a ward it has the
+/// ward's number, name and phase, and no stage.
+pub fn unsealed_wards_show_nothing()
+    ensures alike { AlikeShowAlike }
+    ensures wards { (title : List ℕ) → RestsOnWards title }
+    ensures unsealed { ListsUnsealed }
 {}
 
 /// Returns what the screen shows of a ward in its list, as a value.

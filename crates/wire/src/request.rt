@@ -5,6 +5,7 @@ ghost use Rattle.wire.specs.Requests.{Asks, AsksByHolder, AsksOneThing, ShowEntr
 ghost use Rattle.wire.specs.Requests.{MissesBytes, TakesOwn, http_request_entry, asked_for, asked_of, console_at, page_at, public_at, verb_of, verb_text};
 ghost use Rattle.wire.specs.Gates.{GateEntry, HttpSettingsEntry, gate_entry, let_through, needs_public, public_entry};
 ghost use Rattle.wire.specs.Gates.{settings_entry, needs_gate, needs_office, reading_needs_gate, reading_needs_office, served_at};
+ghost use Rattle.wire.specs.PublicRequests.{AsksInPublic};
 ghost use Rattle.wire.specs.Targets.{NamesItsOwn, named_by};
 ghost use Rattle.wire.specs.Serving.{IsConsoleAlike, IsDeniedAlike, IsShownAlike};
 ghost use Rattle.wire.specs.declared.request_error.RequestError.{RequestError};
@@ -268,6 +269,7 @@ fn read_from_head<'a, R: Source>(
 /// is `Unauthorized`, or a `WrongCode`, whatever else it asks. So what is asked under a clerk's number is asked by the holder of
 /// that clerk's code, and what is asked of the console by the holder of the office's. Every other request needs no such check.
 /// The response to a rejected request is the same at every state of the office, and so is what is `Shown`, and the `ConsolePage`.
+/// What is shown in public needs no code, and is there only if the settings have it.
 ///
 /// `Broken` comes only from the source, which then counts one failure more. It comes only while what was read doesn't say yet
 /// what is asked. Once it does, nothing more is read, because the client may wait for its response. Some of the bytes that follow
@@ -293,6 +295,7 @@ pub fn read_request<'a, R: Source>(
     ensures alike { (why : RequestError) → IsDeniedAlike why }
     ensures shown { (show : ShowEntry) → IsShownAlike show }
     ensures console { (show : ShowEntry) → IsConsoleAlike show }
+    ensures public { (its : HttpSettingsEntry) (bytes : List ℕ) → AsksInPublic its bytes }
     ensures targets { (target : List ℕ) → NamesItsOwn target }
 {
     read_from_head(alloc, settings, reader)
