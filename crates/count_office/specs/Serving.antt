@@ -123,7 +123,8 @@ outcome_by (Err why) = Err (failure_by why)
 abbrev pub IsElsewhereSame : {L : Type 0} → ℕ → (ℕ → NetworkEntry L) → (ℕ → NetworkEntry L) → Type 0
 IsElsewhereSame port before later = (other : ℕ) → other ≢ port → later other ≡ before other
 
--- The network on a port couldn't be opened, or an allocation failed before that: no connection was accepted, and the office is as it was. Or it was served there, with these settings, and on no other port.
+-- The network on a port couldn't be opened, or an allocation failed: no connection was accepted, and the office is as it was. Or it was served there, with these settings,
+-- and on no other port.
 abbrev pub MayServe : {L S : Type 0} → (ServerSettingsEntry → Type 0) → Stream L → (Held S → State) → ℕ → (ℕ → NetworkEntry L) → (ℕ → NetworkEntry L) → Option ℕ
     → OfficeValue S → OfficeValue S → Result (Unit {0}) Failure → Type 0
 MayServe AreSettings stream state_of port before later most old new outcome =

@@ -21,8 +21,8 @@ use store::Fault;
 use streams::Sink;
 use wire::{HttpSettings, Origin, Public};
 
-/// The words of `serve`: its port, the number of clients after which it ends, the origin of a proxy, the path of a file of clerks'
-/// codes, if they are given, and the title under which the count is shown in public, if it is.
+/// The words of `serve`: its port, the number of clients after which it ends, the origin of a proxy, and the path of a file of
+/// clerks' codes, if they are given. If the count is shown in public, there is the title for that.
 #[derive(Clone, Copy)]
 pub struct Serving<'a> {
     pub port: u32,

@@ -181,8 +181,8 @@ line_flaw_text flaw.TitleAlone = bad_title
 line_flaw_text (flaw.Words text) = string_bytes text
 line_flaw_text flaw.Elsewhere = codes "error: this order stands in no script\n"
 
--- what is wrong with its words. The word of a verdict, an origin or a digest is invalid, or a title is given for nothing, though `clap` accepts the words; or it is what
--- `clap` says of them; or the order can't be in a script, such as one that asks for help.
+-- what is wrong with its words. Though `clap` accepts them, the word of a verdict, an origin or a digest is invalid, or a title is given for nothing. Or it is what `clap`
+-- says of them. Or the order can't be in a script, such as one that asks for help.
 abbrev pub IsFlawOfWords : List Text → LineFlaw → Type 0
 IsFlawOfWords words (flaw.NoWords why) = ⊥
 IsFlawOfWords words flaw.Verdict = (wrong_with words ≡ []) × (meaning (subcommand_of office_words words) ≡ Some no_verdict)

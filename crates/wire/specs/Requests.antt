@@ -41,8 +41,8 @@ abbrev pub show_entry : Show → ShowEntry
 show_entry (Page its) = page (page_entry its)
 show_entry Left = has_left
 
--- What is asked: nothing, since it is rejected; to be shown something for a clerk, or for the office; to keep a clerk's keying of a batch; to read; to follow an order of
--- the office; or to be shown something in public.
+-- What is asked: nothing, since it is rejected; to be shown something for a clerk, for the office or in public; to keep a clerk's keying of a batch; to read; or to follow
+-- an order of the office.
 pub data HttpRequestEntry : Type 0 where
   denied : RequestError → HttpRequestEntry
   shown : ℕ → ShowEntry → HttpRequestEntry

@@ -277,7 +277,7 @@ fn read_from_head<'a, R: Source>(
 ///
 /// What is asked for depends only on the target, which names exactly what it is the path of. That is one of the seven routes of
 /// this crate, with numbers of 1 to 5 digits in it, the first not 0; or `/office/`, `/office/leave`, `/office/orders` or the path of
-/// a read of the console; or `/`, `/screen`, `/screen/wards` or the path of a ward's page. Any other target names nothing.
+/// a read of the console. It may also be `/`, `/screen`, `/screen/wards` or the path of a ward's page. Any other target names nothing.
 pub fn read_request<'a, R: Source>(
     alloc: Global,
     settings: HttpSettings<'a>,

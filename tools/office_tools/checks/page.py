@@ -22,8 +22,8 @@ HASHED = re.compile(r"let (\w+) = hash_source\(alloc, (\w+)\.as_bytes\(\)\)")
 PIECE = re.compile(r'codes "([^"]*)"|([A-Z]+)\.now|hash_source (\w+)|\b(?:its_)?(script|style)\b')
 PAGES = KEYING, CONSOLE, SCREEN = "keying_page", "console_page", "screen_page"
 PARTS, CLERK = ("script", "style"), 4
-# Where a program serves a page, and to whom.
-SERVED = {KEYING: (f"/clerks/{CLERK}/", CLERK, CODES[CLERK]), CONSOLE: ("/office/", "office", OFFICE_CODE)}
+# Where a program serves a page, and to whom: the last one to anyone.
+SERVED = {KEYING: (f"/clerks/{CLERK}/", CLERK, CODES[CLERK]), CONSOLE: ("/office/", "office", OFFICE_CODE), SCREEN: ("/screen", "", "")}
 FORBIDDEN = {
     "a text from elsewhere": r"""(?i)\b(src|href)\s*=(?!\s*["']?data:,)|@import|\burl\(|https?://""",
     "markup made of a text": r"innerHTML|outerHTML|insertAdjacentHTML|document\.write|\beval\b|new Function|DOMParser",
@@ -89,8 +89,9 @@ def wrong_defined(crate):
 
 def wrong_served(crate, target, name, code):
     """Returns what of the page that a program serves at a target, and of its policy, is otherwise than in the sources."""
-    with temporary_folder() as folder, evening_office(folder, CODES | {"office": OFFICE_CODE}).serve("--codes", "codes.txt") as serving:
-        head, _, served = serving.ask(request(target, f"Authorization: {basic(name, code)}")).decode().partition("\r\n\r\n")
+    codes, headers = CODES | {"office": OFFICE_CODE}, [f"Authorization: {basic(name, code)}"] if name else []
+    with temporary_folder() as folder, evening_office(folder, codes).serve("--codes", "codes.txt", "--public") as serving:
+        head, _, served = serving.ask(request(target, *headers)).decode().partition("\r\n\r\n")
     page, policy = page_of_sources(crate)
     told = re.search(r"(?i)^content-security-policy: (.*?)\r?$", head, re.M)[1]
     wrong = [] if served == page else ["the page that is served isn't that of the sources"]

@@ -1,10 +1,10 @@
 """Plays the screen of the hall in Chromium at 1920 by 1080 pixels: an evening, names at their longest, 99 wards, and ties.
 
-screen_mock.py stands in for the server, and runs the program's own orders. Through an evening the screen shows each phase of a ward, what
-its sheet says of each stage, lots, and who is elected; before the seal nothing that it may read depends on candidates or keyings. The
-server stops for a while, and keys choose what is shown. No name is cut off. In made-up wards the ties and lots that the page finds in a
-sheet are those of the program. --only PLAY plays one of evening, longest, many and ties. Pictures go into the folder PICTURES. It needs
-`chromium-driver` and `python3-selenium`.
+Through an evening the screen shows each phase of a ward, what its sheet says of each stage, lots, and who is elected; the orders are typed
+while the office is served. Before the seal nothing that it may read depends on candidates or keyings, and without `--public` nothing is
+there. The server stops for a while, and keys choose what is shown. No name is cut off. In made-up wards the ties and lots that the page
+finds in a sheet are those of the program. --only PLAY plays one of evening, longest, many and ties. Pictures go into the folder PICTURES.
+It needs `chromium-driver` and `python3-selenium`.
 """
 import contextlib
 import json
@@ -14,16 +14,16 @@ from pathlib import Path
 
 from office_tools.browser import Browser
 from office_tools.election import LARGE, ward_orders
-from office_tools.office import TOWN, Office, Wrong, free_port, temporary_folder
-from office_tools.screen_mock import TITLE, ScreenMock
+from office_tools.office import Office, Wrong, free_port, temporary_folder
 from office_tools.wards import Ward, sealed_office
-from office_tools.web import HERE, ask, request
+from office_tools.web import HERE, ask, request, status
 
 WIDTH, HEIGHT = 1920, 1080
+TITLE = "Election of 6 May 2027, Harbour Council"
 NAMES = ["Ann Baird", "Bob Cairns", "Catriona MacGillivray-Stewart", "Dee Drummond", "Ewan Forsyth", "Flora Geddes"]
 PAPERS = [*["1,2,,,,"] * 40, *["1,,2,,,"] * 20, *[",1,2,,,"] * 12, *[",,1,2,,"] * 18, *[",,,1,2,"] * 9, *[",,,2,1,"] * 9, *[",,,,,1"] * 8,
           "D"]
-TARGETS = ("/screen/wards", "/", "/wards/7/sheet", "/wards/7/result", "/wards/7/page")
+TARGETS = ("/screen/wards", "/", "/screen", "/wards/7/sheet", "/wards/7/result", "/wards/7/page")
 LETTERS = {"E": "Elected", "e": "Elected", "x": "Excluded", "-": ""}
 # What a row of the chart shows, as a line of the sheet has it.
 ROWS = """[...document.querySelectorAll('#bars li')].map((it) => [it.querySelector('.number'), it.querySelector('.votes'),
@@ -38,10 +38,10 @@ PLAYS = ("evening", "longest", "many", "ties")
 
 
 class Screen:
-    """A screen in the hall, and the office whose server screen_mock.py stands in for."""
+    """A screen in the hall, and the office that serves it."""
 
     def __init__(self, browser, pictures):
-        self.browser, self.pictures, self.office, self.mock, self.port = browser, pictures, None, None, free_port()
+        self.browser, self.pictures, self.office, self.serving, self.port = browser, pictures, None, None, free_port()
 
     @contextlib.contextmanager
     def showing(self, office, title=TITLE):
@@ -52,10 +52,10 @@ class Screen:
         self.browser.until("office.text !== null && office.wards.filter(isCounted).every((it) => office.counts.has(it.ward))")
         self.browser.value("(() => { shown.hold = 'part'; })()")
         yield self
-        self.mock.kill()
+        self.serving.kill()
 
     def start(self):
-        self.mock = ScreenMock(self.office.folder / TOWN, self.port, self.title)
+        self.serving = self.office.serve("--public", "--title", self.title, port=self.port).wait()
 
     def look(self):
         """Lets the screen look at the office at once."""
@@ -131,6 +131,15 @@ def evening(screen, folder):
         screen.picture("31-no-poll-declared")
         stopped(screen)
         keys(screen)
+    hidden(office)
+
+
+def hidden(office):
+    """Checks that without `--public` nothing is there but sheets and declarations, which always are."""
+    with office.serve() as serving:
+        found = [(target, status(serving.ask(request(target)))) for target in TARGETS]
+    if wrong := [each for each in found if each[1] != (200 if each[0].endswith(("sheet", "result")) else 404)]:
+        raise Wrong(f"without --public: {wrong}")
 
 
 def before_the_seal(screen):
@@ -191,7 +200,7 @@ def counting(screen):
 def stopped(screen):
     """The server stops: the screen still shows the last state, says so, and goes on when the server is there again."""
     screen.go(7, 2)
-    screen.mock.kill()
+    screen.serving.kill()
     screen.look()
     screen.shows("Not connected since ", part="down")
     screen.shows_sheet(7, 2)
