@@ -1,18 +1,18 @@
 -- What is shown in public rests on the wards, and on the elections of those that are sealed.
 use Rattle.std.proofs.Common.{◌≡◌, ◌∙◌, ◌&&◌, ◌==◌, Bool, true, false, ℕ, List, [], ◌∷◌, Option, Some, None, Result, Ok, Err, ap, map, refl, sym}
-use Rattle.std.specs.Prelude.{find, if◌then◌else◌, length}
+use Rattle.std.specs.Prelude.{find, if◌then◌else◌, is_some, length}
 use Rattle.std.specs.Ordering.{is_eq}
 use Rattle.std.specs.List.{All, filter, list_all}
 use Rattle.std.proofs.lemmas.Bool.{eqb-true}
 use Rattle.std.proofs.lemmas.List.Elements.{All-cons, All-head, All-nil, All-tail}
-use Rattle.register.specs.Elections.{ElectionEntry, elected_of, election_of, has_count, is_counted, is_counted_right, is_declared, is_right_so_far, is_uncounted}
+use Rattle.register.specs.Elections.{ElectionEntry, elected_of, election_of, is_counted, is_counted_right, is_declared, is_uncounted}
 use Rattle.register.specs.Offices.{OfficeState, WardEntry, ward_at, ward_compared}
 use Rattle.register.specs.Ranges.{is_ward_number}
 use Rattle.register.specs.StateConditions.{IsState, all_counted}
 use Rattle.register.specs.declared.phase.Phase.{Phase}
 use Rattle.register.specs.declared.phase.Phase.TheVariants.{Nominations, Keying, Sealed, Declared}
 use Rattle.register.specs.declared.refusal.Reason.{Reason}
-use Rattle.register.specs.declared.refusal.Reason.TheVariants.{NumberOutOfRange, WrongPhase}
+use Rattle.register.specs.declared.refusal.Reason.TheVariants.{WrongPhase}
 use Rattle.sheet.specs.Index.{ListedEntry, index}
 use Rattle.store.specs.Overviews.{ward_view_of, ward_views}
 use Rattle.office.specs.Index.{is_among_elected, listed_shown, standing_in}
@@ -65,10 +65,12 @@ all-listed s t (w ∷ wards) same =
     ∙ ap (λ (xs : List ListedEntry). listed_shown (ward_view_of s w) ∷ xs) (all-listed s t wards (All-tail (IsSameOnceSealed s t) w wards same))
 
 -- the page of a ward
-page-if : (title : List ℕ) (sealed : Bool) (one other : ElectionEntry) → (sealed ≡ true → one ≡ other)
-    → (if sealed then Ok {T = List ℕ} {E = Reason} (result_page_of title one) else Err WrongPhase) ≡ (if sealed then Ok (result_page_of title other) else Err WrongPhase)
-page-if title true one other same = ap (λ (e : ElectionEntry). Ok (result_page_of title e)) (same refl)
-page-if title false one other same = refl
+abbrev page_once_sealed : List ℕ → Bool → ElectionEntry → Result (List ℕ) Reason
+page_once_sealed title sealed e = if sealed then Ok (result_page_of title e) else Err WrongPhase
+
+page-once-sealed : (title : List ℕ) (sealed : Bool) (one other : ElectionEntry) → (sealed ≡ true → one ≡ other) → page_once_sealed title sealed one ≡ page_once_sealed title sealed other
+page-once-sealed title true one other same = ap (page_once_sealed title true) (same refl)
+page-once-sealed title false one other same = refl
 
 page-same : (title : List ℕ) (s t : OfficeState) (test : WardEntry → Bool) (wards : List WardEntry) → All (IsSameOnceSealed s t) wards
     → page_found title t (find test wards) ≡ page_found title s (find test wards)
@@ -76,7 +78,7 @@ page-same title s t test [] same = refl
 page-same title s t test (w ∷ wards) same = by (test w) refl
   where
     by : (b : Bool) → test w ≡ b → page_found title t (find test (w ∷ wards)) ≡ page_found title s (find test (w ∷ wards))
-    by true is = rw is (page-if title (is_counted w.phase) (election_of t w) (election_of s w) (All-head (IsSameOnceSealed s t) w wards same))
+    by true is = rw is (page-once-sealed title (is_counted w.phase) (election_of t w) (election_of s w) (All-head (IsSameOnceSealed s t) w wards same))
     by false is = rw is (page-same title s t test wards (All-tail (IsSameOnceSealed s t) w wards same))
 
 page-alike : (title : List ℕ) (ward : ℕ) (s t : OfficeState) → AreAlikeInPublic s t → page_told title t ward ≡ page_told title s ward
@@ -123,9 +125,9 @@ all-unsealed : (s : OfficeState) (wards : List WardEntry) → list_all (λ w. is
 all-unsealed s [] right = All-nil IsListedUnsealed
 all-unsealed s (w ∷ wards) right =
     All-cons IsListedUnsealed w wards
-    (λ unsealed. ap (λ n. screen_ward_data (record w { done = n })) (none-done (election_of s w) (first-true _ _ right) unsealed))
+    (λ unsealed. ap (λ n. screen_ward_data (record w { done = n })) (none-done (election_of s w) (first-true (is_counted_right (election_of s w)) _ right) unsealed))
     (all-unsealed s wards (second-true (is_counted_right (election_of s w)) _ right))
 
 pub ListsUnsealed-all : ListsUnsealed
 unfolding all_counted
-ListsUnsealed-all s state = all-unsealed s s.wards (second-true _ _ state.counted)
+ListsUnsealed-all s state = all-unsealed s s.wards (second-true (list_all (λ l. is_some (ward_at s l.ward)) s.lots) _ state.counted)

@@ -1,22 +1,23 @@
 -- Requests for what is shown in public.
-use Rattle.std.proofs.Common.{◌≡◌, ◌∙◌, ◌++◌, ℕ, List, Option, Some, None, Result, Ok, Err, ap, codes, inl, inr, map, refl, sym}
-use Rattle.std.specs.Prelude.{bytes_eq, option_and_then}
+use Rattle.std.proofs.Common.{◌≡◌, ◌∙◌, ℕ, List, Option, Some, None, Result, Ok, Err, ap, codes, false, inl, inr, map, refl, sym}
+use Rattle.std.specs.Prelude.{option_and_then}
 use Rattle.httparse.specs.Grammar.{RequestHead}
 use Rattle.httparse.specs.Spans.{name_and_value}
 use Rattle.wire.specs.Bodies.{KeyingEntry, body_in, keying_of}
 use Rattle.wire.specs.ConsoleOrders.{ConsoleOrderEntry, order_of}
 use Rattle.wire.specs.Gates.{GateEntry, HttpSettingsEntry, PublicEntry, account_at, kept_out, served_at, shown_by}
+use Rattle.wire.specs.Heads.{BeginsWith}
 use Rattle.wire.specs.Lengths.{NamedValue, body_length}
+use Rattle.wire.specs.Origins.{is_foreign}
 use Rattle.wire.specs.PublicRequests.{AsksInPublic, IsAskedInPublic}
 use Rattle.wire.specs.PublicTargets.{IsPublicTarget}
-use Rattle.wire.specs.Requests.{Asks, HttpRequestEntry, asked_by, asked_for, asked_in, asked_of, console, denied, keying, let_in, order, ordered_in, public, public_at, reading, shown}
-use Rattle.wire.specs.Requests.{verb_text, wanted_behind}
+use Rattle.wire.specs.Requests.{Asks, HttpRequestEntry, asked_for, asked_in, asked_of, console, denied, keying, let_in, order, ordered_in, public, public_at, reading, shown}
+use Rattle.wire.specs.Requests.{wanted_behind}
 use Rattle.wire.specs.Targets.{named_by}
 use Rattle.wire.specs.declared.public_target.PublicTarget.{PublicTarget}
 use Rattle.wire.specs.declared.public_target.PublicTarget.TheVariants.{Index, Screen, Wards, Page}
 use Rattle.wire.specs.declared.request_error.RequestError.{RequestError}
-use Rattle.wire.specs.declared.request_error.RequestError.TheVariants.{BadRequest, NotFound}
-use Rattle.wire.specs.declared.request_error.Verb.TheVariants.{Get}
+use Rattle.wire.specs.declared.request_error.RequestError.TheVariants.{NotFound}
 use Rattle.wire.specs.declared.target.OfficeTarget.TheVariants as office
 use Rattle.wire.specs.declared.target.Target.{Target}
 use Rattle.wire.specs.declared.target.Target.TheVariants as target
@@ -65,7 +66,7 @@ module _ (gate : Option GateEntry) (hall : Option PublicEntry) (what : PublicTar
 -- ---- by which settings it is shown
 
 -- what is shown in public, if something is asked of that
-shown_of : HttpRequestEntry → Option PublicEntry
+abbrev shown_of : HttpRequestEntry → Option PublicEntry
 shown_of (denied why) = None
 shown_of (shown clerk show) = None
 shown_of (keying clerk batch entry) = None
@@ -75,21 +76,18 @@ shown_of (order entry) = None
 shown_of (public its what) = Some its
 
 shown-keying : (clerk batch : ℕ) (entry : Option KeyingEntry) → shown_of (asked_in clerk batch entry) ≡ None
-unfolding shown_of
 shown-keying clerk batch None = refl
 shown-keying clerk batch (Some entry) = refl
 
 shown-order : (entry : Option ConsoleOrderEntry) → shown_of (ordered_in entry) ≡ None
-unfolding shown_of
 shown-order None = refl
 shown-order (Some entry) = refl
 
 nothing-shown : (found : Option PublicEntry) (its : PublicEntry) → found ≡ None → found ≡ Some its → ⊥
-nothing-shown found its none is = let no : None ≡ Some its = sym none ∙ is in cc
+nothing-shown found its none is = let no : None ≡ Some its = sym none ∙ is in cc no
 
 shown-by-settings : (gate : Option GateEntry) (hall : Option PublicEntry) (there : Result Target RequestError) (size : Result ℕ RequestError) (behind : List ℕ) (its : PublicEntry)
     → shown_of (asked_of gate hall there size behind) ≡ Some its → hall ≡ Some its
-unfolding shown_of
 shown-by-settings gate hall (Err why) size behind its is = let no : ⊥ = cc in absurd no
 shown-by-settings gate hall (Ok (target.Keying clerk batch)) (Err why) behind its is = let no : ⊥ = cc in absurd no
 shown-by-settings gate hall (Ok (target.Keying clerk batch)) (Ok n) behind its is =
@@ -112,8 +110,8 @@ shown-by-settings gate (Some shows) (Ok (target.Public what)) size behind its is
 pub AsksInPublic-all : (settings : HttpSettingsEntry) (bytes : List ℕ) → AsksInPublic settings bytes
 AsksInPublic-all settings bytes = record { target = at; settings = by }
   where
-    at : (head : RequestHead) (behind : List ℕ) → _ → _ → (what : PublicTarget) → IsPublicTarget what head.target → (asked : HttpRequestEntry) → Asks settings bytes asked
-        → IsAskedInPublic settings head.method what asked
+    at : (head : RequestHead) (behind : List ℕ) → BeginsWith bytes head behind → is_foreign settings.origin (map name_and_value head.fields) ≡ false
+        → (what : PublicTarget) → IsPublicTarget what head.target → (asked : HttpRequestEntry) → Asks settings bytes asked → IsAskedInPublic settings head.method what asked
     at head behind begins own what is asked asks =
         let fields = map name_and_value head.fields in
         let so = TakesOwn-all settings bytes head behind begins own asked asks
@@ -125,7 +123,6 @@ AsksInPublic-all settings bytes = record { target = at; settings = by }
         }
 
     by : (its : PublicEntry) (what : PublicTarget) → Asks settings bytes (public its what) → settings.public ≡ Some its
-    unfolding shown_of
-    by its what (inl (none, is)) = let no : ⊥ = cc in absurd no
+    by its what (inl (none, is)) = absurd (cc is)
     by its what (inr (head, behind, begins, is)) =
         shown-by-settings settings.gate settings.public _ (body_length (map name_and_value head.fields)) behind its (sym (ap shown_of is))

@@ -260,8 +260,8 @@ fn read_from_head<'a, R: Source>(
     read_behind(alloc, settings, reader, &head, &read[front.spans.len..])
 }
 
-/// Reads a request, and returns what it asks, by the settings: the origin of pages that come through a proxy, and the gate, if
-/// any.
+/// Reads a request, and returns what it asks, by the settings: the origin of pages that come through a proxy, the gate, and what is
+/// shown in public, if any.
 ///
 /// A request with a header which shows that a page from elsewhere sent it, or that it came by a foreign name, is `Forbidden`,
 /// whatever else it asks. At a gate a request whose target begins with a clerk's number, such as `/clerks/4/`, is let in only
