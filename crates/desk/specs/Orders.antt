@@ -1,5 +1,5 @@
 -- The orders of the program: the name and the words of each, and what it means by the values of these.
-use Rattle.std.specs.Prelude.{ℕ, Bool, true, false, List, [], ◌∷◌, ◌++◌, Option, Some, None, codes, map, option_map, string_bytes}
+use Rattle.std.specs.Prelude.{ℕ, Bool, true, false, if◌then◌else◌, List, [], ◌∷◌, ◌++◌, Option, Some, None, bytes_eq, codes, map, option_map, string_bytes}
 use Rattle.clap.specs.Words.{Text}
 use Rattle.register.specs.declared.command.Command.{Command}
 use Rattle.register.specs.declared.command.Command.TheVariants as command
@@ -19,6 +19,8 @@ use Rattle.desk.specs.declared.order_entry.Word.{Word}
 use Rattle.desk.specs.declared.order_entry.Entry.{Entry}
 use Rattle.desk.specs.declared.orders.Errand.{Errand}
 use Rattle.desk.specs.declared.orders.Errand.TheVariants as errand
+use Rattle.desk.specs.declared.orders.Form.{Form}
+use Rattle.desk.specs.declared.orders.Form.TheVariants as form
 use Rattle.desk.specs.declared.orders.Question.{Question}
 use Rattle.desk.specs.declared.orders.Question.TheVariants as question
 use Rattle.desk.specs.declared.orders.Order.{Order}
@@ -90,6 +92,10 @@ title = record { name = codes "title"; kind = kind.Title }
 abbrev pub digest : WordEntry
 digest = record { name = codes "sha256"; kind = kind.Digest }
 
+-- how many papers are expected, after `--` and its name, optional
+abbrev pub papers : WordEntry
+papers = record { name = codes "papers"; kind = kind.Papers }
+
 -- words that are any texts, zero or more after the others
 abbrev pub texts : Text → WordEntry
 texts name = record { name = name; kind = kind.Texts }
@@ -158,7 +164,9 @@ pub data Meant : Type 0 where
   migrate : Meant
   send : Sent → Meant
   import_candidates : Text → Text → Option (List ℕ) → Meant
+  import_batches : Text → Text → Option (List ℕ) → Meant
   import_keying : ℕ → ℕ → ℕ → Text → Text → Option (List ℕ) → Meant
+  seal_expected : ℕ → ℕ → Text → Meant
   count : ℕ → Text → Meant
   tell_status : ℕ → Meant
   tell_next : ℕ → Meant
@@ -185,6 +193,8 @@ told_text ward text = print ward text
 abbrev pub told_errand : Errand → Meant
 told_errand (errand.Send r) = send (sent_as r)
 told_errand (errand.ImportCandidates file id digest) = import_candidates file.now id.now (asked_digest digest)
+told_errand (errand.ImportBatches file id digest) = import_batches file.now id.now (asked_digest digest)
+told_errand (errand.SealExpected e) = seal_expected e.ward e.papers e.id.now
 told_errand (errand.ImportKeying k) = import_keying k.clerk k.batch k.round k.file.now k.id.now (asked_digest k.digest)
 told_errand (errand.Count ward id) = count ward id.now
 told_errand (errand.TellStatus ward) = tell_status ward
@@ -225,6 +235,7 @@ WordValue kind.Origin = Option Text
 WordValue kind.CodesFile = Option Text
 WordValue kind.Title = Text
 WordValue kind.Digest = Option (List ℕ)
+WordValue kind.Papers = Option ℕ
 WordValue kind.Texts = List Text
 WordValue kind.Flag = Bool
 
@@ -270,6 +281,18 @@ shown_as (Some public) means = means public
 -- to serve on a port, and to show something in public under a title
 abbrev pub serve_shown : ℕ → Option ℕ → Option Text → Option Text → Bool → Text → Meant
 serve_shown port connections origin file public title = shown_as (public_of public title) (serve port connections origin file)
+-- the office seals a ward; if a number of papers is expected, only where as many were given out
+abbrev pub seal : ℕ → Text → Option ℕ → Meant
+seal ward id None = send (by_office id (ward_to_seal ward))
+seal ward id (Some papers) = seal_expected ward papers id
+
+-- the form of a name
+abbrev pub form_in : Text → Form
+form_in name =
+    if bytes_eq name (codes "covers") then form.Covers else (
+    if bytes_eq name (codes "adjudication") then form.Adjudication else (
+    if bytes_eq name (codes "lots") then form.Lots else (
+    if bytes_eq name (codes "declaration") then form.Declaration else form.Unknown)))
 
 -- the table of orders, in the sequence of an election
 unfoldable pub orders : List OrderEntry
@@ -281,12 +304,13 @@ orders =
     ∷ sends (codes "withdraw") (number (codes "WARD") ∷ number (codes "CANDIDATE") ∷ []) candidate_to_withdraw
     ∷ sends (codes "close") (number (codes "WARD") ∷ []) ward_to_close
     ∷ sends (codes "batch") (number (codes "BATCH") ∷ number (codes "WARD") ∷ number (codes "SIZE") ∷ number (codes "FIRST_CLERK") ∷ number (codes "SECOND_CLERK") ∷ []) batch_to_add
+    ∷ takes (codes "import-batches") (text (codes "FILE") ∷ id ∷ digest ∷ []) import_batches
     ∷ takes (codes "import-keying") (number (codes "CLERK") ∷ number (codes "BATCH") ∷ number (codes "ROUND") ∷ text (codes "FILE") ∷ id ∷ digest ∷ []) import_keying
     ∷ takes (codes "key") (number (codes "CLERK") ∷ number (codes "BATCH") ∷ number (codes "ROUND") ∷ texts (codes "MARKS") ∷ id ∷ []) key
     ∷ sends (codes "again") (number (codes "BATCH") ∷ []) batch_to_key_again
     ∷ sends (codes "third") (number (codes "BATCH") ∷ number (codes "CLERK") ∷ []) batch_for_third_clerk
     ∷ sends (codes "judge") (number (codes "BATCH") ∷ number (codes "PAPER") ∷ verdict (codes "VERDICT") ∷ []) paper_to_judge
-    ∷ sends (codes "seal") (number (codes "WARD") ∷ []) ward_to_seal
+    ∷ takes (codes "seal") (number (codes "WARD") ∷ id ∷ papers ∷ []) seal
     ∷ sends (codes "advance") (number (codes "WARD") ∷ []) stage_to_count
     ∷ takes (codes "count") (number (codes "WARD") ∷ id ∷ []) count
     ∷ sends (codes "lot") (number (codes "WARD") ∷ number (codes "STAGE") ∷ number (codes "CANDIDATE") ∷ []) lot_to_record
@@ -307,6 +331,7 @@ orders =
     ∷ takes (codes "replay") (text (codes "FILE") ∷ flag (codes "keep-going") ∷ []) replay
     ∷ takes (codes "copy") (text (codes "NEW") ∷ []) copy
     ∷ takes (codes "codes") (text (codes "FILE") ∷ text (codes "CLERKS") ∷ flag (codes "office") ∷ []) make_codes
+    ∷ takes (codes "forms") (text (codes "FORM") ∷ number (codes "WARD") ∷ []) (λ name ward. ask (question.Form (form_in name) ward))
     ∷ takes (codes "ballots") (number (codes "WARD") ∷ []) (λ ward. print ward ward_text.Ballots)
     ∷ takes (codes "page") (number (codes "WARD") ∷ title ∷ []) print_page
     ∷ takes (codes "table") (number (codes "WARD") ∷ []) (λ ward. print ward ward_text.Table)

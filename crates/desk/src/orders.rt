@@ -21,6 +21,29 @@ pub struct KeyingFile<'a> {
     pub digest: Option<FileDigest>,
 }
 
+/// The seal of a ward, for which this many papers are to have been given out to the ward's batches.
+#[derive(Clone, Copy, Debug)]
+pub struct ExpectedSeal<'a> {
+    pub ward: u32,
+    pub papers: u32,
+    pub id: &'a str,
+}
+
+/// A form of a ward, to be printed and filled in.
+#[derive(Clone, Copy, Debug)]
+pub enum Form {
+    /// A cover for each batch.
+    Covers,
+    /// The doubtful papers, with room for the verdicts.
+    Adjudication,
+    /// The lot that the count waits for.
+    Lots,
+    /// The words of the declaration.
+    Declaration,
+    /// There is no form of the name that was given.
+    Unknown,
+}
+
 /// A question that only the office asks.
 #[derive(Clone, Copy, Debug)]
 pub enum Question {
@@ -36,6 +59,8 @@ pub enum Question {
     Papers { batch: u32 },
     /// The receipts of an actor, or of all.
     Receipts { actor: Option<u32> },
+    /// A form of a ward.
+    Form { form: Form, ward: u32 },
 }
 
 /// A task in an existing office. The numbers are as given, in range or not.
@@ -50,8 +75,17 @@ pub enum Errand<'a> {
         id: &'a str,
         digest: Option<FileDigest>,
     },
+    /// Give out the batches of a file, each under this id, a hyphen, and its record's number. If a digest is given, the file must have
+    /// it.
+    ImportBatches {
+        file: &'a str,
+        id: &'a str,
+        digest: Option<FileDigest>,
+    },
     /// Store a clerk's keying.
     ImportKeying(KeyingFile<'a>),
+    /// Seal a ward, if as many papers as expected were given out.
+    SealExpected(ExpectedSeal<'a>),
     /// Count the stages of a ward up to a lot or the end, each under this id, a hyphen, and its number in this order.
     Count {
         ward: u32,
@@ -85,6 +119,7 @@ impl<'a> Errand<'a> {
     {
         match self {
             Errand::ImportCandidates { file, .. } => Some(file),
+            Errand::ImportBatches { file, .. } => Some(file),
             Errand::ImportKeying(keying) => Some(keying.file),
             _ => None,
         }
@@ -98,7 +133,9 @@ impl<'a> Errand<'a> {
             self,
             Errand::Send(_)
                 | Errand::ImportCandidates { .. }
+                | Errand::ImportBatches { .. }
                 | Errand::ImportKeying(_)
+                | Errand::SealExpected(_)
                 | Errand::Count { .. }
         )
     }
