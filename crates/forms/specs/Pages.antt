@@ -43,13 +43,14 @@ style =
     codes ".rounds td { height: 16mm; width: 28%; }\n" ++ (
     codes ".verdicts td { height: 11mm; }\n" ++ (
     codes ".verdicts .marks { width: 45%; }\n" ++ (
-    codes "ul { font-size: 16pt; }\n" ++ (
+    codes "ul { font-size: 16pt; list-style: none; padding: 0; }\n" ++ (
+    codes "li { break-inside: avoid; }\n" ++ (
     codes ".names { font-size: 11pt; columns: 3; }\n" ++ (
     codes ".slips { display: grid; grid-template-columns: 1fr 1fr; }\n" ++ (
     codes ".slip { border: 1pt dashed #000; padding: 6mm; break-inside: avoid; }\n" ++ (
     codes ".slip p { margin: 0 0 2mm; }\n" ++ (
     codes ".code { font: bold 15pt monospace; }\n" ++ (
-    codes ".line { border-bottom: 1pt solid #000; margin: 0; padding: 11mm 0 1mm; break-inside: avoid; }\n"))))))))))))))))))))
+    codes ".line { border-bottom: 1pt solid #000; margin: 0; padding: 11mm 0 1mm; break-inside: avoid; }\n")))))))))))))))))))))
 
 -- a page with a form, under a title for the browser
 unfoldable pub page : Text → Text → Text

@@ -24,7 +24,8 @@ tr { break-inside: avoid; }
 .rounds td { height: 16mm; width: 28%; }
 .verdicts td { height: 11mm; }
 .verdicts .marks { width: 45%; }
-ul { font-size: 16pt; }
+ul { font-size: 16pt; list-style: none; padding: 0; }
+li { break-inside: avoid; }
 .names { font-size: 11pt; columns: 3; }
 .slips { display: grid; grid-template-columns: 1fr 1fr; }
 .slip { border: 1pt dashed #000; padding: 6mm; break-inside: avoid; }
