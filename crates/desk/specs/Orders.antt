@@ -1,5 +1,5 @@
 -- The orders of the program: the name and the words of each, and what it means by the values of these.
-use Rattle.std.specs.Prelude.{ℕ, Bool, true, false, List, [], ◌∷◌, ◌++◌, Option, Some, None, codes, map, option_map, string_bytes}
+use Rattle.std.specs.Prelude.{ℕ, Bool, true, false, if◌then◌else◌, List, [], ◌∷◌, ◌++◌, Option, Some, None, bytes_eq, codes, map, option_map, string_bytes}
 use Rattle.clap.specs.Words.{Text}
 use Rattle.register.specs.declared.command.Command.{Command}
 use Rattle.register.specs.declared.command.Command.TheVariants as command
@@ -90,6 +90,10 @@ title = record { name = codes "title"; kind = kind.Title }
 abbrev pub digest : WordEntry
 digest = record { name = codes "sha256"; kind = kind.Digest }
 
+-- how many papers are expected, after `--` and its name, optional
+abbrev pub papers : WordEntry
+papers = record { name = codes "papers"; kind = kind.Papers }
+
 -- words that are any texts, zero or more after the others
 abbrev pub texts : Text → WordEntry
 texts name = record { name = name; kind = kind.Texts }
@@ -158,7 +162,9 @@ pub data Meant : Type 0 where
   migrate : Meant
   send : Sent → Meant
   import_candidates : Text → Text → Option (List ℕ) → Meant
+  import_batches : Text → Text → Option (List ℕ) → Meant
   import_keying : ℕ → ℕ → ℕ → Text → Text → Option (List ℕ) → Meant
+  seal_expected : ℕ → ℕ → Text → Meant
   count : ℕ → Text → Meant
   tell_status : ℕ → Meant
   tell_next : ℕ → Meant
@@ -184,6 +190,8 @@ told_text ward text = print ward text
 abbrev pub told_errand : Errand → Meant
 told_errand (errand.Send r) = send (sent_as r)
 told_errand (errand.ImportCandidates file id digest) = import_candidates file.now id.now (asked_digest digest)
+told_errand (errand.ImportBatches file id digest) = import_batches file.now id.now (asked_digest digest)
+told_errand (errand.SealExpected e) = seal_expected e.ward e.papers e.id.now
 told_errand (errand.ImportKeying k) = import_keying k.clerk k.batch k.round k.file.now k.id.now (asked_digest k.digest)
 told_errand (errand.Count ward id) = count ward id.now
 told_errand (errand.TellStatus ward) = tell_status ward
@@ -223,6 +231,7 @@ WordValue kind.Origin = Option Text
 WordValue kind.CodesFile = Option Text
 WordValue kind.Title = Text
 WordValue kind.Digest = Option (List ℕ)
+WordValue kind.Papers = Option ℕ
 WordValue kind.Texts = List Text
 WordValue kind.Flag = Bool
 
@@ -254,6 +263,11 @@ sends name words asked = record { typed = record { name = name; words = words ++
 abbrev pub key : ℕ → ℕ → ℕ → List Text → Text → Meant
 key clerk batch round papers id = send (by_clerk clerk id (keying_to_keep batch round papers))
 
+-- the office seals a ward; if a number of papers is expected, only where as many were given out
+abbrev pub seal : ℕ → Text → Option ℕ → Meant
+seal ward id None = send (by_office id (ward_to_seal ward))
+seal ward id (Some papers) = seal_expected ward papers id
+
 -- the table of orders, in the sequence of an election
 unfoldable pub orders : List OrderEntry
 orders =
@@ -264,12 +278,13 @@ orders =
     ∷ sends (codes "withdraw") (number (codes "WARD") ∷ number (codes "CANDIDATE") ∷ []) candidate_to_withdraw
     ∷ sends (codes "close") (number (codes "WARD") ∷ []) ward_to_close
     ∷ sends (codes "batch") (number (codes "BATCH") ∷ number (codes "WARD") ∷ number (codes "SIZE") ∷ number (codes "FIRST_CLERK") ∷ number (codes "SECOND_CLERK") ∷ []) batch_to_add
+    ∷ takes (codes "import-batches") (text (codes "FILE") ∷ id ∷ digest ∷ []) import_batches
     ∷ takes (codes "import-keying") (number (codes "CLERK") ∷ number (codes "BATCH") ∷ number (codes "ROUND") ∷ text (codes "FILE") ∷ id ∷ digest ∷ []) import_keying
     ∷ takes (codes "key") (number (codes "CLERK") ∷ number (codes "BATCH") ∷ number (codes "ROUND") ∷ texts (codes "MARKS") ∷ id ∷ []) key
     ∷ sends (codes "again") (number (codes "BATCH") ∷ []) batch_to_key_again
     ∷ sends (codes "third") (number (codes "BATCH") ∷ number (codes "CLERK") ∷ []) batch_for_third_clerk
     ∷ sends (codes "judge") (number (codes "BATCH") ∷ number (codes "PAPER") ∷ verdict (codes "VERDICT") ∷ []) paper_to_judge
-    ∷ sends (codes "seal") (number (codes "WARD") ∷ []) ward_to_seal
+    ∷ takes (codes "seal") (number (codes "WARD") ∷ id ∷ papers ∷ []) seal
     ∷ sends (codes "advance") (number (codes "WARD") ∷ []) stage_to_count
     ∷ takes (codes "count") (number (codes "WARD") ∷ id ∷ []) count
     ∷ sends (codes "lot") (number (codes "WARD") ∷ number (codes "STAGE") ∷ number (codes "CANDIDATE") ∷ []) lot_to_record

@@ -133,7 +133,9 @@ script_lines text = map typed_line (numbered_from 1 (lines_of text))
 abbrev pub sends_requests : Errand → Bool
 sends_requests (errand.Send request) = true
 sends_requests (errand.ImportCandidates file id digest) = true
+sends_requests (errand.ImportBatches file id digest) = true
 sends_requests (errand.ImportKeying keying) = true
+sends_requests (errand.SealExpected seal) = true
 sends_requests (errand.Count ward id) = true
 sends_requests other = false
 

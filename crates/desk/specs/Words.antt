@@ -51,6 +51,10 @@ id_rule name = record (new_rule name) { long = Some name; value_names = 1; requi
 abbrev pub option_rule : Text → Rule
 option_rule name = record (new_rule name) { long = Some name; value_names = 1 }
 
+-- an optional value after `--` and the word's name that is one of some numbers
+abbrev pub number_option_rule : ValueParser → Text → Rule
+number_option_rule numbers name = record (new_rule name) { long = Some name; value_names = 1; parser = Some numbers }
+
 -- any values after the other words, each under the same name
 abbrev pub texts_rule : Text → Rule
 texts_rule name = record (new_rule name) { action = Some Append }
@@ -72,6 +76,7 @@ rule_of_kind kind.Origin = option_rule
 rule_of_kind kind.CodesFile = option_rule
 rule_of_kind kind.Title = option_rule
 rule_of_kind kind.Digest = option_rule
+rule_of_kind kind.Papers = number_option_rule any_number
 rule_of_kind kind.Texts = texts_rule
 rule_of_kind kind.Flag = flag_rule
 
@@ -158,6 +163,7 @@ with_value kind.Origin rows name means = served_to (origin_at name rows) means
 with_value kind.CodesFile rows name means = means (first_of name rows)
 with_value kind.Title rows name means = means (text_at name rows)
 with_value kind.Digest rows name means = digested_by (digest_at name rows) means
+with_value kind.Papers rows name means = means (number_found name rows)
 with_value kind.Texts rows name means = means (texts_at name rows)
 with_value kind.Flag rows name means = means (flag_at name rows)
 

@@ -25,6 +25,8 @@ pub(crate) enum Kind {
     Title,
     /// A digest in 64 hexadecimal digits, after `--sha256`, optional.
     Digest,
+    /// A number from 0 to 4294967295, after `--papers`, optional.
+    Papers,
     /// Any texts, zero or more words after the others.
     Texts,
     /// A flag: `--` and its name, optional.
@@ -100,6 +102,9 @@ pub(crate) const ROUND: Word =
 
 pub(crate) const MARKS: Word =
     word!(Texts "MARKS", "The marks of its papers in turn, a word a paper: a field for each candidate,\nparted by commas, or D where the paper is doubtful");
+
+pub(crate) const PAPERS: Word =
+    word!(Papers "papers", "How many papers the ward is to have, by the count of its boxes;\nwhere as many weren't given out, nothing is sent");
 
 pub(crate) const PAPER: Word = word!(Number "PAPER", "The paper's number in the batch, 1 to 500");
 

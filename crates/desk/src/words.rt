@@ -106,6 +106,10 @@ fn arg_of<'a>(alloc: Global, word: Word) -> Arg<'a>
         Kind::CodesFile => arg.long(word.name).value_name("FILE"),
         Kind::Title => arg.long(word.name).value_name("TEXT"),
         Kind::Digest => arg.long(word.name).value_name("HEX"),
+        Kind::Papers => {
+            let arg = arg.long(word.name).value_name("COUNT");
+            arg.value_parser(value_parser!(u32))
+        }
         Kind::Texts => arg.action(ArgAction::Append),
         Kind::Flag => arg.long(word.name).action(ArgAction::SetTrue),
     }
