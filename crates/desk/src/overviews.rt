@@ -256,7 +256,7 @@ fn lines_of<T: Lined>(alloc: Global, found: &[T]) -> Result<String, AllocError>
 }
 
 /// Returns what is printed if nothing was found.
-pub(crate) fn stopped(stop: Stop) -> LineOutcome
+fn stopped(stop: Stop) -> LineOutcome
     ensures { page_of result ≡ page_stopped stop }
 {
     match stop {
