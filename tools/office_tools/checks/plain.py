@@ -11,7 +11,7 @@ from office_tools.checks.links import FENCED, pages
 from office_tools.office import ROOT
 
 MOST, LEAST, MOST_IN_COMMENTS = 30, 4, 40
-SHARES, OTHERS = {5: "README ELECTION TELLERS AGENTS RULES REFUSALS GLOSSARY INSTALLING", 20: "proofs limits",
+SHARES, OTHERS = {5: "README evening by-words when-it-says-no putting-right tellers agents installing network rules glossary", 20: "proofs limits",
                   10: "orders files sheets ballots http console-api screen-api tables faults"}, 15
 # What begins a line of a comment, and such lines in a row.
 SIGN = r"^[ \t]*(?:///|//!|//|--)(?: |$)"

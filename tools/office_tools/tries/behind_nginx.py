@@ -1,4 +1,4 @@
-"""Guesses codes through nginx, as docs/HTTP.md configures it, while forty tellers ask with theirs.
+"""Guesses codes through nginx, as docs/officer/network.md configures it, while forty tellers ask with theirs.
 
 Only ports, certificate and network are changed. Each teller has an address of their own, and asks twice a second. For three minutes (or
 --seconds N) an outsider at another address of the same network guesses ten codes a second, under all forty numbers in turn. At least 99 of
@@ -27,10 +27,10 @@ ROOMS = "".join(f"{kind}_temp_path {kind};" for kind in ("client_body", "proxy",
 @contextlib.contextmanager
 def nginx(folder, port):
     """Runs nginx before an office, and gives a function that connects from an address to it."""
-    tls, text = free_port(), (ROOT / "docs/HTTP.md").read_text(encoding="utf-8").split("```nginx\n")[1].split("# send a browser")[0]
+    tls, text = free_port(), (ROOT / "docs/officer/network.md").read_text(encoding="utf-8").split("```nginx\n")[1].split("# send a browser")[0]
     for old, new in (("443", f"{HERE}:{tls}"), ("/etc/ssl/certs/", ""), ("/etc/ssl/private/", ""), ("192.0.2.", LAN), ("8080", str(port))):
         if text.count(old) != 1:
-            raise Wrong(f"docs/HTTP.md has another configuration: {old} is in it {text.count(old)} times")
+            raise Wrong(f"docs/officer/network.md has another configuration: {old} is in it {text.count(old)} times")
         text = text.replace(old, new)
     (folder / "nginx.conf").write_text(f"daemon off; pid pid; error_log errors; events {{}} http {{ {ROOMS} {text} }}", encoding="utf-8")
     subprocess.run(CERTIFICATE.split(), cwd=folder, check=True, capture_output=True)
