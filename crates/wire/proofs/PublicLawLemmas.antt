@@ -58,7 +58,7 @@ ward-same s t w same =
     ap (λ (told : Told). listed_shown (record { ward = w; status = status_of s w; elected = told.0; candidates = told.1 })) (told-same w.phase (election_of t w) (election_of s w) same)
 
 both-same : {X : Type 0} (x y : X) (xs ys : List X) → x ≡ y → xs ≡ ys → x ∷ xs ≡ y ∷ ys
-both-same x y xs ys first rest = ap (λ (z : X). z ∷ xs) first ∙ ap (λ (zs : List X). y ∷ zs) rest
+both-same {X = X} x y xs ys first rest = ap (λ (z : X). z ∷ xs) first ∙ ap (λ (zs : List X). y ∷ zs) rest
 
 all-listed : (s t : OfficeState) (wards : List WardEntry) → All (IsSameOnceSealed s t) wards → map listed_shown (map (ward_view_of t) wards) ≡ map listed_shown (map (ward_view_of s) wards)
 all-listed s t [] same = refl
@@ -80,11 +80,12 @@ page-once-sealed title false one other same = refl
 page-same : (title : List ℕ) (s t : OfficeState) (test : WardEntry → Bool) (wards : List WardEntry) → All (IsSameOnceSealed s t) wards
     → page_found title t (find test wards) ≡ page_found title s (find test wards)
 page-same title s t test [] same = refl
-page-same title s t test (w ∷ wards) same = by (test w) refl
+page-same title s t test (w ∷ wards) same = by (test w) refl (page-same title s t test wards (All-tail (IsSameOnceSealed s t) w wards same))
   where
-    by : (b : Bool) → test w ≡ b → page_found title t (find test (w ∷ wards)) ≡ page_found title s (find test (w ∷ wards))
-    by true is = rw is (page-once-sealed title (is_counted w.phase) (election_of t w) (election_of s w) (All-head (IsSameOnceSealed s t) w wards same))
-    by false is = rw is (page-same title s t test wards (All-tail (IsSameOnceSealed s t) w wards same))
+    by : (b : Bool) → test w ≡ b → page_found title t (find test wards) ≡ page_found title s (find test wards)
+        → page_found title t (find test (w ∷ wards)) ≡ page_found title s (find test (w ∷ wards))
+    by true is rest = rw is (page-once-sealed title (is_counted w.phase) (election_of t w) (election_of s w) (All-head (IsSameOnceSealed s t) w wards same))
+    by false is rest = rw is rest
 
 page-alike : (title : List ℕ) (ward : ℕ) (s t : OfficeState) → AreAlikeInPublic s t → page_told title t ward ≡ page_told title s ward
 page-alike title ward s t alike = by (is_ward_number ward) refl
