@@ -47,7 +47,7 @@ one_kept_state s t st is_open first second =
 -- so what is read by a memory is read of the state that the store keeps
 pub loads_known : {X : Type 0} {P : OfficeState → X → Type 0} {old new : State} {r : Result X Fault} (before : Vec Known) → (HasCleanDisk old → IsTrue old.is_open → Remembers old before.items)
     → LoadsAt old new r (λ s x. AreKnown s before.items → P s x) → LoadsAt old new r P
-loads_known {X} {P} {old} {new} {Ok x} before tied loads =
+loads_known {X = X} {P = P} {old = old} {new = new} {r = Ok x} before tied loads =
     record {
       shows = λ clean s at.
           let was = loads.reads.was_open clean (loads.opens clean) in

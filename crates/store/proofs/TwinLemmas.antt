@@ -68,8 +68,8 @@ module _ (s : OfficeState) (k c : Known) (own : IsKnown s k) (taken : is_taken s
   its_taken : same_sum k.pile c.pile ≡ true → is_taken s (row_of c) ≡ true
   its_taken same = go (is_taken s (row_of c)) refl (sym sums ∙ same)
     where
-      go : (q : Bool) → is_taken s (row_of c) ≡ q → same_sum (option_map checksum (pile_in s (row_of k)))
-      (option_map checksum (cond (is_taken s (row_of c)) (Some (pile_text_of s (row_of c))) None)) ≡ true
+      go : (q : Bool) → is_taken s (row_of c) ≡ q
+          → same_sum (option_map checksum (pile_in s (row_of k))) (option_map checksum (cond (is_taken s (row_of c)) (Some (pile_text_of s (row_of c))) None)) ≡ true
           → is_taken s (row_of c) ≡ true
       go true is same = is
       go false is same = absurd (none (option_map checksum (pile_in s (row_of k))) (rw is at same))

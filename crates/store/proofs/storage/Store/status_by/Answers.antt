@@ -16,4 +16,4 @@ returns g c =
     let own = batches_of s c.args.ward.now.number in
     let tally = countable s is c.args.ward.now.number c.tally_among-tally.result (c.tally_among-tally.ensures s own are) in
     same_status _ _ refl refl (c.len.ensures ∙ candidates.ok.0 ∙ sym (mapped_length candidate_entry candidates.items) ∙ ap length told)
-    (c.len-2.ensures ∙ as_many s own c.args.batches.now are) tally.0 tally.1 tally.2 refl)
+    (as_many s own c.args.batches.now are) tally.0 tally.1 tally.2 refl)

@@ -1,17 +1,24 @@
 -- Proof that `wards_with` meets its contract.
-use Rattle.std.proofs.Common.{◌≡◌, map, refl, ap, ◌∙◌, sym}
-use Rattle.tables.specs.declared.fault.Fault.TheVariants.{Memory}
-use Rattle.tables.proofs.ListLemmas.{mapped_twice}
-use Rattle.store.specs.Memories.{ProgressView, progress_of, progress_view}
-use Rattle.store.proofs.LoadsLemmas.{loads_as, loads_stopped}
+use Rattle.std.proofs.Common.{◌≡◌}
+use Rattle.store.proofs.LoadsLemmas.{loads_as, loads_both, loads_cut}
 use Rattle.store.proofs.storage.Store.wards_with.Goals as goal
 
-pub returns-in-Ok-clause-loads : goal.returns-in-Ok-clause-loads
-returns-in-Ok-clause-loads g c =
-    loads_as c.in_ok-progress.ensures.loads
-    (λ s is told. λ are.
-    c.in-Ok.ensures ∙ sym (mapped_twice progress_view (λ (p : ProgressView). p.ward) c.in_ok-progress.progress.items) ∙ ap (map (λ (p : ProgressView). p.ward)) (told are)
-    ∙ mapped_twice (progress_of s) (λ (p : ProgressView). p.ward) s.wards)
+pub returns-clause-loads : goal.returns-clause-loads
+returns-clause-loads g c =
+    loads_as (loads_both (loads_both c.in_ok-renew.ensures.renews c.in_ok-wards.ensures) (rw c.deref.ensures.value at c.in_ok-found.ensures)) (λ s is told. λ are. told.1 told.0.1 (told.0.0 are))
 
-pub returns-in-Err-clause-loads : goal.returns-in-Err-clause-loads
-returns-in-Err-clause-loads g c = loads_stopped {f = Memory} refl c.in_ok-progress.ensures.loads (λ s is told. refl)
+pub returns-clause-stays : goal.returns-clause-stays
+returns-clause-stays g c = λ clean s at are. c.in_ok-renew.ensures.stays (c.all_wards.ensures.reads.clean (c.ward_overviews_by.ensures.reads.clean clean)) s at are
+
+pub returns-in_err-wards-clause-loads : goal.returns-in_err-wards-clause-loads
+returns-in_err-wards-clause-loads g c = loads_cut c.from_residual-in_err-wards.ensures.1 c.in_ok-renew.ensures.renews c.in_err-wards.ensures
+
+pub returns-in_err-wards-clause-stays : goal.returns-in_err-wards-clause-stays
+returns-in_err-wards-clause-stays g c = λ clean s at are. c.in_ok-renew.ensures.stays (c.all_wards.ensures.reads.clean clean) s at are
+
+pub returns-in_err-found-clause-loads : goal.returns-in_err-found-clause-loads
+returns-in_err-found-clause-loads g c = loads_cut c.from_residual-in_err-found.ensures.1 (loads_both c.in_ok-renew.ensures.renews c.in_ok-wards.ensures)
+    (rw c.deref.ensures.value at c.in_err-found.ensures)
+
+pub returns-in_err-found-clause-stays : goal.returns-in_err-found-clause-stays
+returns-in_err-found-clause-stays g c = λ clean s at are. c.in_ok-renew.ensures.stays (c.all_wards.ensures.reads.clean (c.ward_overviews_by.ensures.reads.clean clean)) s at are
