@@ -1,5 +1,5 @@
 -- Proof that `ward_batches_by` meets its contract.
-use Rattle.std.proofs.Common.{◌≡◌, ◌==◌, map, filter, List, refl, sym, ap, ◌∙◌}
+use Rattle.std.proofs.Common.{◌≡◌, ◌==◌, map, filter, List, rules, refl, sym, ap, ◌∙◌}
 use Rattle.register.specs.Offices.{BatchEntry}
 use Rattle.tables.specs.declared.fault.Fault.TheVariants.{Memory}
 use Rattle.store.specs.Memories.{IsKnown, row_of}
@@ -13,7 +13,7 @@ pub with_twin_in-requires : goal.with_twin_in-requires
 with_twin_in-requires g c clean = c.loop-one.invariant.opens clean
 
 pub loop-one-init : goal.loop-one-init
-loop-one-init g c = loads_none c.requires (λ s is. λ all. refl)
+loop-one-init g c = loads_none c.requires (λ s is. λ all. search rules)
 
 pub loop-one-preserved : goal.loop-one-preserved
 loop-one-preserved g c =

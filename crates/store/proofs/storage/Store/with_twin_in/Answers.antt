@@ -10,4 +10,4 @@ pub returns : goal.returns
 returns g c =
     let b = row_of c.args.one.now in
     loads_as c.in_ok-overview.ensures
-    (λ s is told. λ all own. ap (λ (v : BatchView). Some v) (told all own) ∙ sym (cond-true (b.ward == c.args.ward) (Some (batch_view_of s b)) None (eq-eqb b.ward c.args.ward c.if-ward.false)))
+    (λ s is told. λ all own. ap (λ (v : BatchView). Some v) (told all own) ∙ sym (cond-true (b.ward == c.args.ward) (Some (batch_view_of s b)) None (eq-eqb b.ward c.args.ward c.if-one-ward.false)))
