@@ -14,7 +14,7 @@ WIDTHS = ((1280, 800), (800, 600), (400, 800))
 # What has the focus: its key, its id, and the id of the list that it opens.
 FOCUSED = """(({id, dataset, tagName, parentElement}) => [dataset?.key, id, tagName === 'SUMMARY' && parentElement.id].filter(Boolean))(
     document.activeElement ?? {})"""
-# What the page may ask for: docs/CONSOLE-API.md.
+# What the page may ask for: docs/formats/console-api.md.
 ASKED = re.compile(r"(GET /office/(|leave|wards(/\d+(/batches|/doubtful)?)?|batches/\d+/(differences|papers)|receipts(\?actor=\d+)?)"
                    r"|POST /office/orders) HTTP/1.1")
 
@@ -154,7 +154,7 @@ class Evening:
         self.start()
 
     def check_asked(self):
-        """Checks that the page asked for nothing but what docs/CONSOLE-API.md has."""
+        """Checks that the page asked for nothing but what docs/formats/console-api.md has."""
         if strange := {line for line in self.line.asked if not ASKED.fullmatch(line)}:
             raise Wrong(f"the page asked {strange}")
 
