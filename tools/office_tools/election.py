@@ -70,8 +70,9 @@ class Order:
 def election(copies=1):
     """Returns the orders of an election of two seats, with nine valid papers, or so many copies of them, and a doubtful one.
 
-    The first candidate has the quota, the fourth is excluded, and a lot is drawn between the two others. The second clerk errs once; a
-    third one is set, and all three may key again.
+    The batch is given out once more by a file, under the id that it has, which does nothing. The first candidate has the quota, the
+    fourth is excluded, and a lot is drawn between the two others. The second clerk errs once; a third one is set, and all three may
+    key again.
     """
     papers = (["1,,,"] * 4 + [",1,,", ",1,,2", ",,1,", ",,1,", ",,,1"]) * copies + ["D"]
     right, wrong, size = keying(papers, range(1, 5)), keying(["1,2,,", *papers[1:]], range(1, 5)), len(papers)
@@ -79,12 +80,14 @@ def election(copies=1):
     lot = 3 if copies == 1 else 4
     lines = [
         "init", "ward 7 2 Harbour --id w1", f"import-candidates {FILE} --id c", "withdraw 7 4 --id x1", "candidate 7 4 Dee --id c4",
-        "close 7 --id n1", f"batch 12 7 {size} 4 9 --id b1", f"import-keying 4 12 1 {FILE} --id k1", f"import-keying 9 12 1 {FILE} --id k1",
+        "close 7 --id n1", f"batch 12 7 {size} 4 9 --id b-1", f"import-keying 4 12 1 {FILE} --id k1", f"import-keying 9 12 1 {FILE} --id k1",
+        f"import-batches {FILE} --id b",
         "third 12 5 --id t1", "again 12 --id g1", f"import-keying 4 12 2 {FILE} --id k2", f"key 9 12 2 {' '.join(papers)} --id k2",
         f"judge 12 {size} reject:5 --id j1", "seal 7 --id s1", *(f"advance 7 --id a{stage}" for stage in range(1, lot)),
         f"lot 7 {lot} 2 --id l{lot}", "count 7 --id a", "declare 7 --id d1",
     ]
-    files = {2: ["ward,candidate,name", *(f"7,{c},Candidate {c}" for c in range(1, 5))], 7: right, 8: wrong, 11: right}
+    batches = ["batch,ward,size,first clerk,second clerk", f"12,7,{size},4,9"]
+    files = {2: ["ward,candidate,name", *(f"7,{c},Candidate {c}" for c in range(1, 5))], 7: right, 8: wrong, 9: batches, 12: right}
     return [Order(line.split(), files.get(number)) for number, line in enumerate(lines)]
 
 
@@ -96,8 +99,8 @@ REPLAY = Order(["replay", SCRIPT], ["# the last candidate, a batch, and the firs
 COPYING = Order(["copy", COPY])
 # Orders that change nothing, each with the number of the order before which it is tried.
 READS = [(number, Order(line.split())) for number, line in (
-    (END, "status 7"), (END, "sheet 7"), (END, "result 7"), (17, "advance 7 --id a3"), (17, "next 7"), (0, "status 7"), (END, "wards"),
-    (END, "receipts"), (END, "journal"), (13, "batches 7"), (13, "doubtful 7"), (9, "differences 12"), (13, "papers 12"))]
+    (END, "status 7"), (END, "sheet 7"), (END, "result 7"), (18, "advance 7 --id a3"), (18, "next 7"), (0, "status 7"), (END, "wards"),
+    (END, "receipts"), (END, "journal"), (14, "batches 7"), (14, "doubtful 7"), (9, "differences 12"), (14, "papers 12"))]
 # The same of requests; the keying is that of the order 8.
 KEYING = '{"id":"k1","round":1,"papers":["1,2,,",%s"D"]}' % "".join(f'"{line.split(",", 1)[1]}",' for line in ELECTION[8].lines[2:-1])
 REQUESTS = [(number, Order([f"{'POST' if body else 'GET'} {target}"], sends=request(target, body=body))) for number, target, body in (

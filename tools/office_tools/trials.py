@@ -45,7 +45,7 @@ class Trial:
 
     def between(self):
         """Yields what an order of several records leaves after each but the last."""
-        if self.is_script or self.order.words[0] == "import-candidates":
+        if self.is_script or self.order.words[0] in ("import-candidates", "import-batches"):
             for count in range(2, len(self.order.lines)):
                 part = self.office.copied(self.folder / "part")
                 Order(self.order.words, self.order.lines[:count]).done(part)

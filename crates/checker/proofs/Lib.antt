@@ -5,6 +5,7 @@ pub mod NameLemmas
 pub mod DifferenceLemmas
 pub mod WardLemmas
 pub mod CountLemmas
+pub mod RecordLemmas
 pub mod LineLaws
 pub mod NumberLaws
 pub mod PaperLaws

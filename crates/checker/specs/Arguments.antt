@@ -1,16 +1,19 @@
 -- The request in the program's arguments, and its outcome.
-use Rattle.std.specs.Prelude.{◌≡◌, ◌⊎◌, ◌||◌, if◌then◌else◌, nat_eq, Bool, false, List, [], ◌∷◌, Result, Ok, Err, codes, string_bytes}
+use Rattle.std.specs.Prelude.{◌≡◌, ◌⊎◌, ℕ, ◌||◌, if◌then◌else◌, nat_eq, Bool, false, List, [], ◌∷◌, Result, Ok, Err, codes, string_bytes}
 use Rattle.std.specs.Cmp.Lexicographic.{pointwise}
 use Rattle.checker.specs.Checks.{IsChecked, IsProblem}
 use Rattle.checker.specs.Counts.{IsCountedText, IsUncounted}
 use Rattle.checker.specs.Reports.{ReportEntry, hint_of, memory_page, page_of}
-use Rattle.checker.specs.Requests.{CountEntry, count_request}
+use Rattle.checker.specs.Reading.{ReaderEntry, read}
+use Rattle.checker.specs.Records.{read_records}
+use Rattle.checker.specs.Requests.{CountEntry, FormEntry, blt, count_request, records}
 use Rattle.checker.specs.Tokens.{Text}
 use Rattle.checker.specs.declared.arguments.ArgumentsFault.{ArgumentsFault}
 use Rattle.checker.specs.declared.arguments.ArgumentsFault.TheVariants as words
 use Rattle.checker.specs.declared.requests.WordsFlaw.{WordsFlaw}
 use Rattle.checker.specs.declared.report.Report.{Report}
 use Rattle.checker.specs.declared.report.Report.TheVariants as report
+use Rattle.checker.specs.declared.problem.BallotsFlaw.{BallotsFlaw}
 use Rattle.checker.specs.declared.problem.Problem.TheVariants as problem
 use Rattle.checker.specs.InputFiles.{InputFiles, Holds, Withholds}
 
@@ -85,10 +88,15 @@ IsTextOutcome held ballots path told = IsUnreadFile held path told ⊎ ((text : 
 abbrev pub IsFilesOutcome : InputFiles → Text → Text → Report → Type 0
 IsFilesOutcome held path text_path told = IsUnreadFile held path told ⊎ ((ballots : Text) × Holds held path ballots × IsTextOutcome held ballots text_path told)
 
+-- the content of a file of ballots in a form
+abbrev pub read_in : FormEntry → Text → Result ReaderEntry (ℕ × BallotsFlaw)
+read_in blt bytes = read bytes
+read_in (records ward) bytes = read_records ward bytes
+
 -- the outcome of counting ballots
 abbrev pub IsCountOutcome : Text → CountEntry → Report → Type 0
-IsCountOutcome ballots asked (report.Counted counted) = IsCountedText ballots asked.lots asked.text counted
-IsCountOutcome ballots asked (report.NotCounted why) = IsUncounted ballots asked.lots why
+IsCountOutcome ballots asked (report.Counted counted) = IsCountedText (read_in asked.form ballots) asked.lots asked.text counted
+IsCountOutcome ballots asked (report.NotCounted why) = IsUncounted (read_in asked.form ballots) asked.lots why
 IsCountOutcome ballots asked other = ⊥
 
 -- the outcome of counting a file of ballots

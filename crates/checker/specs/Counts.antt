@@ -17,7 +17,7 @@ use Rattle.sheet.specs.Spreadsheet.{spreadsheet}
 use Rattle.sheet.specs.declared.ward.Poll.{Poll}
 use Rattle.checker.specs.Checks.{EndsAt, IsWardProblem, dues_of, undrawn, undrawn_by}
 use Rattle.checker.specs.BallotsComments.{is_drawn}
-use Rattle.checker.specs.Reading.{ReaderEntry, read}
+use Rattle.checker.specs.Reading.{ReaderEntry}
 use Rattle.checker.specs.Reports.{shown}
 use Rattle.checker.specs.Texts.{joined}
 use Rattle.checker.specs.Tokens.{Text}
@@ -28,6 +28,7 @@ use Rattle.checker.specs.declared.ballot_counts.CountText.TheVariants as text
 use Rattle.checker.specs.declared.ballot_counts.CountedText.{CountedText}
 use Rattle.checker.specs.declared.ballot_counts.CountProblem.{CountProblem}
 use Rattle.checker.specs.declared.ballot_counts.CountProblem.TheVariants as uncounted
+use Rattle.checker.specs.declared.problem.BallotsFlaw.{BallotsFlaw}
 use Rattle.checker.specs.declared.problem.Problem.{Problem}
 use Rattle.checker.specs.declared.problem.Problem.TheVariants as problem
 
@@ -205,28 +206,29 @@ abbrev pub IsReadingUncounted : ReaderEntry → List (ℕ × ℕ) → CountProbl
 IsReadingUncounted reading added (uncounted.LotTwice stage) = lots_of reading.remarks.lots added ≡ Err stage
 IsReadingUncounted reading added (uncounted.Ballots why) = (why ≡ problem.Memory) ⊎ Prevents reading added why
 
--- a text of the count of a file of ballots with further lots: the file is understood, and the text is that of the ward that it describes
-pub record IsCountedText (bytes : Text) (added : List (ℕ × ℕ)) (text : TextEntry) (counted : CountedText) : Type 0 where
+-- a text of the count of a file of ballots with further lots, given its content or its flaw: the file is understood, and the text is that of the ward
+-- that it describes
+pub record IsCountedText (file : Result ReaderEntry (ℕ × BallotsFlaw)) (added : List (ℕ × ℕ)) (text : TextEntry) (counted : CountedText) : Type 0 where
   pub reading : ReaderEntry
-  pub understood : read bytes ≡ Ok reading
+  pub understood : file ≡ Ok reading
   pub told : IsReadingText reading added text counted
 
 -- a file of ballots is understood, but not counted
-pub record IsReadUncounted (bytes : Text) (added : List (ℕ × ℕ)) (why : CountProblem) : Type 0 where
+pub record IsReadUncounted (file : Result ReaderEntry (ℕ × BallotsFlaw)) (added : List (ℕ × ℕ)) (why : CountProblem) : Type 0 where
   pub reading : ReaderEntry
-  pub understood : read bytes ≡ Ok reading
+  pub understood : file ≡ Ok reading
   pub hinders : IsReadingUncounted reading added why
 
 -- the reason why a file of ballots isn't counted: its line with this number is the first that isn't understood; or the file is understood, and its
 -- lots or its count prevent it; or an allocation failed
-abbrev pub IsUncounted : Text → List (ℕ × ℕ) → CountProblem → Type 0
-IsUncounted bytes added (uncounted.LotTwice stage) = IsReadUncounted bytes added (uncounted.LotTwice stage)
-IsUncounted bytes added (uncounted.Ballots (problem.Line line flaw)) = read bytes ≡ Err (line, flaw)
-IsUncounted bytes added (uncounted.Ballots problem.NoContest) = IsReadUncounted bytes added (uncounted.Ballots problem.NoContest)
-IsUncounted bytes added (uncounted.Ballots (problem.LotNeeded stage among)) = ⊥
-IsUncounted bytes added (uncounted.Ballots (problem.LotNotAmong stage)) = IsReadUncounted bytes added (uncounted.Ballots (problem.LotNotAmong stage))
-IsUncounted bytes added (uncounted.Ballots (problem.LotNotNeeded stage)) = IsReadUncounted bytes added (uncounted.Ballots (problem.LotNotNeeded stage))
-IsUncounted bytes added (uncounted.Ballots problem.Memory) = ⊤
+abbrev pub IsUncounted : Result ReaderEntry (ℕ × BallotsFlaw) → List (ℕ × ℕ) → CountProblem → Type 0
+IsUncounted file added (uncounted.LotTwice stage) = IsReadUncounted file added (uncounted.LotTwice stage)
+IsUncounted file added (uncounted.Ballots (problem.Line line flaw)) = file ≡ Err (line, flaw)
+IsUncounted file added (uncounted.Ballots problem.NoContest) = IsReadUncounted file added (uncounted.Ballots problem.NoContest)
+IsUncounted file added (uncounted.Ballots (problem.LotNeeded stage among)) = ⊥
+IsUncounted file added (uncounted.Ballots (problem.LotNotAmong stage)) = IsReadUncounted file added (uncounted.Ballots (problem.LotNotAmong stage))
+IsUncounted file added (uncounted.Ballots (problem.LotNotNeeded stage)) = IsReadUncounted file added (uncounted.Ballots (problem.LotNotNeeded stage))
+IsUncounted file added (uncounted.Ballots problem.Memory) = ⊤
 
 -- the stage for which a second lot is given, or a failed allocation
 abbrev pub IsLotProblem : Result (List (ℕ × ℕ)) ℕ → CountProblem → Type 0

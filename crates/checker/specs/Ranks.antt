@@ -71,6 +71,12 @@ with_word_at next highest withdrawn ranks word = if is_zero word then Ok (at_nex
 abbrev pub with_word : ℕ → List ℕ → Ranked → Text → Result Ranked BallotsFlaw
 with_word highest withdrawn ranks word = with_word_at ranks.next highest withdrawn ranks word
 
+-- the word of a rank that one candidate has alone, which is a number: the same, as the law `alone_word` says
+abbrev pub with_alone : NextWord → ℕ → Ranked → Text → Result Ranked BallotsFlaw
+with_alone Preference highest ranks word = with_candidate highest ranks word
+with_alone BehindShared highest ranks word = and_then (candidate_in highest word) (λ c. Ok ranks)
+with_alone BehindZero highest ranks word = Err NoZero
+
 -- the candidates in a complete line
 abbrev pub named_at : NextWord → List ℕ → Result (List ℕ) BallotsFlaw
 named_at Preference named = Err NoZero

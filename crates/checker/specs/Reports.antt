@@ -131,7 +131,10 @@ words_text words.SecondText = codes "error: give one of --declaration, --page, -
 words_text words.NoValue = codes "error: the last option needs a value; --help says more\n"
 words_text words.Lot = codes "error: give a lot as its stage and its candidate, such as --lot 3:4; --help says more\n"
 words_text words.TitleAlone = codes "error: only a page has a title: add --page; --help says more\n"
-words_text words.SecondTitle = codes "error: give one title; --help says more\n"
+words_text words.SecondTime = codes "error: an option is given a second time; --help says more\n"
+words_text words.Seats = codes "error: give the seats of the ward, 1 to 15, such as --seats 3; --help says more\n"
+words_text words.Candidates = codes "error: give the names of the candidates, at most 30 of 1 to 1000 bytes, such as --candidate Ann --candidate Bob; --help says more\n"
+words_text words.HalfWard = codes "error: cast-vote records need --seats and --name; --help says more\n"
 
 -- a second lot for a stage, and what to do
 abbrev pub second_lot_text : ℕ → Text

@@ -38,6 +38,17 @@ flaw_text flaw.Twice = codes "given a second time"
 flaw_text flaw.NoSize = codes "the file ends before the candidates and seats"
 flaw_text flaw.NoEnd = codes "the file ends before the line 0 behind the papers"
 flaw_text flaw.NamesWanting = codes "the file ends before the ward's name"
+flaw_text flaw.Field = codes "a field is not in quotation marks as a whole"
+flaw_text flaw.NoColumns = codes "the file ends before the line of its columns"
+flaw_text flaw.LoneColumn = codes "a single column"
+flaw_text flaw.NoColumnName = codes "a column has no name"
+flaw_text flaw.NotCandidateColumn = codes "a column may be of something other than a candidate"
+flaw_text flaw.NotNextRank = codes "a column is not that of the next rank"
+flaw_text flaw.TooManyColumns = codes "too many columns"
+flaw_text flaw.FieldCount = codes "another number of fields than columns"
+flaw_text flaw.NotRank = codes "a field is not a rank"
+flaw_text flaw.NotCandidate = codes "a field names no candidate"
+flaw_text flaw.SeveralCandidates = codes "a field may name several candidates"
 
 -- the problem that prevents a check
 abbrev pub problem_text : Problem → Text

@@ -40,7 +40,7 @@ abbrev pub reading_of : Reader → ReaderEntry
 reading_of reader = record { place = reader.place; papers = told_of reader.papers; names = named_of reader.names; remarks = remarks_of reader.comments }
 
 -- the flaw of a line, if there is one; or an allocation failed
-abbrev pub IsFlawOf : Result ReaderEntry (ℕ × BallotsFlaw) → Problem → Type 0
+abbrev pub IsFlawOf : {X : Type 0} → Result X (ℕ × BallotsFlaw) → Problem → Type 0
 IsFlawOf told (problem.Line line flaw) = told ≡ Err (line, flaw)
 IsFlawOf told problem.Memory = ⊤
 IsFlawOf told problem.NoContest = ⊥

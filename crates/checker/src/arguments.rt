@@ -7,7 +7,7 @@ ghost use Rattle.checker.specs.InputFiles.{Holds};
 ghost use Rattle.checker.specs.Outputs.{PrintsSomeReport, outputs_of};
 ghost use Rattle.checker.specs.RequestViews.{request_told};
 
-use crate::ballot_counts::count_ballots;
+use crate::ballot_counts::{count_ballots, count_records};
 use crate::checking::check;
 use crate::hints::hint_of;
 use crate::input_files::{InputFiles, NotRead};
@@ -104,7 +104,11 @@ fn check_answer<F: InputFiles>(alloc: Global, words: &[String], folder: &F) -> R
 fn counted(alloc: Global, ballots: &[u8], request: &CountRequest) -> Report
     ensures { IsCountOutcome ballots.now (request_told request.now) result }
 {
-    match count_ballots(alloc, ballots, &request.lots, &request.text) {
+    let counted = match &request.ward {
+        None => count_ballots(alloc, ballots, &request.lots, &request.text),
+        Some(ward) => count_records(alloc, ward, ballots, &request.lots, &request.text),
+    };
+    match counted {
         Ok(counted) => Report::Counted(counted),
         Err(problem) => Report::NotCounted(problem),
     }

@@ -5,6 +5,9 @@ ghost use Rattle.sheet.specs.Entries.{shown};
 ghost use Rattle.sheet.specs.Wards.{CanBePrinted};
 ghost use Rattle.checker.specs.Counts.{IsCountedText, IsLotLine, IsNoLotLine, IsReadingText, IsReadingUncounted, IsUncounted};
 ghost use Rattle.checker.specs.Counts.{IsWardText, IsWardUncounted, declaration_asked, is_finished, lots_in, text_of, text_shown};
+ghost use Rattle.checker.specs.Reading.{read};
+ghost use Rattle.checker.specs.RecordViews.{ward_told};
+ghost use Rattle.checker.specs.Records.{read_records};
 ghost use Rattle.checker.specs.Values.{reading_of};
 
 use crate::counting::{WardCount, count_of};
@@ -13,6 +16,8 @@ use crate::lot_lines::lot_line;
 use crate::lots::lots_of;
 use crate::problem::Problem;
 use crate::reading::read;
+use crate::records::read_records;
+use crate::records_ward::RecordsWard;
 use crate::wards::{Election, candidates_of, ward_in};
 use count::CountEnd;
 use sheet::{ballots_text, declaration_text, page_text, sheet_text, spreadsheet_text};
@@ -183,10 +188,37 @@ pub fn count_ballots(
     added: &[(u8, u8)],
     text: &CountText,
 ) -> Result<CountedText, CountProblem>
-    ensures ok { IfOk result (λ counted. IsCountedText ballots.now added.now (text_of text.now) counted) }
-    ensures err { IfErr result (λ problem. IsUncounted ballots.now added.now problem) }
+    ensures ok { IfOk result (λ counted. IsCountedText (read ballots.now) added.now (text_of text.now) counted) }
+    ensures err { IfErr result (λ problem. IsUncounted (read ballots.now) added.now problem) }
 {
     let told = match read(alloc, ballots) {
+        Ok(told) => told,
+        Err(problem) => return Err(CountProblem::Ballots(problem)),
+    };
+    match counted_as(alloc, &told, added, text) {
+        Ok(counted) => Ok(counted),
+        Err(problem) => Err(problem),
+    }
+}
+
+/// Counts the cast-vote records of a ward, and returns a text of the count, as [`count_ballots`] does.
+///
+/// The records are comma-separated values. The first line names the columns: a first column `count` says how many papers each line is
+/// for. If no candidates are given, each other column is a candidate's, and a line has the ranks that a paper gives to them, as keyed
+/// from a paper: its preferences are the candidates with ranks 1, 2, 3, .., as far as each rank is given to exactly one. If candidates
+/// are given, each other column is a rank's, and a line has the candidates, by number or by name: its preferences are those before the
+/// first empty field. Without a first preference, or with several, the paper is rejected.
+pub fn count_records(
+    alloc: Global,
+    ward: &RecordsWard,
+    records: &[u8],
+    added: &[(u8, u8)],
+    text: &CountText,
+) -> Result<CountedText, CountProblem>
+    ensures ok { IfOk result (λ counted. IsCountedText (read_records (ward_told ward.now) records.now) added.now (text_of text.now) counted) }
+    ensures err { IfErr result (λ problem. IsUncounted (read_records (ward_told ward.now) records.now) added.now problem) }
+{
+    let told = match read_records(alloc, ward, records) {
         Ok(told) => told,
         Err(problem) => return Err(CountProblem::Ballots(problem)),
     };

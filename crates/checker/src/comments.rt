@@ -14,7 +14,7 @@ use crate::tokens::{Separator, pieces_of};
 use std::alloc::{AllocError, Global};
 
 /// Returns whether a word equals this one.
-fn is_word(text: &str, word: &[u8]) -> bool
+pub(crate) fn is_word(text: &str, word: &[u8]) -> bool
     ensures { result ≡ is_word text.now word.now }
 {
     word == text.as_bytes()

@@ -62,3 +62,38 @@ pub(crate) struct Reader {
     pub(crate) names: CandidateNames,
     pub(crate) comments: Comments,
 }
+
+/// The content of a file of records so far.
+#[derive(Drop)]
+pub(crate) struct Records {
+    /// Whether the first line is read.
+    pub(crate) headed: bool,
+    /// Whether each line begins with a number of papers.
+    pub(crate) counted: bool,
+    /// The number of columns of ranks; `None` if the columns are the candidates'.
+    pub(crate) ranks: Option<u8>,
+    /// The names of the candidates, numbered from 1.
+    pub(crate) names: Vec<String>,
+    pub(crate) papers: PaperTotals,
+    /// The numbers of rejected papers, by code 1 to 5.
+    pub(crate) rejected: [u32; 5],
+    ghost few: { length names.items ≤ max_candidates },
+}
+
+/// The columns of records.
+#[derive(Drop)]
+pub(crate) enum RecordColumns {
+    /// Those of the candidates with these names.
+    Candidates(Vec<String>),
+    /// So many of ranks.
+    Ranks(u8),
+}
+
+/// The first line of records.
+#[derive(Drop)]
+pub(crate) struct Header {
+    /// Whether each line begins with a number of papers.
+    pub(crate) counted: bool,
+    /// The other columns.
+    pub(crate) columns: RecordColumns,
+}

@@ -18,7 +18,7 @@ fn after_signs(text: &[u8]) -> &[u8]
 }
 
 /// Returns the letters at the beginning of a text.
-fn first_letters(text: &[u8]) -> &[u8]
+pub(crate) fn first_letters(text: &[u8]) -> &[u8]
     ensures { result.now ≡ first_letters text.now }
 {
     for i in 0..text.len() {

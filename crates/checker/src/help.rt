@@ -23,6 +23,7 @@ pub(crate) const COUNT_HELP: &str =
 
 Usage: count-office - count <BALLOTS> [--declaration | --page [--title <TEXT>] | --table |
        --ballots] [--lot <STAGE>:<CANDIDATE>]..
+       [--seats <N> --name <TEXT> [--candidate <NAME>]..]
 
 Arguments:
   <BALLOTS>  The path of the ballots, as the order ballots prints them, or as other programs
@@ -36,6 +37,11 @@ Options:
   --ballots                  Print the ballots and the lots instead
   --lot <STAGE>:<CANDIDATE>  A lot that the ballots don't record: its stage, and the number of
                              the candidate drawn; give one for each such stage
+  --seats <N>                The seats of the ward: the ballots are cast-vote records, with a
+                             candidate or a rank in each column
+  --name <TEXT>              The name of the ward, with --seats
+  --candidate <NAME>         A candidate, if there is a rank in each column: give one for each, in
+                             the order of their numbers
 
 The status is 0 if the count is finished. It is 1 if a lot is needed: the program prints the
 text for the stages so far, and on standard error the stage and the tied candidates. It is 2 if

@@ -29,6 +29,13 @@ mod names;
 mod papers;
 mod ranks;
 mod reading;
+// the same of cast-vote records
+mod fields;
+mod rank_fields;
+mod ranked_paper;
+mod records;
+mod records_header;
+mod records_ward;
 // the ward in a file, its count by the lots, the texts of the count, and the comparison of a text with them
 mod ballot_counts;
 mod checking;
@@ -49,9 +56,10 @@ mod requests;
 mod terminal_escaping;
 
 pub use arguments::{ArgumentsFault, run};
-pub use ballot_counts::{CountProblem, CountText, CountedText, count_ballots};
+pub use ballot_counts::{CountProblem, CountText, CountedText, count_ballots, count_records};
 pub use checking::check;
 pub use differences::Checked;
 pub use input_files::{InputFiles, NotRead};
 pub use problem::{BallotsFlaw, Problem};
 pub use reading_back::ballots_read_back;
+pub use records_ward::RecordsWard;

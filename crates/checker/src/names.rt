@@ -12,7 +12,7 @@ use std::alloc::{AllocError, Global};
 use std::str;
 
 /// The maximum number of bytes in a name. A sheet contains every name at every stage, so longer names would make it very large.
-const MAX_NAME: usize = 1000;
+pub(crate) const MAX_NAME: usize = 1000;
 
 /// The position of the next byte in a line with a name.
 #[derive(Clone, Copy)]
@@ -40,7 +40,7 @@ pub(crate) struct Quoted {
 }
 
 /// Returns a name if it is UTF-8 and not too long.
-fn as_text(name: Vec<u8>) -> Result<String, BallotsFlaw>
+pub(crate) fn as_text(name: Vec<u8>) -> Result<String, BallotsFlaw>
     ensures { told_as (λ text. string_bytes text) result ≡ as_text name.items }
 {
     if name.len() > MAX_NAME {

@@ -11,7 +11,7 @@ ghost use Rattle.checker.specs.Values.{told_of};
 use crate::file_content::PaperTotals;
 use crate::numbers::{candidate_in, number_in};
 use crate::problem::BallotsFlaw;
-use crate::ranks::{named_in, without};
+use crate::ranks::{named_in, standing_of};
 use paper::{Columns, MAX_CANDIDATES, Prefs};
 use std::alloc::{AllocError, Global};
 use votes::{MAX_PAPERS, MAX_SEATS};
@@ -30,7 +30,7 @@ fn seats_in(word: &[u8]) -> Result<u8, BallotsFlaw>
 }
 
 /// Parses the number of papers, at least one.
-fn papers_in(word: &[u8]) -> Result<u32, BallotsFlaw>
+pub(crate) fn papers_in(word: &[u8]) -> Result<u32, BallotsFlaw>
     ensures is { result ≡ papers_in word.now }
     ensures some { IfOk result (λ papers. 1 ≤ papers) }
     ensures few { IfOk result (λ papers. papers ≤ max_papers) }
@@ -90,7 +90,11 @@ impl PaperTotals {
     }
 
     /// Adds one or more papers with one list of preferences.
-    fn add(&mut self, papers: u32, list: &[u8]) -> Result<Result<(), BallotsFlaw>, AllocError>
+    pub(crate) fn add(
+        &mut self,
+        papers: u32,
+        list: &[u8],
+    ) -> Result<Result<(), BallotsFlaw>, AllocError>
         requires some { 1 ≤ papers }
         requires ranking { IsRanking list.now }
         ensures { IfOk result (λ told. outcome told (told_of self.new) ≡ with_list (told_of self.old) papers list.now) }
@@ -124,7 +128,7 @@ impl PaperTotals {
             Ok(named) => named,
             Err(flaw) => return Ok(Err(flaw)),
         };
-        let list = without(alloc, &self.withdrawn, &named)?;
+        let list = standing_of(alloc, &self.withdrawn, named)?;
         self.add(papers, &list)
     }
 }

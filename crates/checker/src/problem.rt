@@ -55,6 +55,28 @@ pub enum BallotsFlaw {
     NoEnd,
     /// The file ends before the name of the ward.
     NamesWanting,
+    /// A field is in quotation marks only in part.
+    Field,
+    /// The file ends before its first line.
+    NoColumns,
+    /// There is only one column.
+    LoneColumn,
+    /// A column has no name.
+    NoColumnName,
+    /// A column may be of something other than a candidate.
+    NotCandidateColumn,
+    /// A column isn't that of the next rank.
+    NotNextRank,
+    /// There are more columns than a ward can have candidates.
+    TooManyColumns,
+    /// The number of fields isn't that of the columns.
+    FieldCount,
+    /// A field isn't empty, and not a rank from 1 to 99.
+    NotRank,
+    /// A field isn't empty, and names no candidate.
+    NotCandidate,
+    /// A field may name several candidates.
+    SeveralCandidates,
 }
 
 impl BallotsFlaw {
@@ -90,6 +112,18 @@ impl BallotsFlaw {
             BallotsFlaw::NoSize => "the file ends before the candidates and seats",
             BallotsFlaw::NoEnd => "the file ends before the line 0 behind the papers",
             BallotsFlaw::NamesWanting => "the file ends before the ward's name",
+            BallotsFlaw::Field => "a field is not in quotation marks as a whole",
+            BallotsFlaw::NoColumns => "the file ends before the line of its columns",
+            BallotsFlaw::LoneColumn => "a single column",
+            BallotsFlaw::NoColumnName => "a column has no name",
+            BallotsFlaw::NotCandidateColumn =>
+                "a column may be of something other than a candidate",
+            BallotsFlaw::NotNextRank => "a column is not that of the next rank",
+            BallotsFlaw::TooManyColumns => "too many columns",
+            BallotsFlaw::FieldCount => "another number of fields than columns",
+            BallotsFlaw::NotRank => "a field is not a rank",
+            BallotsFlaw::NotCandidate => "a field names no candidate",
+            BallotsFlaw::SeveralCandidates => "a field may name several candidates",
         }
     }
 }

@@ -164,7 +164,16 @@ fn words_text(flaw: WordsFlaw) -> &'static str
         WordsFlaw::TitleAlone => {
             "error: only a page has a title: add --page; --help says more\n"
         }
-        WordsFlaw::SecondTitle => "error: give one title; --help says more\n",
+        WordsFlaw::SecondTime => "error: an option is given a second time; --help says more\n",
+        WordsFlaw::Seats => {
+            "error: give the seats of the ward, 1 to 15, such as --seats 3; --help says more\n"
+        }
+        WordsFlaw::Candidates => {
+            "error: give the names of the candidates, at most 30 of 1 to 1000 bytes, such as --candidate Ann --candidate Bob; --help says more\n"
+        }
+        WordsFlaw::HalfWard => {
+            "error: cast-vote records need --seats and --name; --help says more\n"
+        }
     }
 }
 

@@ -3,14 +3,18 @@
 ghost use Rattle.std.specs.Prelude.{◌≡◌, Ok, map, option_map, string_bytes, IfOk, IfErr};
 ghost use Rattle.checker.specs.BallotsComments.{is_word as is_word_of};
 ghost use Rattle.checker.specs.Counts.{text_of};
-ghost use Rattle.checker.specs.Requests.{count_request, done_as, is_option, lot_in_word, lot_of, nothing_asked, request_at, text_asked, text_option};
-ghost use Rattle.checker.specs.Requests.{with_any, with_ballots, with_lot, with_next, with_text, with_text_or_ballots, with_title, with_word, with_words};
-ghost use Rattle.checker.specs.RequestViews.{IsRequest, request_told, words_told};
+ghost use Rattle.checker.specs.Requests.{count_request, done_as, form_asked, is_option, lot_in_word, lot_of, nothing_asked, request_at, text_asked, text_option};
+ghost use Rattle.checker.specs.Requests.{with_any, with_ballots, with_candidate, with_lot, with_name, with_seats, with_text, with_title, with_word};
+ghost use Rattle.checker.specs.RequestViews.{IsRequest, form_told, request_told, words_told};
 
 use crate::ballot_counts::CountText;
 use crate::comments::small_in;
+use crate::names::MAX_NAME;
+use crate::records_ward::RecordsWard;
 use crate::tokens::{Separator, pieces_of};
+use paper::MAX_CANDIDATES;
 use std::alloc::{AllocError, Global};
+use votes::MAX_SEATS;
 
 /// What the next word is.
 #[derive(Clone, Copy)]
@@ -21,6 +25,12 @@ pub(crate) enum NextWord {
     Title,
     /// A lot.
     Lot,
+    /// The seats of the ward.
+    Seats,
+    /// The name of the ward.
+    Name,
+    /// The name of a candidate.
+    Candidate,
 }
 
 /// An option that asks for a text other than the sheet.
@@ -49,8 +59,14 @@ pub enum WordsFlaw {
     Lot,
     /// There is a title, but no page is asked for.
     TitleAlone,
-    /// There are two titles.
-    SecondTitle,
+    /// An option that can be given once is given twice.
+    SecondTime,
+    /// The seats aren't a number in range.
+    Seats,
+    /// A candidate's name is empty or too long, or there are too many candidates.
+    Candidates,
+    /// The seats or the name of the ward aren't given, but the other, or candidates.
+    HalfWard,
 }
 
 /// A request to count ballots.
@@ -58,6 +74,8 @@ pub enum WordsFlaw {
 pub(crate) struct CountRequest<'a> {
     /// The path of the ballots.
     pub(crate) ballots: &'a str,
+    /// The ward of cast-vote records; `None` for a BLT file.
+    pub(crate) ward: Option<RecordsWard<'a>>,
     pub(crate) text: CountText<'a>,
     /// Lots that the file doesn't have.
     pub(crate) lots: Vec<(u8, u8)>,
@@ -71,6 +89,9 @@ pub(crate) struct CountWords<'a> {
     text: Option<TextOption>,
     title: Option<&'a str>,
     lots: Vec<(u8, u8)>,
+    seats: Option<u8>,
+    name: Option<&'a str>,
+    candidates: Vec<&'a str>,
 }
 
 /// Returns the text that an option asks for.
@@ -131,6 +152,9 @@ impl<'a> CountWords<'a> {
             text: None,
             title: None,
             lots: Vec::new(alloc),
+            seats: None,
+            name: None,
+            candidates: Vec::new(alloc),
         }
     }
 
@@ -166,11 +190,50 @@ impl<'a> CountWords<'a> {
         ensures { done_as result (words_told self.new) ≡ with_title (words_told self.old) title.now }
     {
         if self.title.is_some() {
-            return Err(WordsFlaw::SecondTitle);
+            return Err(WordsFlaw::SecondTime);
         }
         self.next = NextWord::Any;
         self.title = Some(title);
         Ok(())
+    }
+
+    /// Stores the seats of the ward.
+    fn take_seats(&mut self, word: &str) -> Result<(), WordsFlaw>
+        ensures { done_as result (words_told self.new) ≡ with_seats (words_told self.old) word.now }
+    {
+        if self.seats.is_some() {
+            return Err(WordsFlaw::SecondTime);
+        }
+        let Some(seats) = small_in(word.as_bytes()) else {
+            return Err(WordsFlaw::Seats);
+        };
+        self.next = NextWord::Any;
+        self.seats = Some(seats);
+        Ok(())
+    }
+
+    /// Stores the name of the ward.
+    fn take_name(&mut self, name: &'a str) -> Result<(), WordsFlaw>
+        ensures { done_as result (words_told self.new) ≡ with_name (words_told self.old) name.now }
+    {
+        if self.name.is_some() {
+            return Err(WordsFlaw::SecondTime);
+        }
+        self.next = NextWord::Any;
+        self.name = Some(name);
+        Ok(())
+    }
+
+    /// Stores the name of a candidate.
+    fn take_candidate(&mut self, name: &'a str) -> Result<Result<(), WordsFlaw>, AllocError>
+        ensures { IfOk result (λ told. done_as told (words_told self.new) ≡ with_candidate (words_told self.old) name.now) }
+    {
+        if name.is_empty() || name.len() > MAX_NAME {
+            return Ok(Err(WordsFlaw::Candidates));
+        }
+        self.candidates.push(name)?;
+        self.next = NextWord::Any;
+        Ok(Ok(()))
     }
 
     /// Stores a lot, if the word is one.
@@ -197,6 +260,18 @@ impl<'a> CountWords<'a> {
             self.next = NextWord::Title;
             return Ok(());
         }
+        if word == "--seats" {
+            self.next = NextWord::Seats;
+            return Ok(());
+        }
+        if word == "--name" {
+            self.next = NextWord::Name;
+            return Ok(());
+        }
+        if word == "--candidate" {
+            self.next = NextWord::Candidate;
+            return Ok(());
+        }
         match text_option(word) {
             Some(text) => self.take_text(text),
             None => self.take_ballots(word),
@@ -214,6 +289,9 @@ impl<'a> CountWords<'a> {
                 let lot = lot_in_word(alloc, word)?;
                 self.take_lot(lot)
             }
+            NextWord::Seats => Ok(self.take_seats(word)),
+            NextWord::Name => Ok(self.take_name(word)),
+            NextWord::Candidate => self.take_candidate(word),
         }
     }
 
@@ -224,14 +302,22 @@ impl<'a> CountWords<'a> {
     {
         match self.next {
             NextWord::Any => {}
-            NextWord::Title | NextWord::Lot => return Err(WordsFlaw::NoValue),
+            NextWord::Title
+            | NextWord::Lot
+            | NextWord::Seats
+            | NextWord::Name
+            | NextWord::Candidate => {
+                return Err(WordsFlaw::NoValue);
+            }
         }
         let Some(ballots) = self.ballots else {
             return Err(WordsFlaw::NoBallots);
         };
         let text = text_asked(self.text, self.title)?;
+        let ward = ward_asked(self.seats, self.name, self.candidates)?;
         Ok(CountRequest {
             ballots,
+            ward,
             text,
             lots: self.lots,
         })
@@ -254,6 +340,40 @@ fn text_asked<'a>(
         (Some(TextOption::Page), None) => Ok(CountText::Page("")),
         (Some(TextOption::Table), None) => Ok(CountText::Table),
         (Some(TextOption::Ballots), None) => Ok(CountText::Ballots),
+    }
+}
+
+/// Returns the ward of cast-vote records, if its seats and its name are given.
+fn ward_asked<'a>(
+    seats: Option<u8>,
+    name: Option<&'a str>,
+    candidates: Vec<&'a str>,
+) -> Result<Option<RecordsWard<'a>>, WordsFlaw>
+    ensures ok { IfOk result (λ ward. form_asked seats (option_map (λ t. t.now) name.entry) (map (λ c. c.now) candidates.entry.items) ≡ Ok (form_told ward)) }
+    ensures err { IfErr result (λ flaw. form_asked seats (option_map (λ t. t.now) name.entry) (map (λ c. c.now) candidates.entry.items) ≡ Err flaw) }
+{
+    match (seats, name) {
+        (None, None) => {
+            if candidates.is_empty() {
+                Ok(None)
+            } else {
+                Err(WordsFlaw::HalfWard)
+            }
+        }
+        (Some(seats), Some(name)) => {
+            if seats < 1 || seats > MAX_SEATS {
+                return Err(WordsFlaw::Seats);
+            }
+            if candidates.len() > MAX_CANDIDATES {
+                return Err(WordsFlaw::Candidates);
+            }
+            Ok(Some(RecordsWard {
+                seats,
+                name,
+                candidates,
+            }))
+        }
+        (Some(_), None) | (None, Some(_)) => Err(WordsFlaw::HalfWard),
     }
 }
 

@@ -5,6 +5,9 @@ ghost use Rattle.checker.specs.Tokens.{behind_byte_order_mark, is_blank, kind_of
 
 use std::alloc::{AllocError, Global};
 
+/// The pieces for which there is room at once, as many as the words of a usual line. More need one allocation or more.
+const USUAL_PIECES: usize = 16;
+
 /// The separator at which a text is split.
 #[derive(Clone, Copy)]
 pub(crate) enum Separator {
@@ -78,7 +81,7 @@ pub(crate) fn pieces_of<'a>(
 ) -> Result<Vec<&'a [u8]>, AllocError>
     ensures { IfOk result (λ pieces. map (λ p. p.now) pieces.items ≡ pieces_of separator [] text.now) }
 {
-    let mut pieces = Vec::new(alloc);
+    let mut pieces = Vec::with_capacity(alloc, USUAL_PIECES)?;
     let mut start = 0;
     for i in 0..text.len() {
         if !parts(separator, text[i]) {

@@ -90,6 +90,10 @@ title = record { name = codes "title"; kind = kind.Title }
 abbrev pub digest : WordEntry
 digest = record { name = codes "sha256"; kind = kind.Digest }
 
+-- how many papers are expected, after `--` and its name, optional
+abbrev pub papers : WordEntry
+papers = record { name = codes "papers"; kind = kind.Papers }
+
 -- words that are any texts, zero or more after the others
 abbrev pub texts : Text → WordEntry
 texts name = record { name = name; kind = kind.Texts }
@@ -152,13 +156,15 @@ by_clerk clerk id asked = record { actor = clerk; id = id; asked = asked }
 
 -- ---- what an order means
 
--- what is to be done; or nothing, since the word of a verdict, of an origin or of a digest is invalid
+-- what is to be done; or nothing, since the word of a verdict, of an origin or of a digest is invalid, or a title is given for nothing
 pub data Meant : Type 0 where
   make : Meant
   migrate : Meant
   send : Sent → Meant
   import_candidates : Text → Text → Option (List ℕ) → Meant
+  import_batches : Text → Text → Option (List ℕ) → Meant
   import_keying : ℕ → ℕ → ℕ → Text → Text → Option (List ℕ) → Meant
+  seal_expected : ℕ → ℕ → Text → Meant
   count : ℕ → Text → Meant
   tell_status : ℕ → Meant
   tell_next : ℕ → Meant
@@ -170,10 +176,11 @@ pub data Meant : Type 0 where
   copy : Text → Meant
   journal : Meant
   make_codes : Text → Text → Bool → Meant
-  serve : ℕ → Option ℕ → Option Text → Option Text → Meant
+  serve : ℕ → Option ℕ → Option Text → Option Text → Option Text → Meant
   no_verdict : Meant
   no_origin : Meant
   no_digest : Meant
+  title_alone : Meant
 
 -- the meaning of printing a text of a ward; the title of a page is taken as text
 abbrev pub told_text : ℕ → WardText → Meant
@@ -184,6 +191,8 @@ told_text ward text = print ward text
 abbrev pub told_errand : Errand → Meant
 told_errand (errand.Send r) = send (sent_as r)
 told_errand (errand.ImportCandidates file id digest) = import_candidates file.now id.now (asked_digest digest)
+told_errand (errand.ImportBatches file id digest) = import_batches file.now id.now (asked_digest digest)
+told_errand (errand.SealExpected e) = seal_expected e.ward e.papers e.id.now
 told_errand (errand.ImportKeying k) = import_keying k.clerk k.batch k.round k.file.now k.id.now (asked_digest k.digest)
 told_errand (errand.Count ward id) = count ward id.now
 told_errand (errand.TellStatus ward) = tell_status ward
@@ -201,7 +210,8 @@ told (order.Perform (task.InOffice (job.Replay file keep_going))) = replay file.
 told (order.Copy path) = copy path.now
 told order.Journal = journal
 told (order.Codes path clerks with_office) = make_codes path.now clerks.now with_office
-told (order.Serve port connections origin file) = serve port connections (option_map origin_text origin) (option_map (λ path. path.now) file)
+told (order.Serve port connections origin file public) =
+    serve port connections (option_map origin_text origin) (option_map (λ path. path.now) file) (option_map (λ title. title.now) public)
 
 -- the task that an order is to perform, if it has one
 abbrev pub task_of : Order → Option Task
@@ -223,6 +233,7 @@ WordValue kind.Origin = Option Text
 WordValue kind.CodesFile = Option Text
 WordValue kind.Title = Text
 WordValue kind.Digest = Option (List ℕ)
+WordValue kind.Papers = Option ℕ
 WordValue kind.Texts = List Text
 WordValue kind.Flag = Bool
 
@@ -254,6 +265,25 @@ sends name words asked = record { typed = record { name = name; words = words ++
 abbrev pub key : ℕ → ℕ → ℕ → List Text → Text → Meant
 key clerk batch round papers id = send (by_clerk clerk id (keying_to_keep batch round papers))
 
+-- the title of what is shown in public, if anything is; or None, since a title is given and nothing is shown
+abbrev pub public_of : Bool → Text → Option (Option Text)
+public_of true title = Some (Some title)
+public_of false [] = Some None
+public_of false (c ∷ cs) = None
+
+-- what that means, or that a title is given for nothing
+abbrev pub shown_as : Option (Option Text) → (Option Text → Meant) → Meant
+shown_as None means = title_alone
+shown_as (Some public) means = means public
+
+-- to serve on a port, and to show something in public under a title
+abbrev pub serve_shown : ℕ → Option ℕ → Option Text → Option Text → Bool → Text → Meant
+serve_shown port connections origin file public title = shown_as (public_of public title) (serve port connections origin file)
+-- the office seals a ward; if a number of papers is expected, only where as many were given out
+abbrev pub seal : ℕ → Text → Option ℕ → Meant
+seal ward id None = send (by_office id (ward_to_seal ward))
+seal ward id (Some papers) = seal_expected ward papers id
+
 -- the table of orders, in the sequence of an election
 unfoldable pub orders : List OrderEntry
 orders =
@@ -264,12 +294,13 @@ orders =
     ∷ sends (codes "withdraw") (number (codes "WARD") ∷ number (codes "CANDIDATE") ∷ []) candidate_to_withdraw
     ∷ sends (codes "close") (number (codes "WARD") ∷ []) ward_to_close
     ∷ sends (codes "batch") (number (codes "BATCH") ∷ number (codes "WARD") ∷ number (codes "SIZE") ∷ number (codes "FIRST_CLERK") ∷ number (codes "SECOND_CLERK") ∷ []) batch_to_add
+    ∷ takes (codes "import-batches") (text (codes "FILE") ∷ id ∷ digest ∷ []) import_batches
     ∷ takes (codes "import-keying") (number (codes "CLERK") ∷ number (codes "BATCH") ∷ number (codes "ROUND") ∷ text (codes "FILE") ∷ id ∷ digest ∷ []) import_keying
     ∷ takes (codes "key") (number (codes "CLERK") ∷ number (codes "BATCH") ∷ number (codes "ROUND") ∷ texts (codes "MARKS") ∷ id ∷ []) key
     ∷ sends (codes "again") (number (codes "BATCH") ∷ []) batch_to_key_again
     ∷ sends (codes "third") (number (codes "BATCH") ∷ number (codes "CLERK") ∷ []) batch_for_third_clerk
     ∷ sends (codes "judge") (number (codes "BATCH") ∷ number (codes "PAPER") ∷ verdict (codes "VERDICT") ∷ []) paper_to_judge
-    ∷ sends (codes "seal") (number (codes "WARD") ∷ []) ward_to_seal
+    ∷ takes (codes "seal") (number (codes "WARD") ∷ id ∷ papers ∷ []) seal
     ∷ sends (codes "advance") (number (codes "WARD") ∷ []) stage_to_count
     ∷ takes (codes "count") (number (codes "WARD") ∷ id ∷ []) count
     ∷ sends (codes "lot") (number (codes "WARD") ∷ number (codes "STAGE") ∷ number (codes "CANDIDATE") ∷ []) lot_to_record
@@ -278,7 +309,7 @@ orders =
     ∷ takes (codes "next") (number (codes "WARD") ∷ []) tell_next
     ∷ takes (codes "sheet") (number (codes "WARD") ∷ []) (λ ward. print ward ward_text.Sheet)
     ∷ takes (codes "result") (number (codes "WARD") ∷ []) (λ ward. print ward ward_text.Declaration)
-    ∷ takes (codes "serve") (port (codes "PORT") ∷ connections (codes "CONNECTIONS") ∷ origin ∷ codes_file ∷ []) serve
+    ∷ takes (codes "serve") (port (codes "PORT") ∷ connections (codes "CONNECTIONS") ∷ origin ∷ codes_file ∷ flag (codes "public") ∷ title ∷ []) serve_shown
     ∷ takes (codes "migrate") [] migrate
     ∷ takes (codes "wards") [] (ask question.Wards)
     ∷ takes (codes "batches") (number (codes "WARD") ∷ []) (λ ward. ask (question.Batches ward))

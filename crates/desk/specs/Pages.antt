@@ -25,7 +25,7 @@ use Rattle.store.specs.declared.copying.CopyFault.TheVariants as uncopied
 use Rattle.store.specs.declared.migration.Migrated.{Migrated}
 use Rattle.store.specs.declared.migration.Migrated.TheVariants.{Done, Already}
 use Rattle.desk.specs.Scripts.{line_flaw_text}
-use Rattle.desk.specs.Words.{bad_digest, bad_origin}
+use Rattle.desk.specs.Words.{bad_digest, bad_origin, bad_title}
 use Rattle.desk.specs.declared.scripts.ScriptFault.{ScriptFault}
 use Rattle.desk.specs.declared.scripts.ScriptFault.TheVariants as script
 use Rattle.desk.specs.declared.lines.Failure.{Failure}
@@ -143,6 +143,14 @@ closed_page = failed (Office fault.Closed)
 abbrev pub unjournalled : Page
 unjournalled = record { out = []; err = line (codes "no journal: what was written does not make this office"); status = 1 }
 
+-- that a ward isn't sealed: this many papers were given out, and another number was expected
+abbrev pub unsealed : ℕ → ℕ → Page
+unsealed given_out expected = record {
+  out = [];
+  err = joined (codes "not sealed: " ∷ decimal given_out ∷ codes " papers were given out, " ∷ decimal expected ∷ codes " were expected\n" ∷ []);
+  status = 1;
+}
+
 -- the note that a request was accepted before, and that its content now had no effect
 abbrev pub note_line : Text → Text
 note_line id = joined (codes "note: " ∷ id ∷ codes " was kept before with other words; nothing was changed\n" ∷ [])
@@ -203,12 +211,14 @@ page_of (outcome.Unread fault) = unread fault
 page_of (outcome.Failed fault) = failed (Office fault)
 page_of (outcome.Uncopied why) = failed (failure_of why)
 page_of outcome.Unjournalled = unjournalled
+page_of (outcome.Unsealed given_out expected) = unsealed given_out expected
 
 -- why words aren't an order: help goes to the output, and what isn't understood to the error output
 abbrev pub words_page : WordsFault → Page
 words_page words.Memory = failed (Office fault.Memory)
 words_page words.Origin = record { out = []; err = bad_origin; status = 2 }
 words_page words.Digest = record { out = []; err = bad_digest; status = 2 }
+words_page words.TitleAlone = record { out = []; err = bad_title; status = 2 }
 words_page words.Verdict = record { out = []; err = codes "bad verdict word\n"; status = 2 }
 words_page (words.Words text status) = if status == 0 then printed (string_bytes text) else record { out = []; err = string_bytes text; status = status }
 

@@ -8,6 +8,7 @@ use Rattle.register.specs.declared.command.Request.{Request}
 use Rattle.register.specs.declared.refusal.Reason.{Reason}
 use Rattle.tables.specs.declared.fault.Fault.TheVariants.{Memory}
 use Rattle.office.specs.Answers.{IsOpenAt}
+use Rattle.office.specs.Overviews.{batches_told}
 use Rattle.office.specs.Reads.{columns_told}
 use Rattle.keyfile.specs.Files.{Format}
 use Rattle.desk.specs.Folders.{File}
@@ -15,8 +16,10 @@ use Rattle.desk.specs.Headline.{Course, IsAnswered, IsSent, IsStopped, ended}
 use Rattle.desk.specs.Overviews.{page_asked}
 use Rattle.desk.specs.Pages.{Cut, Page, uncut, empty_page, failed, page_counted, page_found}
 use Rattle.desk.specs.Requests.{AreAdvances, HoldsKeying, is_first, is_refused}
+use Rattle.desk.specs.Seals.{IsSealSent, IsUnsealed}
 use Rattle.desk.specs.Told.{IsRefusedFile, IsRefusedKeying, unopened}
 use Rattle.desk.specs.declared.lines.Failure.TheVariants.{Office}
+use Rattle.desk.specs.declared.orders.ExpectedSeal.{ExpectedSeal}
 use Rattle.desk.specs.declared.orders.KeyingFile.{KeyingFile}
 use Rattle.desk.specs.declared.orders.Question.{Question}
 
@@ -58,3 +61,8 @@ IsUnreadScript page = (page ≡ unopened) ⊎ (page ≡ failed (Office Memory))
 abbrev pub IsKeyingRead : {O : Type 0} → OfficeState → KeyingFile → File → (O → Page) → Result Request O → Bool → State → State → Type 0
 IsKeyingRead s k file page_of (Ok request) closed old st = HoldsKeying (columns_told s k.batch) k file (request ∷ []) × IsOpenAt s closed st
 IsKeyingRead s k file page_of (Err outcome) closed old st = (IsRefusedKeying (columns_told s k.batch) k file (page_of outcome) × IsOpenAt s closed st) ⊎ IsStopped old closed st s (page_of outcome)
+
+-- the seal of a ward of which so many papers are expected, at a state; or why it isn't sent
+abbrev pub IsSealRead : {O : Type 0} → OfficeState → ExpectedSeal → (O → Page) → Result Request O → Bool → State → State → Type 0
+IsSealRead s e page_of (Ok request) closed old st = IsSealSent s e (request ∷ []) × IsOpenAt s closed st
+IsSealRead s e page_of (Err outcome) closed old st = (IsUnsealed (batches_told s e.ward) e.papers (page_of outcome) × IsOpenAt s closed st) ⊎ IsStopped old closed st s (page_of outcome)

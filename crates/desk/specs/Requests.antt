@@ -10,6 +10,7 @@ use Rattle.register.specs.Ranges.{last_lot_stage}
 use Rattle.register.specs.declared.command.Request.{Request}
 use Rattle.register.specs.declared.refusal.Reason.{Reason}
 use Rattle.office.specs.Reads.{columns_told}
+use Rattle.keyfile.specs.Batches.{BatchRowEntry, batches}
 use Rattle.keyfile.specs.Candidates.{CandidateEntry, candidates}
 use Rattle.keyfile.specs.Digests.{asked_digest}
 use Rattle.keyfile.specs.Files.{Format, file_rows}
@@ -17,7 +18,8 @@ use Rattle.keyfile.specs.Keying.{keying}
 use Rattle.keyfile.specs.Records.{file_records}
 use Rattle.keyfile.specs.declared.fault.FileFault.{FileFault}
 use Rattle.desk.specs.Folders.{File, IsReadFrom}
-use Rattle.desk.specs.Orders.{Sent, by_clerk, by_office, candidate_to_add, keying_to_keep, sent_as, stage_to_count}
+use Rattle.desk.specs.Orders.{Asked, Sent, batch_to_add, by_clerk, by_office, candidate_to_add, keying_to_keep, sent_as, stage_to_count}
+use Rattle.desk.specs.Seals.{IsSealSent}
 use Rattle.desk.specs.declared.orders.KeyingFile.{KeyingFile}
 use Rattle.desk.specs.declared.orders.Errand.{Errand}
 use Rattle.desk.specs.declared.orders.Errand.TheVariants as errand
@@ -28,6 +30,7 @@ use Rattle.desk.specs.declared.orders.Task.TheVariants as task
 -- the file that an errand names
 abbrev pub file_of : Errand → Option Text
 file_of (errand.ImportCandidates file id digest) = Some file.now
+file_of (errand.ImportBatches file id digest) = Some file.now
 file_of (errand.ImportKeying keying) = Some keying.file.now
 file_of other = None
 
@@ -42,19 +45,23 @@ file_of_task (task.InOffice (job.Replay file keep_going)) = Some file.now
 unfoldable pub id_at : Text → ℕ → Text
 id_at id k = id ++ (codes "-" ++ decimal k)
 
--- the request that adds the candidate of the record of some number
-abbrev pub request_at : Text → ℕ → CandidateEntry → Sent
-request_at id k c = by_office (id_at id k) (candidate_to_add c.0 c.1 c.2)
+-- a record of candidates asks to add its candidate
+abbrev pub candidate_asked : CandidateEntry → Asked
+candidate_asked c = candidate_to_add c.0 c.1 c.2
 
--- the requests for candidates, whose records are numbered from some number on
-abbrev pub requests_from : Text → ℕ → List CandidateEntry → List Sent
-requests_from id k [] = []
-requests_from id k (c ∷ cs) = request_at id k c ∷ requests_from id (suc k) cs
+-- a record of batches asks to give out its batch
+abbrev pub batch_asked : BatchRowEntry → Asked
+batch_asked b = batch_to_add b.batch b.ward b.size b.first_clerk b.second_clerk
+
+-- the requests for rows that ask for this, whose records are numbered from some number on
+abbrev pub requests_from : {Row : Type 0} → (Row → Asked) → Text → ℕ → List Row → List Sent
+requests_from asked id k [] = []
+requests_from asked id k (row ∷ rows) = by_office (id_at id k) (asked row) ∷ requests_from asked id (suc k) rows
 
 -- the requests for the rows of a file, one per record
-abbrev pub requests_for : Text → Result (List CandidateEntry) FileFault → Result (List Sent) FileFault
-requests_for id (Ok rows) = Ok (requests_from id 1 rows)
-requests_for id (Err fault) = Err fault
+abbrev pub requests_for : {Row : Type 0} → (Row → Asked) → Text → Result (List Row) FileFault → Result (List Sent) FileFault
+requests_for asked id (Ok rows) = Ok (requests_from asked id 1 rows)
+requests_for asked id (Err fault) = Err fault
 
 -- the request that stores a clerk's keying of a batch, sent by the clerk
 abbrev pub keying_by : KeyingFile → List Text → Sent
@@ -115,10 +122,13 @@ AreAdvances s ward id k (r ∷ rs) = (sent_as r ≡ advance_at ward id k) × End
 
 -- ---- the requests of an errand
 
--- the requests that an errand sends at a state: its own one, those in its file, or those that count; an errand that asks a question sends none
+-- the requests that an errand sends at a state: its own one, those in its file, the seal of the papers expected, or those that count; an errand that asks a question
+-- sends none
 abbrev pub Sends : OfficeState → Errand → File → List Request → Type 0
 Sends s (errand.Send request) file requests = map sent_as requests ≡ sent_as request ∷ []
-Sends s (errand.ImportCandidates path id digest) file requests = HoldsRequests candidates (requests_for id.now) (asked_digest digest) file requests
+Sends s (errand.ImportCandidates path id digest) file requests = HoldsRequests candidates (requests_for candidate_asked id.now) (asked_digest digest) file requests
+Sends s (errand.ImportBatches path id digest) file requests = HoldsRequests batches (requests_for batch_asked id.now) (asked_digest digest) file requests
+Sends s (errand.SealExpected seal) file requests = IsSealSent s seal requests
 Sends s (errand.ImportKeying keying) file requests = HoldsKeying (columns_told s keying.batch) keying file requests
 Sends s (errand.Count ward id) file requests = AreAdvances s ward id.now 1 requests
 Sends s other file requests = ⊥

@@ -6,7 +6,9 @@ use Rattle.register.specs.declared.refusal.Reason.{Reason}
 use Rattle.office.specs.Answers.{Told}
 use Rattle.office.specs.Reads.{columns_told, next_told, status_told}
 use Rattle.office.specs.Index.{index_told}
+use Rattle.office.specs.Overviews.{batches_told}
 use Rattle.office.specs.Sheets.{text_told}
+use Rattle.keyfile.specs.Batches.{batches}
 use Rattle.keyfile.specs.Candidates.{candidates}
 use Rattle.keyfile.specs.Digests.{IsFaultBy, asked_digest}
 use Rattle.keyfile.specs.Files.{Format}
@@ -19,6 +21,7 @@ use Rattle.desk.specs.Overviews.{page_asked}
 use Rattle.desk.specs.Pages.{Page, page_counted, page_for, page_found, printed, refused, replied, script_page, unread}
 use Rattle.desk.specs.Requests.{is_first}
 use Rattle.desk.specs.Scripts.{IsFirstFlaw, script_lines}
+use Rattle.desk.specs.Seals.{IsUnsealed}
 use Rattle.desk.specs.WardStatus.{status_text}
 use Rattle.desk.specs.Steps.{step_text}
 use Rattle.desk.specs.declared.orders.Errand.{Errand}
@@ -53,6 +56,8 @@ IsRefusedKeying (Err why) k file page = page ≡ refused why
 abbrev pub IsTold : OfficeState → Errand → File → Page → Type 0
 IsTold s (errand.Send request) file page = ⊥
 IsTold s (errand.ImportCandidates path id digest) file page = IsRefusedFile candidates (asked_digest digest) file page
+IsTold s (errand.ImportBatches path id digest) file page = IsRefusedFile batches (asked_digest digest) file page
+IsTold s (errand.SealExpected seal) file page = IsUnsealed (batches_told s seal.ward) seal.papers page
 IsTold s (errand.ImportKeying k) file page = IsRefusedKeying (columns_told s k.batch) k file page
 IsTold s (errand.Count ward id) file page = ⊥
 IsTold s (errand.TellNext ward) file page = page ≡ page_found (λ step. replied (step_text ward step)) (next_told s ward)

@@ -3,18 +3,19 @@
 ghost use Rattle.std.specs.Prelude.{option_map, [], ◌∷◌, IfErr, IfOk};
 ghost use Rattle.sqlite.specs.Held.{state};
 ghost use Rattle.tables.specs.Reading.{OnlyReads};
+ghost use Rattle.keyfile.specs.Batches.{batches};
 ghost use Rattle.keyfile.specs.Candidates.{candidates};
 ghost use Rattle.keyfile.specs.Digests.{asked_digest};
 ghost use Rattle.keyfile.specs.Keying.{keying};
 ghost use Rattle.office.specs.Answers.{WhenOpenAt};
 ghost use Rattle.desk.specs.Parts.{IsKeyingRead, IsUnread};
 ghost use Rattle.desk.specs.Pages.{page_of};
-ghost use Rattle.desk.specs.Requests.{HoldsRequests, keyings_for, requests_for};
+ghost use Rattle.desk.specs.Requests.{HoldsRequests, batch_asked, candidate_asked, keyings_for, requests_for};
 
 use crate::lines::LineOutcome;
 use crate::orders::KeyingFile;
 use crate::requests::{keying_request, requests_for};
-use keyfile::{FileDigest, FileFault, Flaw, read_candidates, read_keying};
+use keyfile::{FileDigest, FileFault, Flaw, read_batches, read_candidates, read_keying};
 use office::{Office, Stop};
 use paper::Columns;
 use register::Request;
@@ -37,13 +38,37 @@ pub(crate) fn candidate_requests<R: Read + Drop>(
     file: Option<R>,
     digest: Option<FileDigest>,
 ) -> Result<Vec<Request>, LineOutcome>
-    ensures rows { IfOk result (λ requests. HoldsRequests candidates (requests_for id.now) (asked_digest digest) (option_map R.remaining file) requests.items) }
+    ensures rows { IfOk result (λ requests. HoldsRequests candidates (requests_for candidate_asked id.now) (asked_digest digest) (option_map R.remaining file) requests.items) }
     ensures refused { IfErr result (λ outcome. IsUnread candidates (asked_digest digest) (option_map R.remaining file) (page_of outcome)) }
 {
     let Some(file) = file else {
         return Err(LineOutcome::Unread(UNOPENED));
     };
     let rows = match read_candidates(alloc, file, digest) {
+        Ok(rows) => rows,
+        Err(fault) => return Err(LineOutcome::Unread(fault)),
+    };
+    match requests_for(alloc, id, &rows) {
+        Ok(requests) => Ok(requests),
+        Err(_) => Err(LineOutcome::Failed(Fault::Memory)),
+    }
+}
+
+/// Returns the requests that give out the batches of a file, or why there are none. The file is None if it can't be opened, and is read
+/// to its end. If a digest is asked for, the requests are those of bytes that have it.
+pub(crate) fn batch_requests<R: Read + Drop>(
+    alloc: Global,
+    id: &str,
+    file: Option<R>,
+    digest: Option<FileDigest>,
+) -> Result<Vec<Request>, LineOutcome>
+    ensures rows { IfOk result (λ requests. HoldsRequests batches (requests_for batch_asked id.now) (asked_digest digest) (option_map R.remaining file) requests.items) }
+    ensures refused { IfErr result (λ outcome. IsUnread batches (asked_digest digest) (option_map R.remaining file) (page_of outcome)) }
+{
+    let Some(file) = file else {
+        return Err(LineOutcome::Unread(UNOPENED));
+    };
+    let rows = match read_batches(alloc, file, digest) {
         Ok(rows) => rows,
         Err(fault) => return Err(LineOutcome::Unread(fault)),
     };

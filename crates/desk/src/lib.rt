@@ -47,6 +47,7 @@ pub mod perform;
 pub mod plain;
 mod printing;
 pub mod progress;
+mod sealing;
 mod sending;
 mod steps;
 mod ward_status;
@@ -59,7 +60,7 @@ pub use lines::{
     tell_words,
 };
 pub use order_running::follow;
-pub use orders::{Errand, Job, KeyingFile, Order, Question, Task};
+pub use orders::{Errand, ExpectedSeal, Job, KeyingFile, Order, Question, Task};
 pub use progress::ProgressSink;
 pub use script_files::files_named_in;
 pub use words::{WordsFault, order};

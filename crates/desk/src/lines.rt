@@ -6,10 +6,10 @@ ghost use Rattle.keyfile.specs.Faults.{flaw_batch, flaw_between, flaw_clerk};
 ghost use Rattle.desk.specs.Pages.{IsErrorTold, IsPut, Shows, fronted, line_front, migrated_text, note_line, noted, numbered_line, outputs_of, printed, status_of_file};
 ghost use Rattle.codes.specs.Faults.{fault_line, fault_text as codes_text};
 ghost use Rattle.desk.specs.Pages.{codes_and_office_made_page, codes_made_page, codes_page, codes_place};
-ghost use Rattle.desk.specs.Pages.{failed, failure_number, failure_of, failure_text, page_of, refused, script_page, unjournalled, unread, words_page};
+ghost use Rattle.desk.specs.Pages.{failed, failure_number, failure_of, failure_text, page_of, refused, script_page, unjournalled, unread, unsealed, words_page};
 
 use crate::scripts::ScriptFault;
-use crate::words::{BAD_DIGEST, BAD_ORIGIN, WordsFault};
+use crate::words::{BAD_DIGEST, BAD_ORIGIN, BAD_TITLE, WordsFault};
 use codes::CodesFault;
 use itoa::Buffer;
 use keyfile::{FileFault, Flaw};
@@ -49,6 +49,8 @@ pub(crate) enum LineOutcome {
     Uncopied(CopyFault),
     /// The office has no journal: the one that was written doesn't make it.
     Unjournalled,
+    /// A ward isn't sealed, since another number of papers was given out than expected.
+    Unsealed { given_out: u128, expected: u32 },
 }
 
 /// Why the program fails. 101 to 106 and 108 are faults of the office. 107 is an output that fails. 109 is a copy that exists already,
@@ -313,6 +315,22 @@ fn tell_no_journal<E: Sink>(line: Option<usize>, err: &mut E) -> u8
     tell_error(line, &[NO_JOURNAL, "\n"], 1, err)
 }
 
+/// Prints that a ward isn't sealed, and returns the status: 1, or 3 if the error output fails.
+fn tell_unsealed<E: Sink>(line: Option<usize>, given_out: u128, expected: u32, err: &mut E) -> u8
+    requires { E.failed err.old < 2 ^ 64 - 1 }
+    ensures { IsErrorTold E.taken E.failed err.old err.new (line_front line ++ (unsealed given_out expected).err) 1 result }
+{
+    let (mut given, mut wanted) = (Buffer::new(), Buffer::new());
+    let pieces = [
+        "not sealed: ",
+        given.format(given_out),
+        " papers were given out, ",
+        wanted.format(expected),
+        " were expected\n",
+    ];
+    tell_error(line, &pieces, 1, err)
+}
+
 /// Prints a failure, and returns its status, 3.
 fn tell_failure_at<E: Sink>(line: Option<usize>, failure: Failure, err: &mut E) -> u8
     requires { E.failed err.old < 2 ^ 64 - 1 }
@@ -435,6 +453,10 @@ pub(crate) fn tell<O: Sink, E: Sink>(
         LineOutcome::Failed(fault) => tell_failure_at(line, Failure::Office(*fault), err),
         LineOutcome::Uncopied(fault) => tell_failure_at(line, failure_of(*fault), err),
         LineOutcome::Unjournalled => tell_no_journal(line, err),
+        LineOutcome::Unsealed {
+            given_out,
+            expected,
+        } => { tell_unsealed(line, *given_out, *expected, err) }
     }
 }
 
@@ -462,6 +484,7 @@ pub fn tell_words<O: Sink, E: Sink>(fault: &WordsFault, out: &mut O, err: &mut E
         WordsFault::Verdict => tell_error(None, &["bad verdict word\n"], 2, err),
         WordsFault::Origin => tell_error(None, &[BAD_ORIGIN], 2, err),
         WordsFault::Digest => tell_error(None, &[BAD_DIGEST], 2, err),
+        WordsFault::TitleAlone => tell_error(None, &[BAD_TITLE], 2, err),
         WordsFault::Words { text, status: 0 } => tell_text(&[text.as_str()], out, err),
         WordsFault::Words { text, status } => tell_error(None, &[text.as_str()], *status, err),
     }

@@ -25,6 +25,8 @@ pub(crate) enum Kind {
     Title,
     /// A digest in 64 hexadecimal digits, after `--sha256`, optional.
     Digest,
+    /// A number from 0 to 4294967295, after `--papers`, optional.
+    Papers,
     /// Any texts, zero or more words after the others.
     Texts,
     /// A flag: `--` and its name, optional.
@@ -101,6 +103,9 @@ pub(crate) const ROUND: Word =
 pub(crate) const MARKS: Word =
     word!(Texts "MARKS", "The marks of its papers in turn, a word a paper: a field for each candidate,\nparted by commas, or D where the paper is doubtful");
 
+pub(crate) const PAPERS: Word =
+    word!(Papers "papers", "How many papers the ward is to have, by the count of its boxes;\nwhere as many weren't given out, nothing is sent");
+
 pub(crate) const PAPER: Word = word!(Number "PAPER", "The paper's number in the batch, 1 to 500");
 
 pub(crate) const VERDICT: Word =
@@ -149,6 +154,9 @@ pub(crate) const CLERKS: Word =
 
 pub(crate) const WITH_OFFICE: Word =
     word!(Flag "office", "Also writes a code for the office, for its console in the browser");
+
+pub(crate) const PUBLIC: Word =
+    word!(Flag "public", "Shows the count to everyone: /, /screen and the page of each ward;\nleft out, none of them is there");
 
 pub(crate) const TITLE: Word =
     word!(Title "title", "What stands above, as the names of the election and of the council;\nin quotes where it has spaces");

@@ -15,7 +15,7 @@ ghost use Rattle.desk.specs.Scripts.{lines_of, numbered_from};
 
 use crate::counting::count_stages;
 use crate::folders::Folder;
-use crate::import::{UNOPENED, candidate_requests, keying_of};
+use crate::import::{UNOPENED, batch_requests, candidate_requests, keying_of};
 use crate::lines::{LineOutcome, tell, tell_script_fault};
 use crate::orders::{Errand, Job};
 use crate::overviews::answer_to;
@@ -24,6 +24,7 @@ use crate::requests::advances;
 use crate::scripts::{
     ScriptFault, ScriptLine, ScriptStep, TypedLine, all_said, lines_in, turns_in,
 };
+use crate::sealing::seal_of;
 use crate::sending::{goes_on, send_all, status_behind};
 use crate::steps::next_of;
 use crate::ward_status::standing_of;
@@ -77,6 +78,16 @@ fn run<S: Alter, F: Folder, O: Sink, E: Sink>(
                 Err(outcome) => tell(line, &outcome, out, err),
             }
         }
+        Errand::ImportBatches { id, digest, .. } => {
+            match batch_requests(alloc, id, file, *digest) {
+                Ok(requests) => send_all(office, keep_going, line, &requests, out, err),
+                Err(outcome) => tell(line, &outcome, out, err),
+            }
+        }
+        Errand::SealExpected(seal) => match seal_of(alloc, office, *seal) {
+            Ok(request) => send_all(office, keep_going, line, &[request], out, err),
+            Err(outcome) => tell(line, &outcome, out, err),
+        },
         Errand::ImportKeying(keyed) => match keying_of(alloc, office, *keyed, file) {
             Ok(request) => send_all(office, keep_going, line, &[request], out, err),
             Err(outcome) => tell(line, &outcome, out, err),

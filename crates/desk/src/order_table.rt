@@ -7,18 +7,18 @@
 
 ghost use Rattle.std.specs.Prelude.{◌≡◌, ◌⊎◌, false, Err, None, Some, codes, drop, map, take, IfErr, IfOk, option_map, string_bytes};
 ghost use Rattle.clap.specs.Words.{all_of, first_of, found_of, rows_of, subcommand_rows_of};
-ghost use Rattle.desk.specs.Orders.{ask, no_digest, no_origin, no_verdict, orders, print, told, told_errand, told_text, words_of};
+ghost use Rattle.desk.specs.Orders.{ask, no_digest, no_origin, no_verdict, orders, print, title_alone, told, told_errand, told_text, words_of};
 ghost use Rattle.keyfile.specs.Digests.{digest_bytes};
 ghost use Rattle.origins.specs.Origins.{origin_text};
 ghost use Rattle.desk.specs.Words.{digest_at, is_command_name, is_order_name, meaning, meaning_of, names_order, number_at, number_found, origin_at, sent, text_at};
-ghost use Rattle.desk.specs.Words.{flag_at, texts_at};
+ghost use Rattle.desk.specs.Words.{flag_at, public_at, texts_at};
 
 use crate::order_entry::{
     ACTOR, BATCH, CANDIDATE, CLERK, CLERKS, CODES, CODES_FILE, CONNECTIONS, DIGEST, Entry, FILE,
-    FIRST_CLERK, Heading, ID, KEEP_GOING, MARKS, NAME, NEW, ORIGIN, PAPER, PORT, ROUND, SCRIPT,
-    SEATS, SECOND_CLERK, SIZE, STAGE, TITLE, VERDICT, WARD, WITH_OFFICE, Word,
+    FIRST_CLERK, Heading, ID, KEEP_GOING, MARKS, NAME, NEW, ORIGIN, PAPER, PAPERS, PORT, PUBLIC,
+    ROUND, SCRIPT, SEATS, SECOND_CLERK, SIZE, STAGE, TITLE, VERDICT, WARD, WITH_OFFICE, Word,
 };
-use crate::orders::{Errand, Job, KeyingFile, Order, Question, Task};
+use crate::orders::{Errand, ExpectedSeal, Job, KeyingFile, Order, Question, Task};
 use crate::requests::{by_clerk, by_office};
 use crate::verdicts::verdict_in;
 use clap::ArgMatches;
@@ -48,7 +48,7 @@ macro_rules! order {
 /// The orders up to the seal of a ward, in the sequence of an election. They are in a table of their own, since a proof computes each
 /// table whole.
 #[rattlefmt::skip]
-const ORDERS_TO_SEAL: [Entry; 12] = [
+const ORDERS_TO_SEAL: [Entry; 13] = [
     order!(Election "init" [], "Makes an office in DB, a new file or an empty one:\ncount-office town.db init"),
     order!(Election "ward" [WARD, SEATS, NAME, ID], "Adds a ward, its nominations open:\ncount-office town.db ward 7 2 Harbour --id w1"),
     order!(Election "candidate" [WARD, CANDIDATE, NAME, ID], "Adds a candidate to a ward:\ncount-office town.db candidate 7 1 Ann --id c1"),
@@ -56,6 +56,7 @@ const ORDERS_TO_SEAL: [Entry; 12] = [
     order!(Election "withdraw" [WARD, CANDIDATE, ID], "Takes a candidate off a ward, while nominations are open:\ncount-office town.db withdraw 7 5 --id x1"),
     order!(Election "close" [WARD, ID], "Closes the nominations of a ward:\ncount-office town.db close 7 --id n1"),
     order!(Election "batch" [BATCH, WARD, SIZE, FIRST_CLERK, SECOND_CLERK, ID], "Gives out a batch of papers of a ward to two clerks, who key it:\ncount-office town.db batch 12 7 8 4 9 --id b1"),
+    order!(Election "import-batches" [FILE, ID, DIGEST], "Gives out the batches of a file, the first under ID-1:\ncount-office town.db import-batches batches.csv --id b"),
     order!(Election "import-keying" [CLERK, BATCH, ROUND, FILE, ID, DIGEST],
         "Keeps a clerk's keying of a batch, in a round, from a file:\ncount-office town.db import-keying 4 12 1 k4-12.csv --id k1"),
     order!(Election "key" [CLERK, BATCH, ROUND, MARKS, ID], "Keeps a clerk's keying of a batch, in a round, a word a paper:\ncount-office town.db key 4 14 1 1,2,, ,1,,2 D --id k3"),
@@ -67,7 +68,7 @@ const ORDERS_TO_SEAL: [Entry; 12] = [
 /// The other orders: those from the seal on in the same sequence, then `migrate`, those for the office alone, and those for everyone.
 #[rattlefmt::skip]
 const ORDERS_FROM_SEAL: [Entry; 25] = [
-    order!(Election "seal" [WARD, ID], "Seals a ward whose papers are all agreed and judged:\ncount-office town.db seal 7 --id s1"),
+    order!(Election "seal" [WARD, ID, PAPERS], "Seals a ward whose papers are all agreed and judged:\ncount-office town.db seal 7 --id s1"),
     order!(Election "advance" [WARD, ID], "Counts the one stage that is due in a sealed ward:\ncount-office town.db advance 7 --id a1"),
     order!(Election "count" [WARD, ID], "Counts a sealed ward up to a lot or the end, its first stage under ID-1:\ncount-office town.db count 7 --id a"),
     order!(Election "lot" [WARD, STAGE, CANDIDATE, ID], "Records the candidate whom the lot for a stage named:\ncount-office town.db lot 7 3 4 --id l1"),
@@ -76,7 +77,7 @@ const ORDERS_FROM_SEAL: [Entry; 25] = [
     order!(Election "next" [WARD], "Prints what comes next in a ward, with names:\ncount-office town.db next 7"),
     order!(Election "sheet" [WARD], "Prints the stage sheet of a sealed ward:\ncount-office town.db sheet 7"),
     order!(Election "result" [WARD], "Prints the declaration of a declared ward:\ncount-office town.db result 7"),
-    order!(Election "serve" [PORT, CONNECTIONS, ORIGIN, CODES], "Serves clerks over HTTP on this machine, until it is stopped:\ncount-office town.db serve 8080"),
+    order!(Election "serve" [PORT, CONNECTIONS, ORIGIN, CODES, PUBLIC, TITLE], "Serves clerks over HTTP on this machine, until it is stopped:\ncount-office town.db serve 8080"),
     order!(Election "migrate" [], "Brings an office of an earlier program over to this one:\ncount-office town.db migrate"),
     order!(Office "wards" [], "Prints how each ward stands, and what is left to do:\ncount-office town.db wards"),
     order!(Office "batches" [WARD], "Prints of each batch of a ward who has keyed it, and how it stands:\ncount-office town.db batches 7"),
@@ -94,16 +95,16 @@ const ORDERS_FROM_SEAL: [Entry; 25] = [
     order!(Everyone "index" [TITLE], "Prints how all wards stand, and who is elected, as a page to hang at the door:\ncount-office town.db index"),
 ];
 
-/// Returns the orders up to the seal, the first 12 of all.
+/// Returns the orders up to the seal, the first 13 of all.
 pub(crate) fn entries_to_seal() -> &'static [Entry]
-    ensures { map words_of result.now ≡ map (λ e. e.typed) (take 12 orders) }
+    ensures { map words_of result.now ≡ map (λ e. e.typed) (take 13 orders) }
 {
     &ORDERS_TO_SEAL
 }
 
 /// Returns the orders from the seal on.
 pub(crate) fn entries_from_seal() -> &'static [Entry]
-    ensures { map words_of result.now ≡ map (λ e. e.typed) (drop 12 orders) }
+    ensures { map words_of result.now ≡ map (λ e. e.typed) (drop 13 orders) }
 {
     &ORDERS_FROM_SEAL
 }
@@ -121,6 +122,8 @@ pub(crate) enum NoOrder {
     BadOrigin,
     /// The word of a digest is invalid.
     BadDigest,
+    /// There is a title, but nothing is shown in public.
+    TitleAlone,
     /// An allocation failed.
     Memory,
 }
@@ -228,6 +231,21 @@ fn digest_in(matches: &ArgMatches<'_>) -> Result<Option<FileDigest>, NoOrder>
     }
 }
 
+/// Returns the title of what is shown in public, if anything is.
+fn public_in<'a>(matches: &ArgMatches<'a>) -> Result<Option<&'a str>, NoOrder>
+    ensures ok { IfOk result (λ found. public_at (rows_of (found_of matches.now)) ≡ Some (option_map (λ title. title.now) found)) }
+    ensures err { IfErr result (λ why. (why ≡ NoOrder.TitleAlone) × (public_at (rows_of (found_of matches.now)) ≡ None)) }
+{
+    let title = text_in(matches, TITLE);
+    if flag_in(matches, PUBLIC) {
+        return Ok(Some(title));
+    }
+    if title.is_empty() {
+        return Ok(None);
+    }
+    Err(NoOrder::TitleAlone)
+}
+
 // ---- the commands that orders send
 
 fn batch_command(matches: &ArgMatches<'_>) -> Command
@@ -263,6 +281,7 @@ fn command_named(alloc: Global, name: &str, matches: &ArgMatches<'_>) -> Result<
     ensures bad { result ≡ Err NoOrder.BadVerdict → meaning_of name.now (rows_of (found_of matches.now)) ≡ Some no_verdict }
     ensures bad_origin { result ≡ Err NoOrder.BadOrigin → meaning_of name.now (rows_of (found_of matches.now)) ≡ Some no_origin }
     ensures bad_digest { result ≡ Err NoOrder.BadDigest → meaning_of name.now (rows_of (found_of matches.now)) ≡ Some no_digest }
+    ensures title_alone { result ≡ Err NoOrder.TitleAlone → meaning_of name.now (rows_of (found_of matches.now)) ≡ Some title_alone }
 {
     let ward = number_in(matches, WARD);
     let candidate = number_in(matches, CANDIDATE);
@@ -287,7 +306,6 @@ fn command_named(alloc: Global, name: &str, matches: &ArgMatches<'_>) -> Result<
             clerk: number_in(matches, CLERK),
         })),
         "judge" => verdict_command(alloc, matches),
-        "seal" => Ok(Command::Count(CountCommand::Seal { ward })),
         "advance" => Ok(Command::Count(CountCommand::Advance { ward })),
         "lot" => Ok(Command::Count(CountCommand::Lot {
             ward,
@@ -332,6 +350,17 @@ fn import_candidates<'a>(matches: &ArgMatches<'a>) -> Result<Order<'a>, NoOrder>
     }))
 }
 
+fn import_batches<'a>(matches: &ArgMatches<'a>) -> Result<Order<'a>, NoOrder>
+    ensures ok { IfOk result (λ o. meaning_of (codes "import-batches") (rows_of (found_of matches.now)) ≡ Some (told o)) }
+    ensures err { IfErr result (λ why. (why ≡ NoOrder.BadDigest) × (meaning_of (codes "import-batches") (rows_of (found_of matches.now)) ≡ Some no_digest)) }
+{
+    Ok(in_office(Errand::ImportBatches {
+        file: text_in(matches, FILE),
+        id: text_in(matches, ID),
+        digest: digest_in(matches)?,
+    }))
+}
+
 fn import_keying<'a>(matches: &ArgMatches<'a>) -> Result<Order<'a>, NoOrder>
     ensures ok { IfOk result (λ o. meaning_of (codes "import-keying") (rows_of (found_of matches.now)) ≡ Some (told o)) }
     ensures err { IfErr result (λ why. (why ≡ NoOrder.BadDigest) × (meaning_of (codes "import-keying") (rows_of (found_of matches.now)) ≡ Some no_digest)) }
@@ -361,6 +390,22 @@ fn key<'a>(alloc: Global, matches: &ArgMatches<'a>) -> Result<Order<'a>, NoOrder
     Ok(in_office(Errand::Send(by_clerk(clerk, id, Command::Keying(command)))))
 }
 
+/// Returns the order that seals a ward, or does so if the number of papers that was matched were given out.
+fn seal<'a>(alloc: Global, matches: &ArgMatches<'a>) -> Result<Order<'a>, NoOrder>
+    ensures ok { IfOk result (λ o. meaning_of (codes "seal") (rows_of (found_of matches.now)) ≡ Some (told o)) }
+    ensures err { IfErr result (λ why. why ≡ NoOrder.Memory) }
+{
+    let ward = number_in(matches, WARD);
+    match number_found_in(matches, PAPERS) {
+        Some(papers) => Ok(in_office(Errand::SealExpected(ExpectedSeal {
+            ward,
+            papers,
+            id: text_in(matches, ID),
+        }))),
+        None => sending(alloc, matches, Command::Count(CountCommand::Seal { ward })),
+    }
+}
+
 fn counting<'a>(matches: &ArgMatches<'a>) -> Order<'a>
     ensures { meaning_of (codes "count") (rows_of (found_of matches.now)) ≡ Some (told result) }
 {
@@ -381,13 +426,16 @@ fn replay<'a>(matches: &ArgMatches<'a>) -> Order<'a>
 
 fn serve<'a>(matches: &ArgMatches<'a>) -> Result<Order<'a>, NoOrder>
     ensures ok { IfOk result (λ o. meaning_of (codes "serve") (rows_of (found_of matches.now)) ≡ Some (told o)) }
-    ensures err { IfErr result (λ why. (why ≡ NoOrder.BadOrigin) × (meaning_of (codes "serve") (rows_of (found_of matches.now)) ≡ Some no_origin)) }
+    ensures bad_origin { result ≡ Err NoOrder.BadOrigin → meaning_of (codes "serve") (rows_of (found_of matches.now)) ≡ Some no_origin }
+    ensures title_alone { result ≡ Err NoOrder.TitleAlone → meaning_of (codes "serve") (rows_of (found_of matches.now)) ≡ Some title_alone }
+    ensures err { IfErr result (λ why. (why ≡ NoOrder.BadOrigin) ⊎ (why ≡ NoOrder.TitleAlone)) }
 {
     Ok(Order::Serve {
         port: number_in(matches, PORT),
         connections: number_found_in(matches, CONNECTIONS),
         origin: origin_in(matches)?,
         codes: text_found_in(matches, CODES),
+        public: public_in(matches)?,
     })
 }
 
@@ -432,6 +480,7 @@ fn order_named<'a>(
     ensures bad { result ≡ Err NoOrder.BadVerdict → meaning_of name.now (rows_of (found_of matches.now)) ≡ Some no_verdict }
     ensures bad_origin { result ≡ Err NoOrder.BadOrigin → meaning_of name.now (rows_of (found_of matches.now)) ≡ Some no_origin }
     ensures bad_digest { result ≡ Err NoOrder.BadDigest → meaning_of name.now (rows_of (found_of matches.now)) ≡ Some no_digest }
+    ensures title_alone { result ≡ Err NoOrder.TitleAlone → meaning_of name.now (rows_of (found_of matches.now)) ≡ Some title_alone }
 {
     let ward = number_in(matches, WARD);
     let batch = number_in(matches, BATCH);
@@ -440,8 +489,10 @@ fn order_named<'a>(
         "init" => Ok(Order::Perform(Task::Init)),
         "migrate" => Ok(Order::Perform(Task::Migrate)),
         "import-candidates" => import_candidates(matches),
+        "import-batches" => import_batches(matches),
         "import-keying" => import_keying(matches),
         "key" => key(alloc, matches),
+        "seal" => seal(alloc, matches),
         "count" => Ok(counting(matches)),
         "next" => Ok(in_office(Errand::TellNext { ward })),
         "status" => Ok(in_office(Errand::TellStatus { ward })),
@@ -479,6 +530,7 @@ pub(crate) fn order_in<'a>(alloc: Global, matches: &ArgMatches<'a>) -> Result<Or
     ensures bad { result ≡ Err NoOrder.BadVerdict → meaning (subcommand_rows_of matches.now) ≡ Some no_verdict }
     ensures bad_origin { result ≡ Err NoOrder.BadOrigin → meaning (subcommand_rows_of matches.now) ≡ Some no_origin }
     ensures bad_digest { result ≡ Err NoOrder.BadDigest → meaning (subcommand_rows_of matches.now) ≡ Some no_digest }
+    ensures title_alone { result ≡ Err NoOrder.TitleAlone → meaning (subcommand_rows_of matches.now) ≡ Some title_alone }
 {
     match matches.subcommand() {
         Some((name, inner)) => order_named(alloc, name, inner),

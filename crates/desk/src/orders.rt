@@ -21,6 +21,14 @@ pub struct KeyingFile<'a> {
     pub digest: Option<FileDigest>,
 }
 
+/// The seal of a ward, for which this many papers are to have been given out to the ward's batches.
+#[derive(Clone, Copy, Debug)]
+pub struct ExpectedSeal<'a> {
+    pub ward: u32,
+    pub papers: u32,
+    pub id: &'a str,
+}
+
 /// A question that only the office asks.
 #[derive(Clone, Copy, Debug)]
 pub enum Question {
@@ -50,8 +58,17 @@ pub enum Errand<'a> {
         id: &'a str,
         digest: Option<FileDigest>,
     },
+    /// Give out the batches of a file, each under this id, a hyphen, and its record's number. If a digest is given, the file must have
+    /// it.
+    ImportBatches {
+        file: &'a str,
+        id: &'a str,
+        digest: Option<FileDigest>,
+    },
     /// Store a clerk's keying.
     ImportKeying(KeyingFile<'a>),
+    /// Seal a ward, if as many papers as expected were given out.
+    SealExpected(ExpectedSeal<'a>),
     /// Count the stages of a ward up to a lot or the end, each under this id, a hyphen, and its number in this order.
     Count {
         ward: u32,
@@ -85,6 +102,7 @@ impl<'a> Errand<'a> {
     {
         match self {
             Errand::ImportCandidates { file, .. } => Some(file),
+            Errand::ImportBatches { file, .. } => Some(file),
             Errand::ImportKeying(keying) => Some(keying.file),
             _ => None,
         }
@@ -98,7 +116,9 @@ impl<'a> Errand<'a> {
             self,
             Errand::Send(_)
                 | Errand::ImportCandidates { .. }
+                | Errand::ImportBatches { .. }
                 | Errand::ImportKeying(_)
+                | Errand::SealExpected(_)
                 | Errand::Count { .. }
         )
     }
@@ -156,11 +176,13 @@ pub enum Order<'a> {
         with_office: bool,
     },
     /// Serve connections on a port of this machine, and pages of an origin through a proxy, if one is given. It ends after this many
-    /// connections, or never if no number is given. Clerks need codes if the path of a file of codes is given.
+    /// connections, or never if no number is given. Clerks need codes if the path of a file of codes is given. If a title is given,
+    /// the count is shown in public under it.
     Serve {
         port: u32,
         connections: Option<u32>,
         origin: Option<Origin<'a>>,
         codes: Option<&'a str>,
+        public: Option<&'a str>,
     },
 }

@@ -1,14 +1,16 @@
 //! The requests that orders send to the office.
 
 ghost use Rattle.std.specs.Prelude.{◌≡◌, map, IfOk, string_bytes};
-ghost use Rattle.keyfile.specs.Candidates.{candidate_entry};
+ghost use Rattle.keyfile.specs.Batches.{BatchRowEntry, batch_row_entry};
+ghost use Rattle.keyfile.specs.Candidates.{CandidateEntry, candidate_entry};
 ghost use Rattle.desk.specs.Orders.{asked_by, by_clerk, by_office, sent_as};
-ghost use Rattle.desk.specs.Requests.{advance_at, advances, id_at, keying_by, most_advances, request_at, requests_from};
+ghost use Rattle.desk.specs.Requests.{advance_at, advances, batch_asked, candidate_asked, id_at, keying_by, most_advances, requests_from};
+ghost use Rattle.desk.specs.Seals.{seal_request};
 
-use crate::orders::KeyingFile;
-use keyfile::CandidateRow;
+use crate::orders::{ExpectedSeal, KeyingFile};
+use keyfile::{BatchRow, CandidateRow};
 use register::ranges::LAST_LOT_STAGE;
-use register::{CandidateCommand, Command, CountCommand, KeyingCommand, Request};
+use register::{BatchCommand, CandidateCommand, Command, CountCommand, KeyingCommand, Request};
 use std::alloc::{AllocError, Global};
 
 /// The actor of these requests: the office itself.
@@ -61,37 +63,94 @@ fn id_at(alloc: Global, id: &str, number: usize) -> Result<String, AllocError>
     format!(in alloc; "{id}-{number}")
 }
 
-/// Returns the request that adds the candidate of the record of some number.
-fn request_at(
+/// The rows of an import file, each of which is sent as one request of the office.
+pub(crate) trait ImportRow: Drop {
+    ghost use Rattle.desk.specs.Orders.{Asked};
+
+    /// The entry that a row represents.
+    ghost Entry: { Type 0 };
+
+    ghost entry: { Self → Entry };
+
+    /// What an entry asks for.
+    ghost asked: { Entry → Asked };
+
+    /// Returns the command that asks for it.
+    fn command(&self) -> Result<Command, AllocError>
+        ensures { IfOk result (λ command. asked_by command ≡ asked (entry self.now)) };
+}
+
+impl ImportRow for CandidateRow {
+    ghost Entry = { CandidateEntry };
+
+    ghost entry = { candidate_entry };
+
+    ghost asked = { candidate_asked };
+
+    /// Returns the command that adds the candidate.
+    fn command(&self) -> Result<Command, AllocError> {
+        Ok(Command::Candidate(CandidateCommand::Add {
+            ward: self.ward,
+            candidate: self.candidate,
+            name: self.name.clone()?,
+        }))
+    }
+}
+
+impl ImportRow for BatchRow {
+    ghost Entry = { BatchRowEntry };
+
+    ghost entry = { batch_row_entry };
+
+    ghost asked = { batch_asked };
+
+    /// Returns the command that gives out the batch.
+    fn command(&self) -> Result<Command, AllocError> {
+        Ok(Command::Batch(BatchCommand::Add {
+            batch: self.batch,
+            ward: self.ward,
+            size: self.size,
+            first_clerk: self.first_clerk,
+            second_clerk: self.second_clerk,
+        }))
+    }
+}
+
+/// Returns the request for the record of some number.
+fn request_at<T: ImportRow>(
     alloc: Global,
     id: &str,
     number: usize,
-    row: &CandidateRow,
+    row: &T,
 ) -> Result<Request, AllocError>
-    ensures { IfOk result (λ request. sent_as request ≡ request_at id.now number (candidate_entry row.now)) }
+    ensures { IfOk result (λ request. sent_as request ≡ by_office (id_at id.now number) (T.asked (T.entry row.now))) }
 {
-    let command = CandidateCommand::Add {
-        ward: row.ward,
-        candidate: row.candidate,
-        name: row.name.clone()?,
-    };
-    let id = id_at(alloc, id, number)?;
-    Ok(by_office(id, Command::Candidate(command)))
+    let command = row.command()?;
+    Ok(by_office(id_at(alloc, id, number)?, command))
 }
 
-/// Returns the requests that add the candidates of a file, one per record.
-pub(crate) fn requests_for(
+/// Returns the requests for the rows of a file, one per record.
+pub(crate) fn requests_for<T: ImportRow>(
     alloc: Global,
     id: &str,
-    rows: &[CandidateRow],
+    rows: &[T],
 ) -> Result<Vec<Request>, AllocError>
-    ensures { IfOk result (λ requests. map sent_as requests.items ≡ requests_from id.now 1 (map candidate_entry rows.now)) }
+    ensures { IfOk result (λ requests. map sent_as requests.items ≡ requests_from T.asked id.now 1 (map T.entry rows.now)) }
 {
     let mut requests = Vec::new(alloc);
     for (i, row) in rows.iter().enumerate() {
         requests.push(request_at(alloc, id, i + 1, row)?)?;
     }
     Ok(requests)
+}
+
+/// Returns the request that seals a ward.
+pub(crate) fn seal_request(alloc: Global, seal: ExpectedSeal<'_>) -> Result<Request, AllocError>
+    ensures { IfOk result (λ request. sent_as request ≡ seal_request seal.entry) }
+{
+    let id = String::from_str(alloc, seal.id)?;
+    let command = CountCommand::Seal { ward: seal.ward };
+    Ok(by_office(id, Command::Count(command)))
 }
 
 /// Returns the request that counts a stage of a ward, with this number in its order.

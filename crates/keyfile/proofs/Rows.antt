@@ -4,6 +4,7 @@ use Rattle.std.specs.Str.{chars, is_utf8}
 use lib.Utf8.{encode}
 use Rattle.csv.specs.Machine.{next_record}
 use Rattle.csv.specs.Reading.{records_from, strip_bom}
+use Rattle.keyfile.specs.Batches.{BatchRowEntry, batches}
 use Rattle.keyfile.specs.Candidates.{CandidateEntry, candidates}
 use Rattle.keyfile.specs.Files.{fault_at, file_rows}
 use Rattle.keyfile.specs.Keying.{keying}
@@ -21,6 +22,9 @@ papers_of bytes = keying_of (codes "paper,1,2,3" ++ 10 ∷ bytes)
 
 abbrev candidates_of : List ℕ → Result (List CandidateEntry) FileFault
 candidates_of bytes = file_rows candidates (file_records (codes "ward,candidate,name" ++ 10 ∷ bytes))
+
+abbrev batches_of : List ℕ → Result (List BatchRowEntry) FileFault
+batches_of bytes = file_rows batches (file_records (codes "batch,ward,size,first clerk,second clerk" ++ 10 ∷ bytes))
 
 two_papers : papers_of (codes "1,1,2," ++ 10 ∷ codes "2,D,," ++ 10 ∷ []) ≡ Ok (codes "1,2," ∷ codes "D" ∷ [])
 unfolding chars encode is_utf8 next_record records_from strip_bom
@@ -132,3 +136,11 @@ letter_beside_a_mark = refl
 quoted_name : candidates_of (codes "7,1,Ann" ++ 10 ∷ codes "7,2,\"Bob, jr\"") ≡ Ok ((7, 1, codes "Ann") ∷ (7, 2, codes "Bob, jr") ∷ [])
 unfolding chars encode is_utf8 next_record records_from strip_bom
 quoted_name = refl
+
+a_batch : batches_of (codes "12,7,50,4,9") ≡ Ok (record { batch = 12; ward = 7; size = 50; first_clerk = 4; second_clerk = 9 } ∷ [])
+unfolding chars encode is_utf8 next_record records_from strip_bom
+a_batch = refl
+
+a_clerk_is_missing : batches_of (codes "12,7,50,4,") ≡ Err (fault_at 1 Number)
+unfolding chars encode is_utf8 next_record records_from strip_bom
+a_clerk_is_missing = refl

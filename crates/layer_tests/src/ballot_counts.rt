@@ -3,7 +3,8 @@
 
 use crate::checker_texts::{BALLOTS, DECLARATION, SHEET};
 use crate::sheet_outputs::is_text;
-use checker::{CountProblem, CountText, CountedText, count_ballots};
+use checker::{CountProblem, CountText, CountedText, RecordsWard, count_ballots, count_records};
+use paper::MAX_CANDIDATES;
 use std::alloc::{AllocError, Global};
 use std::process::Abort;
 use std::test::Fail;
@@ -200,6 +201,198 @@ fn shows_page(rt: &(impl Abort + AllocGlobal), ballots: &str, declared: bool) ->
     Ok(())
 }
 
+/// Cast-vote records of a ward, with a byte order mark, carriage returns and an empty line; one paper has no first preference, and
+/// two have several.
+const RECORDS: &str = "\u{feff}count,\"Ann \"\"A\"\", jr.\",Bob,Cy\r
+4,1,2,\r
+\r
+2,1,,2\r
+1,,1,\r
+2,,,1\r
+1,,2,\r
+2,1,1,2\r
+";
+
+/// The ballots that they are.
+const RECORDED: &str = r#"3 2
+4 1 2 0
+2 1 3 0
+1 2 0
+2 3 0
+0
+"Ann \"A\", jr."
+"Bob"
+"Cy"
+"Harbour"
+# Ward 1
+# Rejected 1: 1, 2: 2, 3: 0, 4: 0, 5: 0
+"#;
+
+/// Records that aren't understood, and the first such line.
+const NOT_RECORDS: [(&str, &str); 11] = [
+    (
+        "",
+        "line 1 of the ballots: the file ends before the line of its columns",
+    ),
+    ("Ann,", "line 1 of the ballots: a column has no name"),
+    (
+        "Rank 1,Rank 2",
+        "line 1 of the ballots: a column may be of something other than a candidate",
+    ),
+    ("Ann", "line 1 of the ballots: a single column"),
+    (
+        "Ann,B\"ob",
+        "line 1 of the ballots: a field is not in quotation marks as a whole",
+    ),
+    (
+        "Ann,\"Bob",
+        "line 1 of the ballots: a quotation mark is not closed",
+    ),
+    (
+        "Ann,Bob,Cy\n1,2",
+        "line 2 of the ballots: another number of fields than columns",
+    ),
+    (
+        "Ann,Bob,Cy\n1,2,x",
+        "line 2 of the ballots: a field is not a rank",
+    ),
+    (
+        "Ann,Bob,Cy\n1,2,\n1,02,",
+        "line 3 of the ballots: a field is not a rank",
+    ),
+    (
+        "count,Ann,Bob,Cy\n0,1,2,",
+        "line 2 of the ballots: no papers",
+    ),
+    (
+        "count,Ann,Bob,Cy\n,1,2,",
+        "line 2 of the ballots: a word is not a number",
+    ),
+];
+
+/// The candidates of the same ward, in the order of their numbers.
+const CANDIDATES: [&str; 3] = ["Ann \"A\", jr.", "Bob", "Cy"];
+
+/// The same records with a rank in each column, by number and by name. A paper that gives one rank to several can't be written so: two
+/// have no first preference in their place.
+const RANKED: &str = "count,rank1,Rank 2,rank 3
+4,1,Bob,
+2,\"Ann \"\"A\"\", jr.\",3,
+1,Bob,,
+2,3,,
+1,,\"1\",
+2,,,
+";
+
+/// The ballots that they are.
+const RANKED_BALLOTS: &str = r#"3 2
+4 1 2 0
+2 1 3 0
+1 2 0
+2 3 0
+0
+"Ann \"A\", jr."
+"Bob"
+"Cy"
+"Harbour"
+# Ward 1
+# Rejected 1: 3, 2: 0, 3: 0, 4: 0, 5: 0
+"#;
+
+/// Records of these candidates that aren't understood, and the first such line.
+const NOT_RANKED: [(&str, &str); 8] = [
+    (
+        "rank1,rank3\n",
+        "line 1 of the ballots: a column is not that of the next rank",
+    ),
+    (
+        "Ann,Bob\n",
+        "line 1 of the ballots: a column is not that of the next rank",
+    ),
+    ("count\n", "line 1 of the ballots: a single column"),
+    (
+        "rank1,rank2\n1,2\n1,4\n",
+        "line 3 of the ballots: a field names no candidate",
+    ),
+    (
+        "rank1,rank2\nBob,2\n",
+        "line 2 of the ballots: a candidate twice",
+    ),
+    (
+        "rank1,rank2\n1,2,3\n",
+        "line 2 of the ballots: another number of fields than columns",
+    ),
+    (
+        "rank1,rank2\n1\n",
+        "line 2 of the ballots: another number of fields than columns",
+    ),
+    (
+        "rank1,rank2\n1,\"2\n",
+        "line 2 of the ballots: a quotation mark is not closed",
+    ),
+];
+
+/// Counts the records of a ward, and returns what comes of it, in words.
+fn recorded(
+    alloc: Global,
+    candidates: &[&str],
+    records: &str,
+    text: &CountText,
+) -> Result<String, Fail> {
+    if candidates.len() > MAX_CANDIDATES {
+        return Err(Fail::from("too many candidates"));
+    }
+    let ward = RecordsWard {
+        seats: 2,
+        name: "Harbour",
+        candidates: Vec::from_slice(alloc, candidates)?,
+    };
+    match count_records(alloc, &ward, records.as_bytes(), &[], text) {
+        Ok(counted) => {
+            let CountedText { text, lot_needed } = counted;
+            drop(lot_needed);
+            Ok(text)
+        }
+        Err(problem) => Ok(words_of(alloc, &problem)?),
+    }
+}
+
+/// Records of these candidates are counted as these ballots.
+fn counts_as(
+    rt: &(impl Abort + AllocGlobal),
+    candidates: &[&str],
+    records: &str,
+    ballots: &str,
+) -> Result<(), Fail> {
+    let told = recorded(rt.alloc(), candidates, records, &CountText::Ballots)?;
+    is_text(rt, told.as_str(), ballots);
+    let sheet = recorded(rt.alloc(), candidates, records, &CountText::Sheet)?;
+    let wanted = counted(rt.alloc(), ballots, &[], &CountText::Sheet)?;
+    is_text(rt, sheet.as_str(), wanted.text.as_str());
+    Ok(())
+}
+
+/// Records are counted as the ballots that they are.
+fn counts_records(rt: &(impl Abort + AllocGlobal)) -> Result<(), Fail> {
+    counts_as(rt, &[], RECORDS, RECORDED)?;
+    counts_as(rt, &CANDIDATES, RANKED, RANKED_BALLOTS)?;
+    for (records, flaw) in &NOT_RECORDS {
+        let told = recorded(rt.alloc(), &[], *records, &CountText::Sheet)?;
+        is_text(rt, told.as_str(), *flaw);
+    }
+    for (records, flaw) in &NOT_RANKED {
+        let told = recorded(rt.alloc(), &CANDIDATES, *records, &CountText::Sheet)?;
+        is_text(rt, told.as_str(), *flaw);
+    }
+    let told = recorded(rt.alloc(), &["Ann", "1"], "rank1,rank2\n1,2\n", &CountText::Sheet)?;
+    is_text(
+        rt,
+        told.as_str(),
+        "line 2 of the ballots: a field may name several candidates",
+    );
+    Ok(())
+}
+
 #[test]
 fn ballots_are_counted(rt: HostRuntime) -> Result<(), Fail> {
     for case in &COUNTED {
@@ -209,5 +402,6 @@ fn ballots_are_counted(rt: HostRuntime) -> Result<(), Fail> {
         refuses(&rt, case)?;
     }
     shows_page(&rt, BALLOTS, true)?;
-    shows_page(&rt, TIED, false)
+    shows_page(&rt, TIED, false)?;
+    counts_records(&rt)
 }

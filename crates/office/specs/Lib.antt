@@ -6,3 +6,4 @@ pub mod Reads
 pub mod Sheets
 pub mod Index
 pub mod Overviews
+pub mod Decisions

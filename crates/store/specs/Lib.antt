@@ -12,3 +12,4 @@ pub mod Overviews
 pub mod Piles
 pub mod Copies
 pub mod Whole
+pub mod Memories

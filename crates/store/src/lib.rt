@@ -23,12 +23,15 @@
 mod clerk_work;
 pub mod copying;
 mod entries;
+mod keeper;
 mod listing;
+mod memory;
 pub mod migration;
 pub mod older;
 mod opening;
 pub mod overviews;
 mod repeats;
+mod schemas;
 mod status;
 pub mod storage;
 mod views;
@@ -36,6 +39,7 @@ pub mod whole;
 mod writing;
 
 pub use copying::{CopyFault, Holdings, copy};
+pub use keeper::Keeper;
 pub use migration::{Migrated, migrate};
 pub use overviews::batches::{BatchOverview, BatchStanding};
 pub use overviews::clerks::ClerkOverview;

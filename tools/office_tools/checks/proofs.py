@@ -3,10 +3,10 @@
 docs/engineering/proofs.md and limits.md are about the sources throughout. Each row of a table | crate | promise | where | names in its last
 column functions of the crate and, after a colon, clauses of each of them, in parts like `Office::run`: `headline`, `answers`; `order`: `ok`.
 In their text `opened`, `told` of `Store::open_from` names clauses of a function, and each word in backticks is one of the sources, or a
-wrong body; so in lines of docs/officer/rules.md, ORDERS.md, SHEETS.md or BALLOTS.md that begin with `- Definition` or `The definition`, and in
-rows of docs/officer/glossary.md. Each path like `Rattle.votes.specs.Units.IsQuota` has its definition there. Each refusal and fault of the sources has
-its heading in docs/officer/when-it-says-no.md. Each edit's old text is just once in its file. --write makes out/proofs-table.md: each public function, its
-clauses, and its wrong bodies.
+wrong body; so in lines of docs/officer/rules.md or docs/formats/{orders,sheets,ballots,records}.md that begin with `- Definition` or
+`The definition`, and in rows of docs/officer/glossary.md. Each path like `Rattle.votes.specs.Units.IsQuota` has its definition there. Each refusal and fault of
+the sources has its heading in docs/officer/when-it-says-no.md. Each edit's old text is just once in its file. --write makes
+out/proofs-table.md: each public function, its clauses, and its wrong bodies.
 """
 import re
 
@@ -15,7 +15,8 @@ from office_tools.office import ROOT
 
 HAND, MESSAGES = [ROOT / f"docs/engineering/{name}.md" for name in ("proofs", "limits")], ROOT / "docs/officer/when-it-says-no.md"
 MADE = ROOT / "out/proofs-table.md"
-DEFINED = [ROOT / f"docs/{name}.md" for name in ("officer/rules", "ORDERS", "SHEETS", "BALLOTS", "officer/glossary")]
+PAGES = ("officer/rules", "formats/orders", "formats/sheets", "formats/ballots", "formats/records", "officer/glossary")
+DEFINED = [ROOT / f"docs/{name}.md" for name in PAGES]
 # What the program prints before a number, the file of definitions, and the definitions of the number and of the text after it.
 NUMBERED = [
     ("refused {}: ", "register/specs/Reasons.antt", "reason_number", "reason_words"),

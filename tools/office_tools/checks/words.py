@@ -7,7 +7,7 @@ import re
 from office_tools.checks.links import FENCED
 from office_tools.office import ROOT
 
-BOOKS, MADE = {"officer": "docs/officer/*.md", "engineering": "docs/engineering/*.md"}, ("results.md",)
+BOOKS, MADE = {"officer": "docs/officer/*.md", "formats": "docs/formats/*.md", "engineering": "docs/engineering/*.md"}, ("results.md",)
 
 
 def words(path):

@@ -9,7 +9,8 @@ from office_tools.releasing.facts import fail, filled
 # The pages in their order, by their paths below docs/.
 PAGES = ["officer/README", "officer/evening", "officer/by-words", "officer/when-it-says-no", "officer/putting-right",
          "officer/tellers", "officer/agents", "officer/installing", "officer/network", "officer/rules", "officer/glossary",
-         "FORMATS", "ORDERS", "IMPORTS", "SHEETS", "BALLOTS", "HTTP", "DATABASE"]
+         "formats/README", "formats/orders", "formats/files", "formats/sheets", "formats/ballots", "formats/records",
+         "formats/http", "formats/console-api", "formats/screen-api", "formats/tables", "formats/faults"]
 
 
 def slug(text):

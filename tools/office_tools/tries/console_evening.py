@@ -6,7 +6,7 @@ Tellers' keyings are dropped on the console as files, and one is typed as an ord
 - Each order is done once, though the connection breaks after it was done, the server stops and starts again, the page is reloaded while an
   order is being sent, or two consoles confirm the same stage at once.
 - What was typed is still there after a reload. An order that was typed in a terminal is shown.
-- While nothing changes, the console requests nothing but the list of wards. It never requests what isn't in docs/CONSOLE-API.md.
+- While nothing changes, the console requests nothing but the list of wards. It never requests what isn't in docs/formats/console-api.md.
 - Each file that is downloaded or printed is what the order of that name prints.
 - A wrong code, a clerk's name with the office's code, and a page from elsewhere are denied.
 - If the office's file is gone, the console says so and what to do.

@@ -47,7 +47,7 @@ PAIRS = [
     ("one keying, twice", KEYINGS, ELECTION[7], with_file(7)),
     ("two wards", KEYINGS, QUAY, HILL),
     ("a ward and a status", KEYINGS, QUAY, STATUS),
-    ("two stages of one count", 15, ELECTION[15], ELECTION[16]),
+    ("two stages of one count", 16, ELECTION[16], ELECTION[17]),
     ("two `init`", 0, INIT, INIT),
     ("`init` and a ward", 0, INIT, QUAY),
     ("a copy and a ward", KEYINGS, COPYING, QUAY),

@@ -58,6 +58,82 @@ returns-in-ImportCandidates-clause-ran g c =
           );
     }
 
+pub returns-in-Ok-batch_requests-clause-ran : goal.returns-in-Ok-batch_requests-clause-ran
+returns-in-Ok-batch_requests-clause-ran g c =
+    let told = c.send_all-in-Ok-batch_requests.ensures.sent in
+    record {
+      page = told.page;
+      cut = told.cut;
+      shown = told.shown;
+      is = λ clean is_open s at.
+          let it = told.is clean is_open s at in
+          (it.0, it.1, (_, c.opened-file.ensures, rw c.in-ImportBatches.is (inl (c.in-Ok-batch_requests.requests.items, c.in-Ok-batch_requests.ensures.rows, rw c.deref-in-Ok-batch_requests.ensures.value at it.2))));
+    }
+
+pub returns-in-ImportBatches-clause-ran : goal.returns-in-ImportBatches-clause-ran
+returns-in-ImportBatches-clause-ran g c =
+    let told = c.tell-in-Err-batch_requests.ensures in
+    let page = page_of c.in-Err-batch_requests.outcome in
+    let st = state g.S.Store c.args.office.now.held in
+    record {
+      page = fronted c.args.line page;
+      cut = told.0;
+      shown = told.1;
+      is = λ clean is_open s at.
+          let here : IsOpenAt s c.args.office.now.closed st = record { is_open = is_open; at = at } in (
+            [],
+            0,
+            (
+              _,
+              c.opened-file.ensures,
+              rw c.in-ImportBatches.is (inr (unsent_told st c.args.office.now.closed st c.args.keep_going c.args.line _ s page told.0
+                  (elim c.in-Err-batch_requests.ensures.refused [ inl why ↦ inl (why, here) | inr memory ↦ inr (Memory, memory, (inl refl, inl (record { memory = refl; open_at = here }))) ]))),
+            ),
+          );
+    }
+
+pub returns-in-Ok-seal_of-clause-ran : goal.returns-in-Ok-seal_of-clause-ran
+returns-in-Ok-seal_of-clause-ran g c =
+    let told = c.send_all-in-Ok-seal_of.ensures.sent in
+    record {
+      page = told.page;
+      cut = told.cut;
+      shown = told.shown;
+      is = λ clean is_open s at.
+          let honest = c.send_all-in-Ok-seal_of.ensures.clean clean in
+          let read = c.in-Ok-seal_of.ensures.read honest is_open s at in
+          let first = state g.S.Store c.args.office.now.held in
+          let mid = state g.S.Store c.seal_of.new.office.held in
+          let next = state g.S.Store c.send_all-in-Ok-seal_of.new.office.held in
+          let closed = c.send_all-in-Ok-seal_of.new.office.closed in
+          let tells = since first mid next honest (reads_connection first mid c.seal_of.ensures.same) c.send_all-in-Ok-seal_of.ensures.keeps_connection in
+          let it = told.is clean read.1.is_open s read.1.at in
+          let sent = sent_turned {Then = IsOver closed next} {Else = IsOver closed next} {Q = Unit {0}} first mid closed next c.args.keep_going c.args.line page_for tells
+          (λ x e over gone. over) s (c.in-Ok-seal_of.request ∷ []) _ (λ gone. tt) it.2 in
+          (it.0, it.1, (_, c.opened-file.ensures, rw c.in-SealExpected.is (inl (c.in-Ok-seal_of.request ∷ [], read.0, sent))));
+    }
+
+pub returns-in-SealExpected-clause-ran : goal.returns-in-SealExpected-clause-ran
+returns-in-SealExpected-clause-ran g c =
+    let told = c.tell-in-Err-seal_of.ensures in
+    let page = page_of c.in-Err-seal_of.outcome in
+    record {
+      page = fronted c.args.line page;
+      cut = told.0;
+      shown = told.1;
+      is = λ clean is_open s at. (
+        [],
+        0,
+        (
+          _,
+          c.opened-file.ensures,
+          rw c.in-SealExpected.is (inr (unsent_told (state g.S.Store c.args.office.now.held) c.seal_of.new.office.closed
+              (state g.S.Store c.seal_of.new.office.held) c.args.keep_going c.args.line _ s page told.0
+              (c.in-Err-seal_of.ensures.read clean is_open s at))),
+        ),
+      );
+    }
+
 pub returns-in-Ok-keying_of-clause-ran : goal.returns-in-Ok-keying_of-clause-ran
 returns-in-Ok-keying_of-clause-ran g c =
     let told = c.send_all-in-Ok-keying_of.ensures.sent in

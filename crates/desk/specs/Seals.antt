@@ -1,0 +1,33 @@
+-- The seal of a ward of which a number of papers is expected.
+use Rattle.std.specs.Prelude.{◌≡◌, ◌≢◌, ℕ, [], ◌∷◌, List, Result, Ok, Err, map}
+use Rattle.std.specs.List.{sum}
+use Rattle.register.specs.Offices.{OfficeState}
+use Rattle.register.specs.declared.command.Request.{Request}
+use Rattle.register.specs.declared.refusal.Reason.{Reason}
+use Rattle.store.specs.Overviews.{BatchView}
+use Rattle.office.specs.Overviews.{batches_told}
+use Rattle.desk.specs.Orders.{Sent, by_office, sent_as, ward_to_seal}
+use Rattle.desk.specs.Pages.{Page, refused, unsealed}
+use Rattle.desk.specs.declared.orders.ExpectedSeal.{ExpectedSeal}
+
+-- how many papers were given out: the sizes of a ward's batches, added up
+abbrev pub given_out : List BatchView → ℕ
+given_out views = sum (map (λ (v : BatchView). v.batch.size) views)
+
+-- the request that is sent: the one that `seal` sends without an expected number
+abbrev pub seal_request : ExpectedSeal → Sent
+seal_request e = by_office e.id.now (ward_to_seal e.ward)
+
+-- as many papers as expected were given out to the batches of a ward
+abbrev pub AreAsExpected : Result (List BatchView) Reason → ℕ → Type 0
+AreAsExpected (Ok views) papers = given_out views ≡ papers
+AreAsExpected (Err why) papers = ⊥
+
+-- the requests are the seal's, if as many papers as expected were given out
+abbrev pub IsSealSent : OfficeState → ExpectedSeal → List Request → Type 0
+IsSealSent s e requests = AreAsExpected (batches_told s e.ward) e.papers × (map sent_as requests ≡ seal_request e ∷ [])
+
+-- why the seal isn't sent: more or fewer papers were given out than expected; or the batches of the ward aren't shown, for this reason
+abbrev pub IsUnsealed : Result (List BatchView) Reason → ℕ → Page → Type 0
+IsUnsealed (Ok views) papers page = (given_out views ≢ papers) × (page ≡ unsealed (given_out views) papers)
+IsUnsealed (Err why) papers page = page ≡ refused why
