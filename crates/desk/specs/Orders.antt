@@ -279,6 +279,7 @@ shown_as (Some public) means = means public
 -- to serve on a port, and to show something in public under a title
 abbrev pub serve_shown : ℕ → Option ℕ → Option Text → Option Text → Bool → Text → Meant
 serve_shown port connections origin file public title = shown_as (public_of public title) (serve port connections origin file)
+
 -- the office seals a ward; if a number of papers is expected, only where as many were given out
 abbrev pub seal : ℕ → Text → Option ℕ → Meant
 seal ward id None = send (by_office id (ward_to_seal ward))

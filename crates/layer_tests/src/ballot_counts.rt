@@ -384,7 +384,12 @@ fn counts_records(rt: &(impl Abort + AllocGlobal)) -> Result<(), Fail> {
         let told = recorded(rt.alloc(), &CANDIDATES, *records, &CountText::Sheet)?;
         is_text(rt, told.as_str(), *flaw);
     }
-    let told = recorded(rt.alloc(), &["Ann", "1"], "rank1,rank2\n1,2\n", &CountText::Sheet)?;
+    let told = recorded(
+        rt.alloc(),
+        &["Ann", "1"],
+        "rank1,rank2\n1,2\n",
+        &CountText::Sheet,
+    )?;
     is_text(
         rt,
         told.as_str(),

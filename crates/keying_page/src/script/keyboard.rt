@@ -92,7 +92,6 @@ const onLostKey = (event) => {
 const backToPapers = (text) => {
   clearTimeout(timer);
   show('papers', at('which'));
-  fitColumns();
   showPapers();
   say(text);
 };
