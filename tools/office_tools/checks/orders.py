@@ -1,8 +1,8 @@
 """Compares what names the orders of the program with the program's own help.
 
 These are what `--help` tells of the words of orders, and their examples; the tables of orders and of words, with their ranges, in
-docs/formats/orders.md; the orders that a script may have, in docs/formats/files.md; the orders that examples/help.sh plays; and the election of
-tools/try, which has each order that a script may have. Which these are, the program tells of a script of one line.
+docs/formats/orders.md; the orders that a script may have, in docs/formats/files.md; the orders that examples/help.sh plays; and the
+election of tools/try, which has each order that a script may have. Which these are, the program tells of a script of one line.
 """
 import re
 import shlex

@@ -4,9 +4,9 @@ docs/engineering/proofs.md and limits.md are about the sources throughout. Each 
 column functions of the crate and, after a colon, clauses of each of them, in parts like `Office::run`: `headline`, `answers`; `order`: `ok`.
 In their text `opened`, `told` of `Store::open_from` names clauses of a function, and each word in backticks is one of the sources, or a
 wrong body; so in lines of docs/officer/rules.md or docs/formats/{orders,sheets,ballots,records}.md that begin with `- Definition` or
-`The definition`, and in rows of docs/officer/glossary.md. Each path like `Rattle.votes.specs.Units.IsQuota` has its definition there. Each refusal and fault of
-the sources has its heading in docs/officer/when-it-says-no.md. Each edit's old text is just once in its file. --write makes
-out/proofs-table.md: each public function, its clauses, and its wrong bodies.
+`The definition`, and in rows of docs/officer/glossary.md. Each path like `Rattle.votes.specs.Units.IsQuota` has its definition there.
+Each refusal and fault of the sources has its heading in docs/officer/when-it-says-no.md. Each edit's old text is just once in its file.
+--write makes out/proofs-table.md: each public function, its clauses, and its wrong bodies.
 """
 import re
 
