@@ -30,8 +30,8 @@ pub record WardEntry : Type 0 where
   pub name : Text
   pub candidates : List Text
 
--- what is read so far: whether the first line is read, whether lines begin with a number of papers, the number of columns of ranks if they aren't the
--- candidates', the candidates' names, the papers, and the rejected papers by code
+-- What is read so far. First come whether the first line is read, and whether lines begin with a number of papers. Then come the number of columns of ranks
+-- if they aren't the candidates', the candidates' names, the papers, and the rejected papers by code.
 pub record RecordsEntry : Type 0 where
   pub headed : Bool
   pub counted : Bool

@@ -204,10 +204,10 @@ pub fn count_ballots(
 /// Counts the cast-vote records of a ward, and returns a text of the count, as [`count_ballots`] does.
 ///
 /// The records are comma-separated values. The first line names the columns: a first column `count` says how many papers each line is
-/// for. If no candidates are given, each other column is a candidate's, and a line has the ranks that a paper gives to them, as keyed
-/// from a paper: its preferences are the candidates with ranks 1, 2, 3, .., as far as each rank is given to exactly one. If candidates
-/// are given, each other column is a rank's, and a line has the candidates, by number or by name: its preferences are those before the
-/// first empty field. Without a first preference, or with several, the paper is rejected.
+/// for. If no candidates are given, each other column is a candidate's, and a line has the ranks that a paper gives to them. Its
+/// preferences are then the candidates with ranks 1, 2, 3, .., as far as each rank is given to exactly one. If candidates are given,
+/// each other column is a rank's, and a line has the candidates, by number or by name. Its preferences are then those before the first
+/// empty field. Without a first preference, or with several, the paper is rejected.
 pub fn count_records(
     alloc: Global,
     ward: &RecordsWard,
