@@ -3,75 +3,14 @@
 'use strict';
 
 const assert = require('node:assert/strict');
-const {readFileSync} = require('node:fs');
-const {JSDOM, VirtualConsole} = require('jsdom');
+const {Window: PlainWindow, all, main, settled} = require('./script_plays.js');
 
-// What broke on a page outside a play.
-let broken = null;
-process.on('unhandledRejection', (error) => { broken = error; });
-const noting = new VirtualConsole();
-noting.on('jsdomError', (error) => { broken = error; });
-
-// Lets everything run that waits for nothing but its turn.
-const settled = async () => { for (let turn = 0; turn < 12; turn += 1) await new Promise(setImmediate); };
-const all = (element, selector) => [...element.querySelectorAll(selector)];
-
-// A window that shows a page. `office` responds to its requests: with a status and what it says, or null if the line breaks. Its clock
-// is its own, and it may have the storage of another window.
-class Window {
+// A window that shows the page on which a clerk keys.
+class Window extends PlainWindow {
   constructor(page, office, {clerk = 4, batch = '', storage} = {}) {
-    Object.assign(this, {office, timers: new Map(), now: 0, asked: []});
-    const beforeParse = (window) => this.prepare(window, storage);
-    const words = {url: `http://127.0.0.1:8080/clerks/${clerk}/${batch}`, runScripts: 'dangerously', virtualConsole: noting, beforeParse};
-    const {window} = new JSDOM(page.replace(/<style>[^]*<\/style>/, ''), words);
-    Object.assign(this, {window, document: window.document, storage: window.localStorage});
+    super(page, office, {url: `http://127.0.0.1:8080/clerks/${clerk}/${batch}`, storage});
   }
 
-  prepare(window, storage) {
-    window.HTMLElement.prototype.scrollIntoView = () => {};
-    if (storage) Object.defineProperty(window, 'localStorage', {value: storage});
-    window.fetch = (address, options) => this.fetched(address.replace(window.location.origin, ''), options);
-    window.setTimeout = (act, wait) => (wait ? this.timers.set(act, this.now + wait) && act : setImmediate(act));
-    window.clearTimeout = (timer) => this.timers.delete(timer);
-  }
-
-  async fetched(target, {method = 'GET', body, ...rest}) {
-    this.asked.push({method, target, body, ...rest});
-    const answer = await this.office({method, target});
-    if (!answer) throw new TypeError('the line broke');
-    return {status: answer.status, json: async () => JSON.parse(JSON.stringify(answer.says))};
-  }
-
-  // Lets some seconds pass.
-  async pass(seconds) {
-    this.now += 1000 * seconds;
-    for (const [act, at] of [...this.timers]) if (at <= this.now && this.timers.delete(act)) act();
-    await settled();
-  }
-
-  at(id) {
-    return this.document.getElementById(id) ?? assert.fail(`the page has no ${id}`);
-  }
-
-  // Presses keys at whatever has the focus, with what a browser does by itself then. `more` is what else their events say.
-  async press(keys, more = {}) {
-    for (const key of keys) {
-      const target = this.document.activeElement;
-      const event = new this.window.KeyboardEvent('keydown', {key, bubbles: true, cancelable: true, ...more});
-      const isOwn = target.dispatchEvent(event);
-      if (isOwn && target.tagName === 'BUTTON' && key === 'Enter') target.click();
-      if (isOwn && target.tagName === 'INPUT' && key.length === 1) target.value += key;
-      await settled();
-    }
-  }
-
-  async click(id) {
-    assert.equal(this.at(id).closest('[hidden]'), null, `${id} isn\u2019t shown`);
-    this.at(id).click();
-    await settled();
-  }
-
-  text(id) { return this.at(id).textContent; }
   listed() { return all(this.at('list'), 'li').map(({textContent}) => textContent); }
   drafts() { return Object.values(this.storage).map((text) => JSON.parse(text)); }
   papers() { return this.drafts().map(({rows}) => rows.map(({text}) => text)); }
@@ -348,28 +287,4 @@ const PLANTED = {
   'the script ends in an error': ['at(\'who\').textContent', 'at(\'whom\').textContent'],
 };
 
-// Yields why plays don't end well on a page.
-async function* faults(page) {
-  for (const [what, play] of Object.entries(PLAYS)) {
-    broken = null;
-    await play(page).then(settled).catch((error) => { broken = error; });
-    if (broken) yield `${what}: ${broken.message}`;
-  }
-}
-
-const main = async () => {
-  process.exitCode = 1;
-  const page = readFileSync(0, 'utf8');
-  const wrong = [];
-  for await (const fault of faults(page)) wrong.push(fault);
-  for (const [what, [found, put]] of wrong.length ? [] : Object.entries(PLANTED)) {
-    const parts = page.split(found);
-    if (parts.length !== 2) wrong.push(`a planted fault needs a text that stands once in the page: ${found}`);
-    else if ((await faults(parts.join(put)).next()).done) wrong.push(`not noticed: ${what}`);
-  }
-  wrong.forEach((line) => console.error(`script: ${line}`));
-  if (!wrong.length) console.log(`script: ${Object.keys(PLAYS).length} plays, ${Object.keys(PLANTED).length} planted faults noticed`);
-  process.exitCode = wrong.length ? 1 : 0;
-};
-
-main().catch((error) => console.error(`script: ${error.message}`));
+main('script', PLAYS, PLANTED);

@@ -12,20 +12,22 @@ use Rattle.server.specs.Settings.{ServerSettingsEntry}
 use Rattle.server.specs.declared.serve_error.ServeError.{ServeError}
 use Rattle.server.specs.declared.server_settings.FileNumbers.{FileNumbers}
 use Rattle.count_office.specs.Hosts.{CodeFiles}
-use Rattle.count_office.specs.Serving.{IsGateFor, AreSettingsFor, IsOpenedFrom, IsServed, IsShut, IsElsewhereSame, MayServe, ServesAtNetwork, TellsOutcome, gate_at, settings_with, outcome_by, path_in}
+use Rattle.count_office.specs.Serving.{IsGateFor, AreSettingsFor, IsOpenedFrom, IsServed, IsShut, IsElsewhereSame, MayServe, ServesAtNetwork, TellsOutcome, gate_at, settings_with}
+use Rattle.count_office.specs.Serving.{outcome_by, path_in, public_in}
 use Rattle.count_office.specs.declared.gate.GateFiles.{GateFiles}
 use Rattle.count_office.specs.declared.serving.Serving.{Serving}
 
--- the settings have the origin, the gate and a file
+-- the settings have the origin, the gate, what is shown in public, and a file
 abbrev pub IsGivenBy : Serving → Option GateFiles → Option FileNumbers → ServerSettingsEntry → Type 0
 IsGivenBy serving gate_files numbers settings =
-    (settings ≡ settings_with (given_by serving.origin) (option_map gate_at gate_files) settings.file settings.whole) × IfSome numbers (λ known. settings.file ≡ known)
+    (settings ≡ settings_with (given_by serving.origin) (option_map gate_at gate_files) (public_in serving) settings.file settings.whole) × IfSome numbers (λ known. settings.file ≡ known)
 
 given_for : (serving : Serving) (codes_at : CodeFiles) (gate_files : Option GateFiles) (numbers : Option FileNumbers) (settings : ServerSettingsEntry)
     → IsGateFor codes_at (path_in serving) (option_map gate_at gate_files) → IsGivenBy serving gate_files numbers settings → AreSettingsFor serving codes_at numbers settings
 given_for serving codes_at gate_files numbers settings gate (is, file) = record {
   origin = ap (λ (g : ServerSettingsEntry). g.clients.origin) is;
   gate = subst (IsGateFor codes_at (path_in serving)) (sym (ap (λ (g : ServerSettingsEntry). g.clients.gate) is)) gate;
+  public = ap (λ (g : ServerSettingsEntry). g.clients.public) is;
   file = file;
 }
 
@@ -34,10 +36,10 @@ pub served_on : {L S : Type 0} (serving : Serving) (gate_files : Option GateFile
     (stream : Stream L) (state_of : Held S → State)
     (before opened later : ℕ → NetworkEntry L) (first last : NetworkEntry L) (old new : OfficeValue S) (ends : Result (Unit {0}) ServeError)
     → opened ≡ before → first ≡ before serving.port → later serving.port ≡ last → IsElsewhereSame serving.port opened later → IfSome numbers (λ known. file ≡ known)
-    → ServesAtNetwork (settings_with (given_by serving.origin) (option_map gate_at gate_files) file whole) stream state_of first last serving.connections old new ends
+    → ServesAtNetwork (settings_with (given_by serving.origin) (option_map gate_at gate_files) (public_in serving) file whole) stream state_of first last serving.connections old new ends
     → MayServe (IsGivenBy serving gate_files numbers) stream state_of serving.port before later serving.connections old new (outcome_by ends)
 served_on serving gate_files numbers file whole stream state_of before opened later first last old new ends same began closed elsewhere is_file served =
-    let settings = settings_with (given_by serving.origin) (option_map gate_at gate_files) file whole in
+    let settings = settings_with (given_by serving.origin) (option_map gate_at gate_files) (public_in serving) file whole in
     let at = λ (one other : NetworkEntry _). ServesAtNetwork settings stream state_of one other serving.connections old new ends in
     inr (
       settings,

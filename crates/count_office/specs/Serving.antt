@@ -11,6 +11,7 @@ use Rattle.connections.specs.Streams.{Stream}
 use Rattle.connections.specs.Tables.{NetworkEntry}
 use Rattle.keying_page.specs.Page.{page_text, policy_text}
 use Rattle.console_page.specs.Page.{page_text as console_text, policy_text as console_policy}
+use Rattle.screen_page.specs.Page.{page_text as screen_text, policy_text as screen_policy}
 use Rattle.register.specs.Machine.{after}
 use Rattle.register.specs.Offices.{OfficeState, empty_office}
 use Rattle.register.specs.declared.command.Request.{Request}
@@ -22,7 +23,7 @@ use Rattle.tables.specs.declared.fault.Fault.TheVariants as fault
 use Rattle.store.specs.Openings.{IsLeftAt, IsToldBy}
 use Rattle.office.specs.Answers.{IsOpenAt}
 use Rattle.office.specs.Values.{OfficeValue}
-use Rattle.wire.specs.Gates.{GateEntry, PageEntry}
+use Rattle.wire.specs.Gates.{GateEntry, PageEntry, PublicEntry, public_entry}
 use Rattle.wire.specs.Origins.{given_by}
 use Rattle.desk.specs.Pages.{Page, codes_page, failed}
 use Rattle.desk.specs.declared.lines.Failure.{Failure}
@@ -35,6 +36,7 @@ use Rattle.server.specs.declared.serve_error.ServeError.TheVariants as ended
 use Rattle.server.specs.declared.server_settings.FileNumbers.{FileNumbers}
 use Rattle.count_office.specs.Hosts.{CodeFiles, IsReadAs}
 use Rattle.count_office.specs.declared.gate.GateFiles.{GateFiles}
+use Rattle.count_office.specs.declared.public.PublicTexts.{PublicTexts}
 use Rattle.count_office.specs.declared.serving.Serving.{Serving}
 use Rattle.count_office.specs.declared.serving.ServeSettings.{ServeSettings}
 
@@ -69,18 +71,32 @@ IsUngated codes_at (Some path) why = IsReadAs (codes_at path) (Err why)
 abbrev pub path_in : Serving → Option (List ℕ)
 path_in serving = option_map (λ path. path.now) serving.codes
 
--- the settings with an origin, a gate, a file, and whether that file is known to be whole throughout
-abbrev pub settings_with : Option (List ℕ) → Option GateEntry → FileNumbers → Option Bool → ServerSettingsEntry
-settings_with origin gate file whole = record { clients = record { origin = origin; gate = gate }; file = file; whole = whole }
+-- what is shown in public under a title: the page for the screen in the hall is always the same
+abbrev pub public_with : List ℕ → PublicEntry
+public_with title = record { title = title; screen = page_with screen_text screen_policy }
+
+-- what is shown of these texts
+abbrev pub public_at : PublicTexts → PublicEntry
+public_at texts = record { title = texts.title.now; screen = page_with (string_bytes texts.screen) (string_bytes texts.policy) }
+
+-- what is shown in public for the order to serve: nothing without a title
+abbrev pub public_in : Serving → Option PublicEntry
+public_in serving = option_map (λ title. public_with title.now) serving.public
+
+-- the settings with an origin, a gate, what is shown in public, a file, and whether that file is known to be whole throughout
+abbrev pub settings_with : Option (List ℕ) → Option GateEntry → Option PublicEntry → FileNumbers → Option Bool → ServerSettingsEntry
+settings_with origin gate public file whole = record { clients = record { origin = origin; gate = gate; public = public }; file = file; whole = whole }
 
 -- the settings of the server
 abbrev pub server_settings_of : ServeSettings → Option Bool → ServerSettingsEntry
-server_settings_of settings whole = settings_with (given_by settings.serving.origin) (option_map gate_at settings.gate_files.now) settings.file whole
+server_settings_of settings whole =
+    settings_with (given_by settings.serving.origin) (option_map gate_at settings.gate_files.now) (option_map public_entry settings.public) settings.file whole
 
--- The settings for the order to serve: the origin that it names, the gate for the file of codes that it names, and the file of the office.
+-- The settings for the order to serve: the origin that it names, the gate for the file of codes that it names, what it shows in public, and the file of the office.
 pub record AreSettingsFor (serving : Serving) (codes_at : CodeFiles) (numbers : Option FileNumbers) (settings : ServerSettingsEntry) : Type 0 where
   pub origin : settings.clients.origin ≡ given_by serving.origin
   pub gate : IsGateFor codes_at (path_in serving) settings.clients.gate
+  pub public : settings.clients.public ≡ public_in serving
   pub file : IfSome numbers (λ known. settings.file ≡ known)
 
 -- ---- an open office on a network
@@ -107,7 +123,8 @@ outcome_by (Err why) = Err (failure_by why)
 abbrev pub IsElsewhereSame : {L : Type 0} → ℕ → (ℕ → NetworkEntry L) → (ℕ → NetworkEntry L) → Type 0
 IsElsewhereSame port before later = (other : ℕ) → other ≢ port → later other ≡ before other
 
--- The network on a port couldn't be opened: no connection was accepted, and the office is as it was. Or it was served there, with these settings, and on no other port.
+-- The network on a port couldn't be opened, or an allocation failed: no connection was accepted, and the office is as it was. Or it was served there, with these settings,
+-- and on no other port.
 abbrev pub MayServe : {L S : Type 0} → (ServerSettingsEntry → Type 0) → Stream L → (Held S → State) → ℕ → (ℕ → NetworkEntry L) → (ℕ → NetworkEntry L) → Option ℕ
     → OfficeValue S → OfficeValue S → Result (Unit {0}) Failure → Type 0
 MayServe AreSettings stream state_of port before later most old new outcome =

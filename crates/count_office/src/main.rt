@@ -45,6 +45,7 @@ mod order_socket;
 mod gate;
 mod host;
 mod localhost;
+mod public;
 mod serving;
 // what else is done while the office is served: copies, the journal, and a look at its files
 mod copies;
@@ -146,7 +147,7 @@ fn dispatch_order<H: Host, S: Alter, O: Sink, E: Sink>(
     ensures journals { order.now ≡ Order.Journal → (let outputs = outputs_of O.taken O.failed E.taken E.failed in Tells (outputs out.old err.old) (outputs out.new err.new) result.0
         (λ _ page. HasCleanDisk (state S.Store result.1) → ((db : Database) → RestsAt db (state S.Store conn) → (s : OfficeState) → IsLeftAt s db → IsJournalTold s page)
         × IsToldElsewhere page (state S.Store conn) (state S.Store result.1))) }
-    ensures serves { (serving : Serving) → order.now ≡ Order.Serve serving.port serving.connections serving.origin serving.codes
+    ensures serves { (serving : Serving) → order.now ≡ Order.Serve serving.port serving.connections serving.origin serving.codes serving.public
         → (out.new ≡ out.old) × ServesOrder (IsErrorTold E.taken E.failed err.old err.new) (err.new ≡ err.old) result.0 serving (H.codes_at host.old) (H.file host.old)
         (stream_of H.Sockets.Stream.held H.Sockets.Stream.taken H.Sockets.Stream.failed) (state S.Store) (H.known host.old) (H.known host.new) conn result.1 }
 {
@@ -164,12 +165,14 @@ fn dispatch_order<H: Host, S: Alter, O: Sink, E: Sink>(
             connections,
             origin,
             codes,
+            public,
         } => {
             let serving = Serving {
                 port: *port,
                 connections: *connections,
                 origin: *origin,
                 codes: *codes,
+                public: *public,
             };
             serve(rt.alloc(), host, serving, conn, err)
         }

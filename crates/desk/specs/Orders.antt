@@ -152,7 +152,7 @@ by_clerk clerk id asked = record { actor = clerk; id = id; asked = asked }
 
 -- ---- what an order means
 
--- what is to be done; or nothing, since the word of a verdict, of an origin or of a digest is invalid
+-- what is to be done; or nothing, since the word of a verdict, of an origin or of a digest is invalid, or a title is given for nothing
 pub data Meant : Type 0 where
   make : Meant
   migrate : Meant
@@ -170,10 +170,11 @@ pub data Meant : Type 0 where
   copy : Text → Meant
   journal : Meant
   make_codes : Text → Text → Bool → Meant
-  serve : ℕ → Option ℕ → Option Text → Option Text → Meant
+  serve : ℕ → Option ℕ → Option Text → Option Text → Option Text → Meant
   no_verdict : Meant
   no_origin : Meant
   no_digest : Meant
+  title_alone : Meant
 
 -- the meaning of printing a text of a ward; the title of a page is taken as text
 abbrev pub told_text : ℕ → WardText → Meant
@@ -201,7 +202,8 @@ told (order.Perform (task.InOffice (job.Replay file keep_going))) = replay file.
 told (order.Copy path) = copy path.now
 told order.Journal = journal
 told (order.Codes path clerks with_office) = make_codes path.now clerks.now with_office
-told (order.Serve port connections origin file) = serve port connections (option_map origin_text origin) (option_map (λ path. path.now) file)
+told (order.Serve port connections origin file public) =
+    serve port connections (option_map origin_text origin) (option_map (λ path. path.now) file) (option_map (λ title. title.now) public)
 
 -- the task that an order is to perform, if it has one
 abbrev pub task_of : Order → Option Task
@@ -254,6 +256,21 @@ sends name words asked = record { typed = record { name = name; words = words ++
 abbrev pub key : ℕ → ℕ → ℕ → List Text → Text → Meant
 key clerk batch round papers id = send (by_clerk clerk id (keying_to_keep batch round papers))
 
+-- the title of what is shown in public, if anything is; or None, since a title is given and nothing is shown
+abbrev pub public_of : Bool → Text → Option (Option Text)
+public_of true title = Some (Some title)
+public_of false [] = Some None
+public_of false (c ∷ cs) = None
+
+-- what that means, or that a title is given for nothing
+abbrev pub shown_as : Option (Option Text) → (Option Text → Meant) → Meant
+shown_as None means = title_alone
+shown_as (Some public) means = means public
+
+-- to serve on a port, and to show something in public under a title
+abbrev pub serve_shown : ℕ → Option ℕ → Option Text → Option Text → Bool → Text → Meant
+serve_shown port connections origin file public title = shown_as (public_of public title) (serve port connections origin file)
+
 -- the table of orders, in the sequence of an election
 unfoldable pub orders : List OrderEntry
 orders =
@@ -278,7 +295,7 @@ orders =
     ∷ takes (codes "next") (number (codes "WARD") ∷ []) tell_next
     ∷ takes (codes "sheet") (number (codes "WARD") ∷ []) (λ ward. print ward ward_text.Sheet)
     ∷ takes (codes "result") (number (codes "WARD") ∷ []) (λ ward. print ward ward_text.Declaration)
-    ∷ takes (codes "serve") (port (codes "PORT") ∷ connections (codes "CONNECTIONS") ∷ origin ∷ codes_file ∷ []) serve
+    ∷ takes (codes "serve") (port (codes "PORT") ∷ connections (codes "CONNECTIONS") ∷ origin ∷ codes_file ∷ flag (codes "public") ∷ title ∷ []) serve_shown
     ∷ takes (codes "migrate") [] migrate
     ∷ takes (codes "wards") [] (ask question.Wards)
     ∷ takes (codes "batches") (number (codes "WARD") ∷ []) (λ ward. ask (question.Batches ward))

@@ -150,6 +150,9 @@ pub(crate) const CLERKS: Word =
 pub(crate) const WITH_OFFICE: Word =
     word!(Flag "office", "Also writes a code for the office, for its console in the browser");
 
+pub(crate) const PUBLIC: Word =
+    word!(Flag "public", "Shows the count to everyone: /, /screen and the page of each ward;\nleft out, none of them is there");
+
 pub(crate) const TITLE: Word =
     word!(Title "title", "What stands above, as the names of the election and of the council;\nin quotes where it has spaces");
 

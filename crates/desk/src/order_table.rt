@@ -7,16 +7,16 @@
 
 ghost use Rattle.std.specs.Prelude.{◌≡◌, ◌⊎◌, false, Err, None, Some, codes, drop, map, take, IfErr, IfOk, option_map, string_bytes};
 ghost use Rattle.clap.specs.Words.{all_of, first_of, found_of, rows_of, subcommand_rows_of};
-ghost use Rattle.desk.specs.Orders.{ask, no_digest, no_origin, no_verdict, orders, print, told, told_errand, told_text, words_of};
+ghost use Rattle.desk.specs.Orders.{ask, no_digest, no_origin, no_verdict, orders, print, title_alone, told, told_errand, told_text, words_of};
 ghost use Rattle.keyfile.specs.Digests.{digest_bytes};
 ghost use Rattle.origins.specs.Origins.{origin_text};
 ghost use Rattle.desk.specs.Words.{digest_at, is_command_name, is_order_name, meaning, meaning_of, names_order, number_at, number_found, origin_at, sent, text_at};
-ghost use Rattle.desk.specs.Words.{flag_at, texts_at};
+ghost use Rattle.desk.specs.Words.{flag_at, public_at, texts_at};
 
 use crate::order_entry::{
     ACTOR, BATCH, CANDIDATE, CLERK, CLERKS, CODES, CODES_FILE, CONNECTIONS, DIGEST, Entry, FILE,
-    FIRST_CLERK, Heading, ID, KEEP_GOING, MARKS, NAME, NEW, ORIGIN, PAPER, PORT, ROUND, SCRIPT,
-    SEATS, SECOND_CLERK, SIZE, STAGE, TITLE, VERDICT, WARD, WITH_OFFICE, Word,
+    FIRST_CLERK, Heading, ID, KEEP_GOING, MARKS, NAME, NEW, ORIGIN, PAPER, PORT, PUBLIC, ROUND,
+    SCRIPT, SEATS, SECOND_CLERK, SIZE, STAGE, TITLE, VERDICT, WARD, WITH_OFFICE, Word,
 };
 use crate::orders::{Errand, Job, KeyingFile, Order, Question, Task};
 use crate::requests::{by_clerk, by_office};
@@ -76,7 +76,7 @@ const ORDERS_FROM_SEAL: [Entry; 25] = [
     order!(Election "next" [WARD], "Prints what comes next in a ward, with names:\ncount-office town.db next 7"),
     order!(Election "sheet" [WARD], "Prints the stage sheet of a sealed ward:\ncount-office town.db sheet 7"),
     order!(Election "result" [WARD], "Prints the declaration of a declared ward:\ncount-office town.db result 7"),
-    order!(Election "serve" [PORT, CONNECTIONS, ORIGIN, CODES], "Serves clerks over HTTP on this machine, until it is stopped:\ncount-office town.db serve 8080"),
+    order!(Election "serve" [PORT, CONNECTIONS, ORIGIN, CODES, PUBLIC, TITLE], "Serves clerks over HTTP on this machine, until it is stopped:\ncount-office town.db serve 8080"),
     order!(Election "migrate" [], "Brings an office of an earlier program over to this one:\ncount-office town.db migrate"),
     order!(Office "wards" [], "Prints how each ward stands, and what is left to do:\ncount-office town.db wards"),
     order!(Office "batches" [WARD], "Prints of each batch of a ward who has keyed it, and how it stands:\ncount-office town.db batches 7"),
@@ -121,6 +121,8 @@ pub(crate) enum NoOrder {
     BadOrigin,
     /// The word of a digest is invalid.
     BadDigest,
+    /// There is a title, but nothing is shown in public.
+    TitleAlone,
     /// An allocation failed.
     Memory,
 }
@@ -228,6 +230,21 @@ fn digest_in(matches: &ArgMatches<'_>) -> Result<Option<FileDigest>, NoOrder>
     }
 }
 
+/// Returns the title of what is shown in public, if anything is.
+fn public_in<'a>(matches: &ArgMatches<'a>) -> Result<Option<&'a str>, NoOrder>
+    ensures ok { IfOk result (λ found. public_at (rows_of (found_of matches.now)) ≡ Some (option_map (λ title. title.now) found)) }
+    ensures err { IfErr result (λ why. (why ≡ NoOrder.TitleAlone) × (public_at (rows_of (found_of matches.now)) ≡ None)) }
+{
+    let title = text_in(matches, TITLE);
+    if flag_in(matches, PUBLIC) {
+        return Ok(Some(title));
+    }
+    if title.is_empty() {
+        return Ok(None);
+    }
+    Err(NoOrder::TitleAlone)
+}
+
 // ---- the commands that orders send
 
 fn batch_command(matches: &ArgMatches<'_>) -> Command
@@ -263,6 +280,7 @@ fn command_named(alloc: Global, name: &str, matches: &ArgMatches<'_>) -> Result<
     ensures bad { result ≡ Err NoOrder.BadVerdict → meaning_of name.now (rows_of (found_of matches.now)) ≡ Some no_verdict }
     ensures bad_origin { result ≡ Err NoOrder.BadOrigin → meaning_of name.now (rows_of (found_of matches.now)) ≡ Some no_origin }
     ensures bad_digest { result ≡ Err NoOrder.BadDigest → meaning_of name.now (rows_of (found_of matches.now)) ≡ Some no_digest }
+    ensures title_alone { result ≡ Err NoOrder.TitleAlone → meaning_of name.now (rows_of (found_of matches.now)) ≡ Some title_alone }
 {
     let ward = number_in(matches, WARD);
     let candidate = number_in(matches, CANDIDATE);
@@ -381,13 +399,16 @@ fn replay<'a>(matches: &ArgMatches<'a>) -> Order<'a>
 
 fn serve<'a>(matches: &ArgMatches<'a>) -> Result<Order<'a>, NoOrder>
     ensures ok { IfOk result (λ o. meaning_of (codes "serve") (rows_of (found_of matches.now)) ≡ Some (told o)) }
-    ensures err { IfErr result (λ why. (why ≡ NoOrder.BadOrigin) × (meaning_of (codes "serve") (rows_of (found_of matches.now)) ≡ Some no_origin)) }
+    ensures bad_origin { result ≡ Err NoOrder.BadOrigin → meaning_of (codes "serve") (rows_of (found_of matches.now)) ≡ Some no_origin }
+    ensures title_alone { result ≡ Err NoOrder.TitleAlone → meaning_of (codes "serve") (rows_of (found_of matches.now)) ≡ Some title_alone }
+    ensures err { IfErr result (λ why. (why ≡ NoOrder.BadOrigin) ⊎ (why ≡ NoOrder.TitleAlone)) }
 {
     Ok(Order::Serve {
         port: number_in(matches, PORT),
         connections: number_found_in(matches, CONNECTIONS),
         origin: origin_in(matches)?,
         codes: text_found_in(matches, CODES),
+        public: public_in(matches)?,
     })
 }
 
@@ -432,6 +453,7 @@ fn order_named<'a>(
     ensures bad { result ≡ Err NoOrder.BadVerdict → meaning_of name.now (rows_of (found_of matches.now)) ≡ Some no_verdict }
     ensures bad_origin { result ≡ Err NoOrder.BadOrigin → meaning_of name.now (rows_of (found_of matches.now)) ≡ Some no_origin }
     ensures bad_digest { result ≡ Err NoOrder.BadDigest → meaning_of name.now (rows_of (found_of matches.now)) ≡ Some no_digest }
+    ensures title_alone { result ≡ Err NoOrder.TitleAlone → meaning_of name.now (rows_of (found_of matches.now)) ≡ Some title_alone }
 {
     let ward = number_in(matches, WARD);
     let batch = number_in(matches, BATCH);
@@ -479,6 +501,7 @@ pub(crate) fn order_in<'a>(alloc: Global, matches: &ArgMatches<'a>) -> Result<Or
     ensures bad { result ≡ Err NoOrder.BadVerdict → meaning (subcommand_rows_of matches.now) ≡ Some no_verdict }
     ensures bad_origin { result ≡ Err NoOrder.BadOrigin → meaning (subcommand_rows_of matches.now) ≡ Some no_origin }
     ensures bad_digest { result ≡ Err NoOrder.BadDigest → meaning (subcommand_rows_of matches.now) ≡ Some no_digest }
+    ensures title_alone { result ≡ Err NoOrder.TitleAlone → meaning (subcommand_rows_of matches.now) ≡ Some title_alone }
 {
     match matches.subcommand() {
         Some((name, inner)) => order_named(alloc, name, inner),

@@ -156,11 +156,13 @@ pub enum Order<'a> {
         with_office: bool,
     },
     /// Serve connections on a port of this machine, and pages of an origin through a proxy, if one is given. It ends after this many
-    /// connections, or never if no number is given. Clerks need codes if the path of a file of codes is given.
+    /// connections, or never if no number is given. Clerks need codes if the path of a file of codes is given. If a title is given,
+    /// the count is shown in public under it.
     Serve {
         port: u32,
         connections: Option<u32>,
         origin: Option<Origin<'a>>,
         codes: Option<&'a str>,
+        public: Option<&'a str>,
     },
 }

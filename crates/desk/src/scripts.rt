@@ -6,7 +6,7 @@ ghost use Rattle.desk.specs.Scripts.{AreTurns, IsFlawOfWords, IsTurn, Means, lin
 
 use crate::lexer;
 use crate::orders::{Errand, Job, Order, Task};
-use crate::words::{BAD_DIGEST, BAD_ORIGIN, WordsFault, order};
+use crate::words::{BAD_DIGEST, BAD_ORIGIN, BAD_TITLE, WordsFault, order};
 use std::alloc::{AllocError, Global};
 use std::str;
 
@@ -30,6 +30,8 @@ pub(crate) enum LineFlaw {
     Origin,
     /// The word after `--sha256` is invalid.
     Digest,
+    /// There is a title after `--title`, but no `--public`.
+    TitleAlone,
     /// The words aren't an order; this is printed for them.
     Words(String),
     /// The order isn't allowed in a script.
@@ -47,6 +49,7 @@ impl LineFlaw {
             LineFlaw::Verdict => "bad verdict word\n",
             LineFlaw::Origin => BAD_ORIGIN,
             LineFlaw::Digest => BAD_DIGEST,
+            LineFlaw::TitleAlone => BAD_TITLE,
             LineFlaw::Words(text) => text.as_str(),
             LineFlaw::Elsewhere => "error: this order stands in no script\n",
         }
@@ -179,6 +182,7 @@ fn errand_in<'a>(alloc: Global, words: &'a [&'a str]) -> Result<Errand<'a>, Opti
         Err(WordsFault::Verdict) => Err(Some(LineFlaw::Verdict)),
         Err(WordsFault::Origin) => Err(Some(LineFlaw::Origin)),
         Err(WordsFault::Digest) => Err(Some(LineFlaw::Digest)),
+        Err(WordsFault::TitleAlone) => Err(Some(LineFlaw::TitleAlone)),
         Err(WordsFault::Words { status: 0, .. }) => Err(Some(LineFlaw::Elsewhere)),
         Err(WordsFault::Words { text, .. }) => Err(Some(LineFlaw::Words(text))),
     }

@@ -271,6 +271,7 @@ fn gate_of(codes: &Codes) -> HttpSettings<'_> {
                 policy: "default-src 'self'",
             },
         }),
+        public: None,
     }
 }
 

@@ -22,6 +22,8 @@ mod keyfile_imports;
 #[cfg(test)]
 mod paper_marks;
 #[cfg(test)]
+mod public_targets;
+#[cfg(test)]
 mod sheet_ballots;
 #[cfg(test)]
 mod sheet_outputs;

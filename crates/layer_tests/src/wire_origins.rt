@@ -156,7 +156,11 @@ const PROXIED: [(&str, bool, bool); 17] = [
 
 /// Returns the settings of an office with a proxy of this origin.
 fn through(origin: Option<Origin<'_>>) -> HttpSettings<'_> {
-    HttpSettings { origin, gate: None }
+    HttpSettings {
+        origin,
+        gate: None,
+        public: None,
+    }
 }
 
 /// Asserts which headers are foreign to an office without an origin, and to one with this origin.

@@ -94,6 +94,7 @@ fn words_of(alloc: Global, came: &Result<HttpRequest, ReadFailure>) -> Result<St
         Ok(HttpRequest::ConsolePage(what)) => shown_words(alloc, "office", what),
         Ok(HttpRequest::Order(order)) => order_words(alloc, order),
         Ok(HttpRequest::Resource(what)) => format!(in alloc; "{what:?}"),
+        Ok(HttpRequest::Public(_, what)) => format!(in alloc; "{what:?}"),
         Ok(HttpRequest::Denied(why)) => denial_words(alloc, why),
         Err(ReadFailure::Broken) => String::from_str(alloc, "broken"),
         Err(ReadFailure::Memory) => String::from_str(alloc, "memory"),
@@ -104,6 +105,7 @@ fn words_of(alloc: Global, came: &Result<HttpRequest, ReadFailure>) -> Result<St
 pub const NOTHING: HttpSettings<'static> = HttpSettings {
     origin: None,
     gate: None,
+    public: None,
 };
 
 /// Returns what is asked, in short, of an office with these settings.

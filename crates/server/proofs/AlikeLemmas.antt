@@ -9,9 +9,9 @@ use Rattle.register.specs.declared.command.Request.{Request}
 use Rattle.office.specs.Answers.{told_of}
 use Rattle.connections.specs.declared.client.Listener.{Listener}
 use Rattle.connections.specs.declared.client.Listener.TheVariants.{Clients}
-use Rattle.wire.specs.Requests.{HttpRequestEntry, Asks, console, denied, keying, order, reading, shown}
+use Rattle.wire.specs.Requests.{HttpRequestEntry, Asks, console, denied, keying, order, public, reading, shown}
 use Rattle.wire.specs.Responses.{ResponseEntry, denied_response, shown_response}
-use Rattle.wire.specs.Serving.{IsServed, TellsAsked, TellsFault, TellsFor, reading_response, told_response}
+use Rattle.wire.specs.Serving.{IsServed, TellsAsked, TellsFault, TellsFor, public_response, reading_response, told_response}
 use Rattle.wire.specs.Told.{IsTold}
 use Rattle.wire.specs.declared.request_error.RequestError.TheVariants.{NotFound}
 use Rattle.wire.proofs.RequestLemmas.{AsksOneThing-all}
@@ -53,6 +53,8 @@ module _ (settings : ServerSettingsEntry) where
       (shown_response show, one.0, two.0, none_sent view sent sent_too one.1 two.1)
   asked_alike view (order entry) sent sent_too response response_too one two =
       (denied_response NotFound, one.0, two.0, none_sent view sent sent_too one.1 two.1)
+  asked_alike view (public its what) sent sent_too response response_too one two =
+      (public_response view its what, one.0, two.0, none_sent view sent sent_too one.1 two.1)
   asked_alike view (reading what) sent sent_too response response_too one two =
       (reading_response view what, one.0, two.0, none_sent view sent sent_too one.1 two.1)
   asked_alike view (keying clerk batch entry) sent sent_too response response_too (request, handed, told, is_sent) (request_too, handed_too, told_too, is_sent_too) =

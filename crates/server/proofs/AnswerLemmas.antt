@@ -13,7 +13,7 @@ use Rattle.connections.specs.Streams.{HasTaken, Stream}
 use Rattle.connections.specs.declared.client.Listener.TheVariants.{Clients}
 use Rattle.tables.specs.Faults.{fault_number}
 use Rattle.tables.specs.declared.fault.Fault.{Fault}
-use Rattle.wire.specs.Requests.{HttpRequestEntry, Asks, console, denied, keying, order, reading, shown}
+use Rattle.wire.specs.Requests.{HttpRequestEntry, Asks, console, denied, keying, order, public, reading, shown}
 use Rattle.wire.specs.Gates.{HttpSettingsEntry}
 use Rattle.wire.specs.Responses.{ResponseEntry, fault_response}
 use Rattle.wire.specs.Serving.{FaultLeaves, IsAnswered, IsPut, IsServed, Readies, ReadiesFor, closed_response, reading_response}
@@ -41,6 +41,7 @@ answered_still s (reading what) answer closed st still it = subst (λ (x : Offic
 answered_still s (keying clerk batch entry) answer closed st still it = absurd still
 answered_still s (console show) answer closed st still it = subst (λ (x : OfficeState). IsOpenAt x closed st) it.is.0 it.open_at
 answered_still s (order entry) answer closed st still it = absurd still
+answered_still s (public its what) answer closed st still it = subst (λ (x : OfficeState). IsOpenAt x closed st) it.is.0 it.open_at
 
 -- or it met a fault, and only read
 failed_still : (s : OfficeState) (asked : HttpRequestEntry) (f : Fault) (closed : Bool) (st : State) → ChangesNothing asked → FaultLeaves s asked f closed st → IsReadAt s closed st
@@ -51,6 +52,8 @@ failed_still s (reading what) f closed st still (inr shut) = inr (shut.is_closed
 failed_still s (keying clerk batch entry) f closed st still leaves = absurd still
 failed_still s (console show) f closed st still leaves = absurd leaves
 failed_still s (order entry) f closed st still leaves = absurd still
+failed_still s (public its what) f closed st still (inl stays) = inl stays.open_at
+failed_still s (public its what) f closed st still (inr shut) = inr (shut.is_closed, shut.leaves)
 
 pub only_read : (s : OfficeState) (asked : HttpRequestEntry) (response : _) (closed : Bool) (st : State) → ChangesNothing asked → Readies s asked response closed st → IsReadAt s closed st
 only_read s asked response closed st still (entry, tells, inl answered) = inl (answered_still s asked entry closed st still answered)

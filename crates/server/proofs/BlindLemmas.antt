@@ -20,7 +20,7 @@ use Rattle.office.specs.Answers.{Told, told_of}
 use Rattle.office.specs.Reads.{found_or}
 use Rattle.connections.specs.declared.client.Listener.{Listener}
 use Rattle.connections.specs.declared.client.Listener.TheVariants.{Clients, Orders}
-use Rattle.wire.specs.Requests.{HttpRequestEntry, Asks, clerk_asked, console, denied, keying, order, reading, shown}
+use Rattle.wire.specs.Requests.{HttpRequestEntry, Asks, clerk_asked, console, denied, keying, order, public, reading, shown}
 use Rattle.wire.specs.Bodies.{KeyingEntry}
 use Rattle.wire.specs.Gates.{HttpSettingsEntry}
 use Rattle.wire.specs.Responses.{ResponseEntry}
@@ -210,6 +210,16 @@ module _ (itself : SeenIsAlike) (alike : AlikeOfficesAnswerAlike) (seen : SeenIs
         inr (free, (served, record { response = response; ready = inl (console show, asks, (tells.0, refl)); put = put })) in
         nothing_sent s exchange sent tells.1 (λ under. answers) (λ why denies. answers)
     asked_seen s exchange sent served (order entry) state free asks response tells put = absurd (free entry asks)
+    asked_seen s exchange sent served (public its what) state free asks response tells put = nothing_sent s exchange sent tells.1 answers denies
+      where
+        answers : IsUnder settings.clients clerk exchange.got → IsClientAnsweredAt settings (seen_by clerk s) exchange []
+        answers under =
+            let one = AsksOneThing-all settings.clients exchange.got (public its what) under.asked asks under.asks in
+            let nobodys : None ≡ Some clerk = ap clerk_asked one ∙ under.its in
+            absurd (cc nobodys)
+
+        denies : (why : RequestError) → Asks settings.clients exchange.got (denied why) → IsClientAnsweredAt settings (seen_by clerk s) exchange []
+        denies why so = let bad : public its what ≡ denied why = AsksOneThing-all settings.clients exchange.got (public its what) (denied why) asks so in absurd (cc bad)
     asked_seen s exchange sent served (reading what) state free asks response tells put = nothing_sent s exchange sent tells.1 answers denies
       where
         answers : IsUnder settings.clients clerk exchange.got → IsClientAnsweredAt settings (seen_by clerk s) exchange []

@@ -12,7 +12,7 @@ use Rattle.desk.specs.declared.lines.Failure.TheVariants.{Office}
 use Rattle.wire.specs.ConsoleOrders.{ConsoleOrderEntry}
 use Rattle.wire.specs.Gates.{HttpSettingsEntry}
 use Rattle.wire.specs.Parsing.{IsParsed}
-use Rattle.wire.specs.Requests.{HttpRequestEntry, Asks, asked_by, console, denied, keying, order, reading, shown}
+use Rattle.wire.specs.Requests.{HttpRequestEntry, Asks, asked_by, console, denied, keying, order, public, reading, shown}
 use Rattle.wire.specs.Responses.{fault_response, order_response}
 use Rattle.wire.specs.Serving.{IsPut, IsServed}
 use Rattle.wire.specs.Told.{IsTold, IsWritten}
@@ -41,6 +41,7 @@ is_order (keying clerk batch entry) = false
 is_order (reading what) = false
 is_order (console show) = false
 is_order (order entry) = true
+is_order (public its what) = false
 
 -- a request for anything else asks none
 pub asks_no_order : (settings : HttpSettingsEntry) (got : List ℕ) (what : HttpRequestEntry) → Asks settings got what → is_order what ≡ false → AsksNoOrder settings got
@@ -57,6 +58,7 @@ asks_order_or_not settings got (keying clerk batch entry) asks = inl (asks_no_or
 asks_order_or_not settings got (reading what) asks = inl (asks_no_order settings got (reading what) asks refl)
 asks_order_or_not settings got (console show) asks = inl (asks_no_order settings got (console show) asks refl)
 asks_order_or_not settings got (order entry) asks = inr (entry, asks)
+asks_order_or_not settings got (public its what) asks = inl (asks_no_order settings got (public its what) asks refl)
 
 -- whatever was parsed, something is asked
 asks_something : (settings : HttpSettingsEntry) (got : List ℕ) (head : Parsed) → IsParsed settings got head → (what : HttpRequestEntry) × Asks settings got what

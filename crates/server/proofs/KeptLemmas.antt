@@ -17,7 +17,7 @@ use Rattle.store.specs.StateTables.{IsAt, LeavesState}
 use Rattle.office.specs.Answers.{IsMemoryOrStore, IsOpenAt, IsReadAt, told_of}
 use Rattle.office.specs.Values.{OfficeValue}
 use Rattle.office.proofs.RunLemmas.{beginning}
-use Rattle.wire.specs.Requests.{HttpRequestEntry, Asks, console, denied, keying, order, reading, shown}
+use Rattle.wire.specs.Requests.{HttpRequestEntry, Asks, console, denied, keying, order, public, reading, shown}
 use Rattle.wire.specs.Responses.{ResponseEntry, fault_response}
 use Rattle.wire.specs.Serving.{FaultLeaves, IsAnswered, IsServed, ReadiesFor, TellsAsked, TellsFault, TellsFor, told_response}
 use Rattle.wire.specs.Told.{IsTold, IsWritten}
@@ -72,6 +72,8 @@ ready_answered settings bytes s (reading what) answer response closed st asks te
     inl ([], inl (reading what, asks, (subst (λ a. IsTold a response) it.is.1 tells, refl)), subst (λ x. IsOpenAt x closed st) it.is.0 it.open_at)
 ready_answered settings bytes s (console show) answer response closed st asks tells it =
     inl ([], inl (console show, asks, (subst (λ a. IsTold a response) it.is.1 tells, refl)), subst (λ x. IsOpenAt x closed st) it.is.0 it.open_at)
+ready_answered settings bytes s (public its what) answer response closed st asks tells it =
+    inl ([], inl (public its what, asks, (subst (λ a. IsTold a response) it.is.1 tells, refl)), subst (λ x. IsOpenAt x closed st) it.is.0 it.open_at)
 ready_answered settings bytes s (order entry) answer response closed st asks tells it =
     inl ([], inl (order entry, asks, (subst (λ a. IsTold a response) it.is.1 tells, refl)), subst (λ x. IsOpenAt x closed st) it.is.0 it.open_at)
 ready_answered settings bytes s (keying clerk batch entry) answer response closed st asks tells it =
@@ -106,6 +108,13 @@ ready_failed settings bytes s (console show) fault response closed st asks tells
 ready_failed settings bytes s (order entry) fault response closed st asks tells leaves = absurd leaves
 ready_failed settings bytes s (reading what) fault response closed st asks tells (inl kept) = inl ([], inr (tells_memory fault response kept.memory tells, refl), kept.open_at)
 ready_failed settings bytes s (reading what) fault response closed st asks tells (inr shut) = inr (
+  [],
+  tells_fault fault response (inr shut.fault) tells,
+  inl refl,
+  (shut.is_closed, leaves_as st _ _ (before_last s []) shut.leaves),
+)
+ready_failed settings bytes s (public its what) fault response closed st asks tells (inl kept) = inl ([], inr (tells_memory fault response kept.memory tells, refl), kept.open_at)
+ready_failed settings bytes s (public its what) fault response closed st asks tells (inr shut) = inr (
   [],
   tells_fault fault response (inr shut.fault) tells,
   inl refl,
@@ -224,6 +233,7 @@ nothing_sent settings s exchange asked sent asks still (served, it) = by it.read
     of (shown clerk show) is tells = tells.1
     of (keying clerk batch entry) is tells = absurd (subst ChangesNothing (sym is) still)
     of (console show) is tells = tells.1
+    of (public its what) is tells = tells.1
     of (order entry) is tells = absurd (subst ChangesNothing (sym is) still)
 
     by : TellsFor settings (Some exchange.got) s sent it.response → sent ≡ []

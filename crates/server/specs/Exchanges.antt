@@ -12,7 +12,7 @@ use Rattle.connections.specs.declared.client.Listener.{Listener}
 use Rattle.connections.specs.declared.client.Listener.TheVariants.{Clients, Orders}
 use Rattle.wire.specs.Bodies.{KeyingEntry}
 use Rattle.wire.specs.ConsoleOrders.{ConsoleOrderEntry}
-use Rattle.wire.specs.Requests.{HttpRequestEntry, Asks, console, denied, keying, order, reading, shown}
+use Rattle.wire.specs.Requests.{HttpRequestEntry, Asks, console, denied, keying, order, public, reading, shown}
 use Rattle.wire.specs.Gates.{HttpSettingsEntry, IsAuthentication, AuthenticationEntry}
 use Rattle.wire.specs.Responses.{fault_response, waits_response}
 use Rattle.wire.specs.Told.{IsTold, IsWritten}
@@ -54,6 +54,7 @@ ChangesNothing (reading what) = ⊤
 ChangesNothing (keying clerk batch entry) = ⊥
 ChangesNothing (console show) = ⊤
 ChangesNothing (order entry) = ⊥
+ChangesNothing (public its what) = ⊤
 
 -- these bytes ask no order of the console
 abbrev pub AsksNoOrder : HttpSettingsEntry → List ℕ → Type 0

@@ -65,7 +65,7 @@ pub record IsForFile (file : FileNumbers) (h : OrderMessageEntry) : Type 0 where
 abbrev pub IsForNone : Order → Type 0
 IsForNone (order.Perform task.Init) = ⊤
 IsForNone (order.Perform task.Migrate) = ⊤
-IsForNone (order.Serve port connections origin codes) = ⊤
+IsForNone (order.Serve port connections origin codes public) = ⊤
 IsForNone (order.Codes path clerks with_office) = ⊤
 IsForNone other = ⊥
 

@@ -12,8 +12,8 @@ pub struct FileNumbers {
     pub inode: u64,
 }
 
-/// The settings of HTTP, which are the origin of a proxy and the gate, if any; the file that is served, for which orders are
-/// handed over; and what an order needs besides the office.
+/// The settings of HTTP, which are the origin of a proxy, the gate, and what is shown in public, if any; the file that is served,
+/// for which orders are handed over; and what an order needs besides the office.
 pub struct ServerSettings<'a, A> {
     pub http: HttpSettings<'a>,
     pub file: FileNumbers,

@@ -219,6 +219,10 @@ fn answer_request<A: ServedFile, S: Alter>(
             let (bytes, _) = response_to(kept.alloc, HttpRequest::ConsolePage(show), office);
             PendingResponse { bytes, sent: 0 }
         }
+        HttpRequest::Public(shown, what) => {
+            let (bytes, _) = response_to(kept.alloc, HttpRequest::Public(shown, what), office);
+            PendingResponse { bytes, sent: 0 }
+        }
         HttpRequest::Order(order) => {
             kept.reads.empty();
             let response = answer_console(kept.alloc, server_settings, &order, office);

@@ -308,9 +308,9 @@ fn serve_rounds<D: Network, A: ServedFile, S: Alter>(
     Err(ServeError::Rounds)
 }
 
-/// Serves the connections of a network, by the settings: the origin of a proxy and the gate, if any. It serves until so many
-/// clients were accepted and all connections are closed, or without end if no number is given. Orders are accepted too, before
-/// clients, and don't count.
+/// Serves the connections of a network, by the settings: the origin of a proxy, the gate, and what is shown in public, if any. It
+/// serves until so many clients were accepted and all connections are closed, or without end if no number is given. Orders are
+/// accepted too, before clients, and don't count.
 ///
 /// Requests are received side by side, and responses are sent side by side. A request is processed once it is complete: a
 /// client's as a whole, and an order's as a whole, in the same office. At most 512 connections are open at once, with 64 MiB of

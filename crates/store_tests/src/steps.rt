@@ -234,6 +234,7 @@ pub const SERVER_SETTINGS: ServerSettings<'static, Unaided> = ServerSettings {
     http: HttpSettings {
         origin: None,
         gate: None,
+        public: None,
     },
     file: FileNumbers {
         device: 7,
@@ -270,7 +271,11 @@ fn terms_of(held: &Option<Codes>) -> ServerSettings<'_, Unaided> {
         None => None,
     };
     ServerSettings {
-        http: HttpSettings { origin: None, gate },
+        http: HttpSettings {
+            origin: None,
+            gate,
+            public: None,
+        },
         file: SERVER_SETTINGS.file,
         served_file: SERVER_SETTINGS.served_file,
     }

@@ -12,7 +12,8 @@ use Rattle.wire.specs.declared.account.Account.{Account}
 use Rattle.wire.specs.declared.account.Account.TheVariants.{Clerk, Office as Officer}
 use Rattle.wire.specs.declared.target.OfficeTarget.TheVariants as office
 use Rattle.wire.specs.Bodies.{KeyingEntry, body_in, keying_of}
-use Rattle.wire.specs.Gates.{GateEntry, HttpSettingsEntry, account_at, account_under, clerk_under, has_code, kept_out, kept_out_by, needs_office, number_before, reading_account, sent_codes, served_at}
+use Rattle.wire.specs.Gates.{GateEntry, HttpSettingsEntry, PublicEntry, account_at, account_under, clerk_under, has_code, kept_out}
+use Rattle.wire.specs.Gates.{kept_out_by, needs_office, needs_public, number_before, reading_account, sent_codes, served_at, shown_by}
 use Rattle.wire.specs.Lengths.{NamedValue, body_length}
 use Rattle.wire.specs.Origins.{is_foreign}
 use Rattle.wire.specs.Numbers.{number_in}
@@ -24,7 +25,7 @@ use Rattle.wire.specs.declared.office_read.OfficeRead.{OfficeRead}
 use Rattle.wire.specs.declared.office_read.OfficeRead.TheVariants as read
 use Rattle.wire.specs.declared.target.Resource.TheVariants.{Candidates, Declaration, Office as Reads, Sheet, Work}
 use Rattle.wire.specs.declared.target.Target.{Target}
-use Rattle.wire.specs.declared.target.Target.TheVariants.{Keying, Leave, Office, Page, Resource}
+use Rattle.wire.specs.declared.target.Target.TheVariants.{Keying, Leave, Office, Page, Public, Resource}
 use Rattle.wire.proofs.RequestLemmas.{AsksOneThing-all}
 use Rattle.wire.proofs.OfficeTargetLemmas.{number-digits}
 use Rattle.wire.proofs.PathLemmas.{NamesItsOwn-all}
@@ -56,6 +57,7 @@ owner_of (Page clerk) = Some (Clerk clerk)
 owner_of (Leave clerk) = Some (Clerk clerk)
 owner_of (Resource what) = reading_account what
 owner_of (Office what) = Some Officer
+owner_of (Public what) = None
 
 -- the same for a path that begins with a clerk's number
 under-clerk : (own : Option (List ℕ)) (target part rest : List ℕ) (clerk : ℕ) (account : Account) → target ≡ codes "/clerks/" ++ (part ++ (47 ∷ rest)) → number_in part ≡ Some clerk
@@ -92,6 +94,7 @@ under-own own target (Resource (Candidates c batch)) account has (part, b, is, n
 under-own own target (Resource (Sheet w)) account has is same = let no : ⊥ = cc in absurd no
 under-own own target (Resource (Declaration w)) account has is same = let no : ⊥ = cc in absurd no
 under-own own target (Resource (Reads its)) account has is same = under-read own target its has is ∙ same
+under-own own target (Public what) account has is same = let no : ⊥ = cc in absurd no
 under-own own target (Office what) account has is same = ap (account_under own) is ∙ under-office own what has ∙ same
 
 -- ---- what isn't kept out
@@ -118,50 +121,58 @@ order-own : (entry : Option ConsoleOrderEntry) (account : Account) → account_a
 order-own None account is = let no : ⊥ = cc in absurd no
 order-own (Some entry) account is = cc
 
-own-asked : (gate : GateEntry) (there : Target) (size : Result ℕ RequestError) (behind : List ℕ) (account : Account) → account_asked (asked_of (Some gate) (Ok there) size behind) ≡ Some account
+own-asked : (gate : GateEntry) (hall : Option PublicEntry) (there : Target) (size : Result ℕ RequestError) (behind : List ℕ) (account : Account) → account_asked
+    (asked_of (Some gate) hall (Ok there) size behind) ≡ Some account
     → owner_of there ≡ Some account
-own-asked gate (Keying c batch) (Ok n) behind account is = ap Some (keying-own c batch (option_and_then keying_of (body_in n behind)) account is)
-own-asked gate (Keying c batch) (Err why) behind account is = let no : ⊥ = cc in absurd no
-own-asked gate (Page c) size behind account is = is
-own-asked gate (Leave c) size behind account is = is
-own-asked gate (Resource what) size behind account is = is
-own-asked gate (Office office.ConsolePage) size behind account is = is
-own-asked gate (Office office.Leave) size behind account is = is
-own-asked gate (Office office.Orders) (Ok n) behind account is = ap Some (order-own (option_and_then order_of (body_in n behind)) account is)
-own-asked gate (Office office.Orders) (Err why) behind account is = let no : ⊥ = cc in absurd no
+own-asked gate hall (Keying c batch) (Ok n) behind account is = ap Some (keying-own c batch (option_and_then keying_of (body_in n behind)) account is)
+own-asked gate hall (Keying c batch) (Err why) behind account is = let no : ⊥ = cc in absurd no
+own-asked gate hall (Page c) size behind account is = is
+own-asked gate hall (Leave c) size behind account is = is
+own-asked gate hall (Resource what) size behind account is = is
+own-asked gate hall (Office office.ConsolePage) size behind account is = is
+own-asked gate hall (Office office.Leave) size behind account is = is
+own-asked gate hall (Office office.Orders) (Ok n) behind account is = ap Some (order-own (option_and_then order_of (body_in n behind)) account is)
+own-asked gate hall (Office office.Orders) (Err why) behind account is = let no : ⊥ = cc in absurd no
+own-asked gate None (Public what) size behind account is = let no : ⊥ = cc in absurd no
+own-asked gate (Some its) (Public what) size behind account is = let no : ⊥ = cc in absurd no
 
 -- at a gate, by what was found there
-module _ (gate : GateEntry) (fields : List NamedValue) (method target : List ℕ) (size : Result ℕ RequestError) (behind : List ℕ) (account : Account) where
+module _ (gate : GateEntry) (hall : Option PublicEntry) (fields : List NamedValue) (method target : List ℕ) (size : Result ℕ RequestError) (behind : List ℕ) (account : Account) where
   -- what is asked for is the account's
   abbrev IsAskedAs : Option Target → Type 0
-  IsAskedAs there = account_asked (asked_of (Some gate) (asked_for method there) size behind) ≡ Some account
+  IsAskedAs there = account_asked (asked_of (Some gate) hall (asked_for method there) size behind) ≡ Some account
 
   asked_served : (there : Target) → named_by target ≡ Some there → (needs_office there && not (is_some gate.office)) ≡ false → IsAskedAs (Some there) → account_under gate.office target ≡ Some account
   asked_served there named has is = by (bytes_eq method (verb_text (verb_of there))) refl is
     where
       by : (b : Bool) → bytes_eq method (verb_text (verb_of there)) ≡ b → IsAskedAs (Some there) → account_under gate.office target ≡ Some account
-      by true same is = under-own gate.office target there account has ((NamesItsOwn-all target there).0 named) (own-asked gate there size behind account (rw same at is))
+      by true same is = under-own gate.office target there account has ((NamesItsOwn-all target there).0 named) (own-asked gate hall there size behind account (rw same at is))
       by false other is =
           let turned = rw other at is in
           let no : ⊥ = cc in
           absurd no
 
-  asked_there : (there : Option Target) → named_by target ≡ there → IsAskedAs (served_at (Some gate) there) → account_under gate.office target ≡ Some account
+  asked_there : (there : Option Target) → named_by target ≡ there → IsAskedAs (served_at (Some gate) hall there) → account_under gate.office target ≡ Some account
   asked_there None named is = let no : ⊥ = cc in absurd no
   asked_there (Some there) named is = by (needs_office there && not (is_some gate.office)) refl is
     where
-      by : (b : Bool) → (needs_office there && not (is_some gate.office)) ≡ b → IsAskedAs (if b then None else Some there) → account_under gate.office target ≡ Some account
+      open_to : (b : Bool) → (needs_public there && not (is_some hall)) ≡ b → (needs_office there && not (is_some gate.office)) ≡ false → IsAskedAs (if b then None else Some there)
+          → account_under gate.office target ≡ Some account
+      open_to true without has is = let no : ⊥ = cc in absurd no
+      open_to false with has is = asked_served there named has is
+
+      by : (b : Bool) → (needs_office there && not (is_some gate.office)) ≡ b → IsAskedAs (shown_by hall (if b then None else Some there)) → account_under gate.office target ≡ Some account
       by true without is = let no : ⊥ = cc in absurd no
-      by false has is = asked_served there named has is
+      by false has is = open_to (needs_public there && not (is_some hall)) refl has is
 
   let_in-held : (why : Option RequestError) → kept_out (Some gate) (account_at (Some gate) target) fields ≡ why
-      → account_asked (asked_of (Some gate) (let_in why method (served_at (Some gate) (named_by target))) size behind) ≡ Some account → HoldsCode gate account fields
+      → account_asked (asked_of (Some gate) hall (let_in why method (served_at (Some gate) hall (named_by target))) size behind) ≡ Some account → HoldsCode gate account fields
   let_in-held (Some why) kept is = let no : ⊥ = cc in absurd no
   let_in-held None kept is =
       let under : account_under gate.office target ≡ Some account = asked_there (named_by target) refl is in
       holds gate account fields (sent_codes fields) refl (ap (λ a. kept_out (Some gate) a fields) (sym under) ∙ kept)
 
-  wanted-held : (foreign : Bool) → account_asked (asked_of (Some gate) (wanted_by foreign (Some gate) fields method target) size behind) ≡ Some account → HoldsCode gate account fields
+  wanted-held : (foreign : Bool) → account_asked (asked_of (Some gate) hall (wanted_by foreign (Some gate) hall fields method target) size behind) ≡ Some account → HoldsCode gate account fields
   wanted-held true is = let no : ⊥ = cc in absurd no
   wanted-held false is = let_in-held (kept_out (Some gate) (account_at (Some gate) target) fields) refl is
 
@@ -171,5 +182,6 @@ AsksByHolder-all settings bytes head behind begins asked asks account is gate th
     let fields = map name_and_value head.fields in
     let one = AsksOneThing-all settings bytes asked (asked_by settings head behind) asks (inr (head, behind, begins, refl)) in
     let own : account_asked (asked_by settings head behind) ≡ Some account = ap account_asked (sym one) ∙ is in
-    wanted-held gate fields head.method head.target (body_length fields) behind account (is_foreign settings.origin fields)
-    (subst (λ (g : Option GateEntry). account_asked (asked_of g (wanted_by (is_foreign settings.origin fields) g fields head.method head.target) (body_length fields) behind) ≡ Some account) there own)
+    wanted-held gate settings.public fields head.method head.target (body_length fields) behind account (is_foreign settings.origin fields)
+    (subst (λ (g : Option GateEntry). account_asked (asked_of g settings.public (wanted_by (is_foreign settings.origin fields) g settings.public fields head.method head.target)
+    (body_length fields) behind) ≡ Some account) there own)

@@ -36,10 +36,10 @@ digits-first (d ∷ part) rest digits none =
     rw both.0 (omega (arith, more))
 
 module _ (part rest : List ℕ) (n : ℕ) (own : number_in part ≡ Some n) (none : prefix_len is_ascii_digit rest ≡ 0) where
-  number-first : leading_number (part ++ rest) ≡ Some n
+  pub number-first : leading_number (part ++ rest) ≡ Some n
   number-first = ap (λ k. number_in (take k (part ++ rest))) (digits-first part rest (number-digits part n own) none) ∙ ap number_in (take-append_seam part rest) ∙ own
 
-  rest-behind : behind_digits (part ++ rest) ≡ rest
+  pub rest-behind : behind_digits (part ++ rest) ≡ rest
   rest-behind = ap (λ k. drop k (part ++ rest)) (digits-first part rest (number-digits part n own) none) ∙ drop-append_seam part rest
 
   ward-numbered : ward_read (part ++ rest) ≡ of_ward rest n
@@ -163,7 +163,7 @@ module _ (target behind : List ℕ) (read : OfficeRead) where
       subst (λ r. IsReadTarget r target) same (behind, is, found)
 
 -- a target that begins with a word
-begun : (target word : List ℕ) → starts_with nat_eq target word ≡ true → target ≡ word ++ drop (length word) target
+pub begun : (target word : List ℕ) → starts_with nat_eq target word ≡ true → target ≡ word ++ drop (length word) target
 begun target word begins = (starts_is Decides-eqb target word (starts_with nat_eq target word) refl).0 begins
 
 module _ (target : List ℕ) (read : OfficeRead) where

@@ -12,7 +12,7 @@ use Rattle.httparse.specs.declared.spans.RequestSpans.{RequestSpans}
 use Rattle.wire.specs.Requests.{HttpRequestEntry, Asks, IsWanting, MissesBehind, MissesBytes, asked_by, http_request_entry, asked_in, asked_of, denied, ordered_in, reading, wanted}
 use Rattle.wire.specs.declared.request.HttpRequest.{HttpRequest}
 use Rattle.wire.specs.Bodies.{KeyingEntry, body_in, keying_of}
-use Rattle.wire.specs.Gates.{GateEntry, HttpSettingsEntry, IsAuthentication, authentication_at, authentication_entry}
+use Rattle.wire.specs.Gates.{GateEntry, HttpSettingsEntry, PublicEntry, IsAuthentication, authentication_at, authentication_entry}
 use Rattle.wire.specs.Heads.{BeginsWith, HasNoHead, IsHeadWanting}
 use Rattle.wire.specs.Completeness.{IsCompletenessOf, IsWhole}
 use Rattle.wire.specs.Lengths.{NamedValue, most_body_bytes}
@@ -79,18 +79,19 @@ body_stays n behind more enough =
     ]
 
 -- what is asked of what a target names, where no byte is lacking for it
-asked_stays : (gate : Option GateEntry) (t : Result Target RequestError) (size : Result ℕ RequestError) (behind more : List ℕ) → (MissesBytes t size behind → ⊥)
-    → asked_of gate t size (behind ++ more) ≡ asked_of gate t size behind
-asked_stays gate (Ok (target.Keying clerk batch)) (Ok n) behind more enough = ap (λ b. asked_in clerk batch (option_and_then keying_of b)) (body_stays n behind more enough)
-asked_stays gate (Ok (target.Keying clerk batch)) (Err why) behind more enough = refl
-asked_stays gate (Ok (target.Page clerk)) size behind more enough = refl
-asked_stays gate (Ok (target.Leave clerk)) size behind more enough = refl
-asked_stays gate (Ok (target.Resource what)) size behind more enough = refl
-asked_stays gate (Ok (target.Office office.ConsolePage)) size behind more enough = refl
-asked_stays gate (Ok (target.Office office.Leave)) size behind more enough = refl
-asked_stays gate (Ok (target.Office office.Orders)) (Ok n) behind more enough = ap (λ b. ordered_in (option_and_then order_of b)) (body_stays n behind more enough)
-asked_stays gate (Ok (target.Office office.Orders)) (Err why) behind more enough = refl
-asked_stays gate (Err why) size behind more enough = refl
+asked_stays : (gate : Option GateEntry) (hall : Option PublicEntry) (t : Result Target RequestError) (size : Result ℕ RequestError) (behind more : List ℕ) → (MissesBytes t size behind → ⊥)
+    → asked_of gate hall t size (behind ++ more) ≡ asked_of gate hall t size behind
+asked_stays gate hall (Ok (target.Keying clerk batch)) (Ok n) behind more enough = ap (λ b. asked_in clerk batch (option_and_then keying_of b)) (body_stays n behind more enough)
+asked_stays gate hall (Ok (target.Keying clerk batch)) (Err why) behind more enough = refl
+asked_stays gate hall (Ok (target.Page clerk)) size behind more enough = refl
+asked_stays gate hall (Ok (target.Leave clerk)) size behind more enough = refl
+asked_stays gate hall (Ok (target.Resource what)) size behind more enough = refl
+asked_stays gate hall (Ok (target.Office office.ConsolePage)) size behind more enough = refl
+asked_stays gate hall (Ok (target.Office office.Leave)) size behind more enough = refl
+asked_stays gate hall (Ok (target.Office office.Orders)) (Ok n) behind more enough = ap (λ b. ordered_in (option_and_then order_of b)) (body_stays n behind more enough)
+asked_stays gate hall (Ok (target.Office office.Orders)) (Err why) behind more enough = refl
+asked_stays gate hall (Ok (target.Public what)) size behind more enough = refl
+asked_stays gate hall (Err why) size behind more enough = refl
 
 -- a request that begins with a head, for which no byte after it is lacking
 whole_behind : (settings : HttpSettingsEntry) (got : List ℕ) (head : RequestHead) (behind : List ℕ) → BeginsWith got head behind → (MissesBehind settings head behind → ⊥) → IsWhole settings got
@@ -105,7 +106,7 @@ whole_behind settings got head behind begun enough more asked asks =
         short = begun.short;
         few = begun.few;
       },
-      one ∙ sym (asked_stays settings.gate _ _ behind more enough),
+      one ∙ sym (asked_stays settings.gate settings.public _ _ behind more enough),
     )
 
 -- ---- what it lacks
@@ -121,6 +122,7 @@ lacks_few (Ok (target.Office office.ConsolePage)) body behind few = absurd (omeg
 lacks_few (Ok (target.Office office.Leave)) body behind few = absurd (omega (arith, few))
 lacks_few (Ok (target.Office office.Orders)) (Ok n) behind few = few
 lacks_few (Ok (target.Office office.Orders)) (Err why) behind few = absurd (omega (arith, few))
+lacks_few (Ok (target.Public what)) body behind few = absurd (omega (arith, few))
 lacks_few (Err why) body behind few = absurd (omega (arith, few))
 
 lacks_none : (t : Result Target RequestError) (body : Result ℕ RequestError) (behind : List ℕ) → needed t body ≤ length behind → MissesBytes t body behind → ⊥
@@ -133,6 +135,7 @@ lacks_none (Ok (target.Office office.ConsolePage)) body behind enough completene
 lacks_none (Ok (target.Office office.Leave)) body behind enough completeness_of = completeness_of
 lacks_none (Ok (target.Office office.Orders)) (Ok n) behind enough completeness_of = omega (arith, enough, completeness_of)
 lacks_none (Ok (target.Office office.Orders)) (Err why) behind enough completeness_of = completeness_of
+lacks_none (Ok (target.Public what)) body behind enough completeness_of = completeness_of
 lacks_none (Err why) body behind enough completeness_of = completeness_of
 
 -- what a head that was parsed lacks, its head lacks
@@ -181,6 +184,7 @@ needed_small (Ok (target.Office office.ConsolePage)) body fits = omega arith
 needed_small (Ok (target.Office office.Leave)) body fits = omega arith
 needed_small (Ok (target.Office office.Orders)) (Ok n) fits = fits
 needed_small (Ok (target.Office office.Orders)) (Err why) fits = omega arith
+needed_small (Ok (target.Public what)) body fits = omega arith
 needed_small (Err why) body fits = omega arith
 
 pub whole_is : (settings : HttpSettingsEntry) (got : List ℕ) (head : Head) (whole : ℕ) → IsHeadOf settings got head → whole ≡ min (head.size + needed head.wanted head.body) (2 ^ 64 - 1)
@@ -258,35 +262,36 @@ pub asks_none : (settings : HttpSettingsEntry) (got : List ℕ) → HasNoHead go
 asks_none settings got none = inl (none, refl)
 
 asks_behind : (settings : HttpSettingsEntry) (got : List ℕ) (head : Head) (is : IsHeadOf settings got head) (asked : HttpRequestEntry)
-    → asked ≡ asked_of settings.gate head.wanted head.body is.behind → Asks settings got asked
+    → asked ≡ asked_of settings.gate settings.public head.wanted head.body is.behind → Asks settings got asked
 asks_behind settings got head is asked same = inr (
   is.found,
   is.behind,
   is.begins,
-  same ∙ ap (λ (t : Result Target RequestError). asked_of settings.gate t head.body is.behind) is.says.wanted
-      ∙ ap (λ b. asked_of settings.gate (wanted settings (map name_and_value is.found.fields) is.found.method is.found.target) b is.behind) is.says.body,
+  same ∙ ap (λ (t : Result Target RequestError). asked_of settings.gate settings.public t head.body is.behind) is.says.wanted
+      ∙ ap (λ b. asked_of settings.gate settings.public (wanted settings (map name_and_value is.found.fields) is.found.method is.found.target) b is.behind) is.says.body,
 )
 
 -- by the bytes that follow the head
 pub asks_parsed : (settings : HttpSettingsEntry) (got : List ℕ) (head : Head) (n : ℕ) (behind : List ℕ) (asked : HttpRequestEntry) → n ≡ min head.size (length got)
     → behind ≡ drop n got → IsHeadOf settings got head
-    → asked ≡ asked_of settings.gate head.wanted head.body behind → Asks settings got asked
+    → asked ≡ asked_of settings.gate settings.public head.wanted head.body behind → Asks settings got asked
 asks_parsed settings got head n behind asked small there is same =
     let long = parts_of settings got head is in
     let all : n ≡ length (print_request is.found) = omega (arith, small, long) ∙ is.says.size in
     let own : behind ≡ is.behind = there ∙ ap (λ k. drop k got) all ∙ ap (drop (length (print_request is.found))) is.begins.parts ∙ drop-append_seam (print_request is.found) is.behind in
-    asks_behind settings got head is asked (same ∙ ap (asked_of settings.gate head.wanted head.body) own)
+    asks_behind settings got head is asked (same ∙ ap (asked_of settings.gate settings.public head.wanted head.body) own)
 
 -- the same of a result, which may be that an allocation failed
 pub asks_result : {E : Type 0} (settings : HttpSettingsEntry) (got : List ℕ) (head : Head) (n : ℕ) (behind : List ℕ) (r : Result HttpRequest E)
     → n ≡ min head.size (length got) → behind ≡ drop n got → IsHeadOf settings got head
-    → IfOk r (λ asked. http_request_entry asked ≡ asked_of settings.gate head.wanted head.body behind) → IfOk r (λ asked. Asks settings got (http_request_entry asked))
+    → IfOk r (λ asked. http_request_entry asked ≡ asked_of settings.gate settings.public head.wanted head.body behind) → IfOk r (λ asked. Asks settings got (http_request_entry asked))
 asks_result settings got head n behind (Err e) small there is same = tt
 asks_result settings got head n behind (Ok asked) small there is same = asks_parsed settings got head n behind (http_request_entry asked) small there is same
 
 -- a read
 asks_reading : (settings : HttpSettingsEntry) (got : List ℕ) (head : Head) (what : Resource) → head.wanted ≡ Ok (target.Resource what) → IsHeadOf settings got head → Asks settings got (reading what)
-asks_reading settings got head what reads is = asks_behind settings got head is (reading what) (sym (ap (λ (t : Result Target RequestError). asked_of settings.gate t head.body is.behind) reads))
+asks_reading settings got head what reads is = asks_behind settings got head is (reading what)
+    (sym (ap (λ (t : Result Target RequestError). asked_of settings.gate settings.public t head.body is.behind) reads))
 
 -- what is read, if anything is
 pub asks_read : (settings : HttpSettingsEntry) (got : List ℕ) (head : Head) (t : Result Target RequestError) → head.wanted ≡ t → IsHeadOf settings got head
@@ -296,6 +301,7 @@ asks_read settings got head (Ok (target.Page clerk)) same is = tt
 asks_read settings got head (Ok (target.Leave clerk)) same is = tt
 asks_read settings got head (Ok (target.Resource what)) same is = asks_reading settings got head what same is
 asks_read settings got head (Ok (target.Office place)) same is = tt
+asks_read settings got head (Ok (target.Public what)) same is = tt
 asks_read settings got head (Err why) same is = tt
 
 -- a keying is no read
@@ -309,26 +315,28 @@ no_order what (Some entry) is = cc is
 no_order what None is = cc is
 
 -- what is read is what the target names
-read_of : (gate : Option GateEntry) (t : Result Target RequestError) (size : Result ℕ RequestError) (behind : List ℕ) (what : Resource)
-    → reading what ≡ asked_of gate t size behind → read_in t ≡ Some what
-read_of gate (Ok (target.Keying clerk batch)) (Ok n) behind what is = absurd (no_keying clerk batch what (option_and_then keying_of (body_in n behind)) is)
-read_of gate (Ok (target.Keying clerk batch)) (Err why) behind what is = absurd (cc is)
-read_of None (Ok (target.Page clerk)) size behind what is = absurd (cc is)
-read_of (Some gate) (Ok (target.Page clerk)) size behind what is = absurd (cc is)
-read_of gate (Ok (target.Leave clerk)) size behind what is = absurd (cc is)
-read_of None (Ok (target.Office office.ConsolePage)) size behind what is = absurd (cc is)
-read_of (Some gate) (Ok (target.Office office.ConsolePage)) size behind what is = absurd (cc is)
-read_of gate (Ok (target.Office office.Leave)) size behind what is = absurd (cc is)
-read_of gate (Ok (target.Office office.Orders)) (Ok n) behind what is = absurd (no_order what (option_and_then order_of (body_in n behind)) is)
-read_of gate (Ok (target.Office office.Orders)) (Err why) behind what is = absurd (cc is)
-read_of gate (Ok (target.Resource there)) size behind what is = let same : there ≡ what = cc is in ap Some same
-read_of gate (Err why) size behind what is = absurd (cc is)
+read_of : (gate : Option GateEntry) (hall : Option PublicEntry) (t : Result Target RequestError) (size : Result ℕ RequestError) (behind : List ℕ) (what : Resource)
+    → reading what ≡ asked_of gate hall t size behind → read_in t ≡ Some what
+read_of gate hall (Ok (target.Keying clerk batch)) (Ok n) behind what is = absurd (no_keying clerk batch what (option_and_then keying_of (body_in n behind)) is)
+read_of gate hall (Ok (target.Keying clerk batch)) (Err why) behind what is = absurd (cc is)
+read_of None hall (Ok (target.Page clerk)) size behind what is = absurd (cc is)
+read_of (Some gate) hall (Ok (target.Page clerk)) size behind what is = absurd (cc is)
+read_of gate hall (Ok (target.Leave clerk)) size behind what is = absurd (cc is)
+read_of None hall (Ok (target.Office office.ConsolePage)) size behind what is = absurd (cc is)
+read_of (Some gate) hall (Ok (target.Office office.ConsolePage)) size behind what is = absurd (cc is)
+read_of gate hall (Ok (target.Office office.Leave)) size behind what is = absurd (cc is)
+read_of gate hall (Ok (target.Office office.Orders)) (Ok n) behind what is = absurd (no_order what (option_and_then order_of (body_in n behind)) is)
+read_of gate hall (Ok (target.Office office.Orders)) (Err why) behind what is = absurd (cc is)
+read_of gate hall (Ok (target.Resource there)) size behind what is = let same : there ≡ what = cc is in ap Some same
+read_of gate None (Ok (target.Public there)) size behind what is = absurd (cc is)
+read_of gate (Some its) (Ok (target.Public there)) size behind what is = absurd (cc is)
+read_of gate hall (Err why) size behind what is = absurd (cc is)
 
 -- if a request reads a resource, its parsed head says which
 pub reads_each : (settings : HttpSettingsEntry) (got : List ℕ) (head : Head) (what : Resource) → IsHeadOf settings got head → Asks settings got (reading what) → read_in head.wanted ≡ Some what
 reads_each settings got head what is asks =
-    let asked = asked_of settings.gate head.wanted head.body is.behind in
-    read_of settings.gate head.wanted head.body is.behind what (AsksOneThing-all settings got (reading what) asked asks (asks_behind settings got head is asked refl))
+    let asked = asked_of settings.gate settings.public head.wanted head.body is.behind in
+    read_of settings.gate settings.public head.wanted head.body is.behind what (AsksOneThing-all settings got (reading what) asked asks (asks_behind settings got head is asked refl))
 
 -- without a head nothing is read
 pub reads_none : (settings : HttpSettingsEntry) (got : List ℕ) (what : Resource) → HasNoHead got → Asks settings got (reading what) → ⊥

@@ -13,18 +13,21 @@ use Rattle.matchit.specs.Rows.{RowsOf, param_token}
 use Rattle.matchit.specs.Seek.{first, segment, step}
 use Rattle.matchit.specs.Route.{scan}
 use Rattle.wire.proofs.OfficeTargetLemmas.{read-named, read-own}
+use Rattle.wire.proofs.PublicTargetLemmas.{declaration-routed, public-named, public-own, sheet-routed}
 use Rattle.wire.proofs.RowLemmas.{Fits, Gives, GoBySlash, HasNoSlash, seek-end, seek-gives, seek-part, seek-word, steps}
 use Rattle.wire.specs.Numbers.{number_in}
 use Rattle.wire.specs.OfficeTargets.{read_by}
-use Rattle.wire.specs.Targets.{IsTargetOf, NamesItsOwn, named_at, named_by, named_in, office_by, office_path, office_routes, read_or_routed, routed_by}
+use Rattle.wire.specs.PublicTargets.{public_by}
+use Rattle.wire.specs.Targets.{IsTargetOf, NamesItsOwn, named_at, named_by, named_in, office_by, office_path, office_routes, public_or_routed, read_or_other, routed_by}
 use Rattle.wire.specs.declared.office_read.OfficeRead.{OfficeRead}
+use Rattle.wire.specs.declared.public_target.PublicTarget.{PublicTarget}
 use Rattle.wire.specs.declared.target.OfficeTarget.{OfficeTarget}
 use Rattle.wire.specs.declared.target.OfficeTarget.TheVariants as office
 use Rattle.wire.specs.declared.target.RouteTarget.{RouteTarget}
 use Rattle.wire.specs.declared.target.RouteTarget.TheVariants as place
 use Rattle.wire.specs.declared.target.Resource.TheVariants.{Candidates, Declaration, Office as Reads, Sheet, Work}
 use Rattle.wire.specs.declared.target.Target.{Target}
-use Rattle.wire.specs.declared.target.Target.TheVariants.{Keying, Leave, Office, Page, Resource}
+use Rattle.wire.specs.declared.target.Target.TheVariants.{Keying, Leave, Office, Page, Public, Resource}
 use Rattle.wire.proofs.PartLemmas.{IsNumeric, numeric, one-part, one-taken, two-parts, walk-part, with_taken}
 
 -- ---- a target of one of the routes names something
@@ -356,8 +359,14 @@ office-own target what named = console (bytes_eq target (office_path office.Cons
 named-own : (target : List ℕ) (there : Target) → named_by target ≡ Some there → IsTargetOf there target
 named-own target there named = by (office_by target) refl named
   where
-    read : (found : Option OfficeRead) → read_by target ≡ found → read_or_routed found target ≡ Some there → IsTargetOf there target
-    read None found named = routed-own target there named
+    shown : (found : Option PublicTarget) → public_by target ≡ found → public_or_routed found target ≡ Some there → IsTargetOf there target
+    shown None found named = routed-own target there named
+    shown (Some what) found named =
+        let same : Public what ≡ there = cc in
+        subst (λ t. IsTargetOf t target) same (public-own target what found)
+
+    read : (found : Option OfficeRead) → read_by target ≡ found → read_or_other found target ≡ Some there → IsTargetOf there target
+    read None found named = shown (public_by target) refl named
     read (Some its) found named =
         let same : Resource (Reads its) ≡ there = cc in
         subst (λ t. IsTargetOf t target) same (read-own target its found)
@@ -373,13 +382,16 @@ unfolding work page leaving sheet declaration keyings candidates
 own-named target (Page n) (part, is, own) = ap named_by is ∙ one-named page is-page part n own (page-found part (numeric part n own))
 own-named target (Leave n) (part, is, own) = ap named_by is ∙ one-named leaving is-leaving part n own (leaving-found part (numeric part n own))
 own-named target (Resource (Work n)) (part, is, own) = ap named_by is ∙ one-named work is-work part n own (work-found part (numeric part n own))
-own-named target (Resource (Sheet n)) (part, is, own) = ap named_by is ∙ one-named sheet is-sheet part n own (sheet-found part (numeric part n own))
-own-named target (Resource (Declaration n)) (part, is, own) = ap named_by is ∙ one-named declaration is-declaration part n own (declaration-found part (numeric part n own))
+own-named target (Resource (Sheet n)) (part, is, own) =
+    ap named_by is ∙ sheet-routed part n own ∙ one-named sheet is-sheet part n own (sheet-found part (numeric part n own))
+own-named target (Resource (Declaration n)) (part, is, own) =
+    ap named_by is ∙ declaration-routed part n own ∙ one-named declaration is-declaration part n own (declaration-found part (numeric part n own))
 own-named target (Resource (Candidates clerk batch)) (c, b, is, own, other) =
     ap named_by is ∙ two-named candidates is-candidates c b clerk batch own other (candidates-found c b (numeric c clerk own) (numeric b batch other))
 own-named target (Keying clerk batch) (c, b, is, own, other) =
     ap named_by is ∙ two-named keyings is-keyings c b clerk batch own other (keyings-found c b (numeric c clerk own) (numeric b batch other))
 own-named target (Resource (Reads read)) is = read-named target read is
+own-named target (Public what) is = public-named target what is
 own-named target (Office office.ConsolePage) is = ap named_by is
 own-named target (Office office.Leave) is = ap named_by is
 own-named target (Office office.Orders) is = ap named_by is

@@ -38,12 +38,14 @@ AsksOneThing-all settings bytes one two (inr (head, behind, begins, is)) (inr (o
 pub DeniesForeign-all : (settings : HttpSettingsEntry) (bytes : List ℕ) → DeniesForeign settings bytes
 DeniesForeign-all settings bytes head behind begins foreign asked asks =
     AsksOneThing-all settings bytes asked (asked_by settings head behind) asks (inr (head, behind, begins, refl))
-    ∙ ap (λ b. asked_of settings.gate (wanted_by b settings.gate (map name_and_value head.fields) head.method head.target) (body_length (map name_and_value head.fields)) behind) foreign
+    ∙ ap (λ b. asked_of settings.gate settings.public (wanted_by b settings.gate settings.public (map name_and_value head.fields) head.method head.target)
+    (body_length (map name_and_value head.fields)) behind) foreign
 
 pub TakesOwn-all : (settings : HttpSettingsEntry) (bytes : List ℕ) → TakesOwn settings bytes
 TakesOwn-all settings bytes head behind begins own asked asks =
     AsksOneThing-all settings bytes asked (asked_by settings head behind) asks (inr (head, behind, begins, refl))
-    ∙ ap (λ b. asked_of settings.gate (wanted_by b settings.gate (map name_and_value head.fields) head.method head.target) (body_length (map name_and_value head.fields)) behind) own
+    ∙ ap (λ b. asked_of settings.gate settings.public (wanted_by b settings.gate settings.public (map name_and_value head.fields) head.method head.target)
+    (body_length (map name_and_value head.fields)) behind) own
 
 -- ---- from what was read
 
@@ -74,9 +76,9 @@ Asks-entry settings (Some bytes) (Some left) got headers spans (head, there) ask
       head,
       behind,
       begins bytes got left headers spans head there fits places took,
-      is ∙ ap (λ m. asked_of settings.gate (wanted settings fields m (span_bytes got spans.path)) (body_length fields) behind) there.method
-          ∙ ap (λ p. asked_of settings.gate (wanted settings fields head.method p) (body_length fields) behind) there.path
-          ∙ ap (λ (f : List NamedValue). asked_of settings.gate (wanted settings f head.method head.target) (body_length f) behind) there.fields,
+      is ∙ ap (λ m. asked_of settings.gate settings.public (wanted settings fields m (span_bytes got spans.path)) (body_length fields) behind) there.method
+          ∙ ap (λ p. asked_of settings.gate settings.public (wanted settings fields head.method p) (body_length fields) behind) there.path
+          ∙ ap (λ (f : List NamedValue). asked_of settings.gate settings.public (wanted settings f head.method head.target) (body_length f) behind) there.fields,
     )
 
 pub Asks-head : {E : Type 0} (settings : HttpSettingsEntry) (old mid : Option (List ℕ)) (got : List ℕ) (headers : List HeaderSpan) (spans : RequestSpans)
@@ -126,15 +128,17 @@ module _ (settings : HttpSettingsEntry) (got : List ℕ) (headers : List HeaderS
   SaysFound = Says settings (map (header_bytes got) (take spans.headers headers)) (span_bytes got spans.method) (span_bytes got spans.path) spans.len head
 
   pub Asks-said : {E : Type 0} (old mid : Option (List ℕ)) → IsRequestOf got headers spans → SaysFound → (r : Result HttpRequest E) → length got ≤ 8192 → length headers ≡ 32 → Consumes old mid got
-      → (behind : List ℕ) → behind ≡ drop spans.len got → IfSome mid (λ left. IfOk r (λ asked. http_request_entry asked ≡ asked_of settings.gate head.wanted head.body (behind ++ left)))
+      → (behind : List ℕ) → behind ≡ drop spans.len got → IfSome mid
+      (λ left. IfOk r (λ asked. http_request_entry asked ≡ asked_of settings.gate settings.public head.wanted head.body (behind ++ left)))
       → IfSome old (λ bytes. IfOk r (λ asked. Asks settings bytes (http_request_entry asked)))
   Asks-said old mid found says r fits places took behind there is =
       let fields = map (header_bytes got) (take spans.headers headers) in
       let target = wanted settings fields (span_bytes got spans.method) (span_bytes got spans.path) in
       Asks-head settings old mid got headers spans found r fits places took
-      (subst (λ b. IfSome mid (λ left. IfOk r (λ asked. http_request_entry asked ≡ asked_of settings.gate target b (drop spans.len got ++ left)))) says.body
-      (subst (λ (t : Result Target RequestError). IfSome mid (λ left. IfOk r (λ asked. http_request_entry asked ≡ asked_of settings.gate t head.body (drop spans.len got ++ left)))) says.wanted
-      (subst (λ (xs : List ℕ). IfSome mid (λ left. IfOk r (λ asked. http_request_entry asked ≡ asked_of settings.gate head.wanted head.body (xs ++ left)))) there is)))
+      (subst (λ b. IfSome mid (λ left. IfOk r (λ asked. http_request_entry asked ≡ asked_of settings.gate settings.public target b (drop spans.len got ++ left)))) says.body
+      (subst (λ (t : Result Target RequestError). IfSome mid (λ left. IfOk r (λ asked. http_request_entry asked ≡ asked_of settings.gate settings.public t head.body (drop spans.len got ++ left))))
+      says.wanted
+      (subst (λ (xs : List ℕ). IfSome mid (λ left. IfOk r (λ asked. http_request_entry asked ≡ asked_of settings.gate settings.public head.wanted head.body (xs ++ left)))) there is)))
 
   pub FailsAfter-said : (old mid new : Option (List ℕ)) → IsRequestOf got headers spans → SaysFound → (r : Result HttpRequest ReadFailure) → length got ≤ 8192
       → length headers ≡ 32 → Consumes old mid got

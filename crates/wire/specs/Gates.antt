@@ -14,6 +14,7 @@ use Rattle.wire.specs.declared.request_error.RequestError.TheVariants.{Unauthori
 use Rattle.wire.specs.declared.settings.Gate.{Gate}
 use Rattle.wire.specs.declared.settings.HttpSettings.{HttpSettings}
 use Rattle.wire.specs.declared.settings.Page.{Page}
+use Rattle.wire.specs.declared.settings.Public.{Public}
 use Rattle.wire.specs.declared.account.Account.{Account}
 use Rattle.wire.specs.declared.account.Account.TheVariants.{Clerk, Office}
 use Rattle.wire.specs.declared.authentication.Authentication.{Authentication}
@@ -42,17 +43,27 @@ pub record GateEntry : Type 0 where
 abbrev pub gate_entry : Gate → GateEntry
 gate_entry gate = record { holders = holders_of gate.codes.now; page = page_entry gate.page; office = office_of gate.codes.now; console = page_entry gate.console }
 
--- the origin of a proxy in front, and the gate, if any
+-- what is shown in public: the title of the election, and the page for the screen in the hall
+pub record PublicEntry : Type 0 where
+  pub title : List ℕ
+  pub screen : PageEntry
+
+abbrev pub public_entry : Public → PublicEntry
+public_entry public = record { title = public.title.now; screen = page_entry public.screen }
+
+-- the origin of a proxy in front, the gate, and what is shown in public, if any
 pub record HttpSettingsEntry : Type 0 where
   pub origin : Option (List ℕ)
   pub gate : Option GateEntry
+  pub public : Option PublicEntry
 
 abbrev pub settings_entry : HttpSettings → HttpSettingsEntry
-settings_entry settings = record { origin = given_by settings.origin; gate = option_map gate_entry settings.gate }
+settings_entry settings =
+    record { origin = given_by settings.origin; gate = option_map gate_entry settings.gate; public = option_map public_entry settings.public }
 
--- empty settings: neither of them
+-- empty settings: none of them
 abbrev pub given_nothing : HttpSettingsEntry
-given_nothing = record { origin = None; gate = None }
+given_nothing = record { origin = None; gate = None; public = None }
 
 -- ---- the clerk of a target
 
@@ -114,6 +125,7 @@ needs_gate (target.Page clerk) = true
 needs_gate (target.Leave clerk) = true
 needs_gate (target.Resource reading) = reading_needs_gate reading
 needs_gate (target.Office place) = true
+needs_gate (target.Public what) = false
 
 -- the console, with its reads, is served only if the office has a code
 abbrev pub needs_office : Target → Bool
@@ -122,12 +134,31 @@ needs_office (target.Page clerk) = false
 needs_office (target.Leave clerk) = false
 needs_office (target.Resource reading) = reading_needs_office reading
 needs_office (target.Office place) = true
+needs_office (target.Public what) = false
+
+-- what is shown in public is served only if the settings have it
+abbrev pub needs_public : Target → Bool
+needs_public (target.Keying clerk batch) = false
+needs_public (target.Page clerk) = false
+needs_public (target.Leave clerk) = false
+needs_public (target.Resource reading) = false
+needs_public (target.Office place) = false
+needs_public (target.Public what) = true
 
 -- what is served, at a gate or without one
-abbrev pub served_at : Option GateEntry → Option Target → Option Target
-served_at gate None = None
-served_at None (Some there) = if needs_gate there then None else Some there
-served_at (Some gate) (Some there) = if needs_office there && not (is_some gate.office) then None else Some there
+abbrev pub let_through : Option GateEntry → Option Target → Option Target
+let_through gate None = None
+let_through None (Some there) = if needs_gate there then None else Some there
+let_through (Some gate) (Some there) = if needs_office there && not (is_some gate.office) then None else Some there
+
+-- what is served of that, in public or not
+abbrev pub shown_by : Option PublicEntry → Option Target → Option Target
+shown_by public None = None
+shown_by public (Some there) = if needs_public there && not (is_some public) then None else Some there
+
+-- what is served by a gate and what is shown in public
+abbrev pub served_at : Option GateEntry → Option PublicEntry → Option Target → Option Target
+served_at gate public there = shown_by public (let_through gate there)
 
 -- ---- what is let in
 

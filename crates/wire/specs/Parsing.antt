@@ -26,6 +26,7 @@ needed (Ok (target.Office office.ConsolePage)) body = 0
 needed (Ok (target.Office office.Leave)) body = 0
 needed (Ok (target.Office office.Orders)) (Ok n) = n
 needed (Ok (target.Office office.Orders)) (Err why) = 0
+needed (Ok (target.Public what)) body = 0
 needed (Err why) body = 0
 
 -- the resource that is read, if the request is a read
@@ -35,6 +36,7 @@ read_in (Ok (target.Page clerk)) = None
 read_in (Ok (target.Leave clerk)) = None
 read_in (Ok (target.Resource what)) = Some what
 read_in (Ok (target.Office place)) = None
+read_in (Ok (target.Public what)) = None
 read_in (Err why) = None
 
 -- A parsed head says what these header fields, this method and this target ask, and its length is n.

@@ -7,7 +7,8 @@ use Rattle.httparse.specs.Spans.{header_bytes, name_and_value, span_bytes}
 use Rattle.httparse.specs.declared.spans.HeaderSpan.{HeaderSpan}
 use Rattle.httparse.specs.declared.spans.RequestSpans.{RequestSpans}
 use Rattle.wire.specs.declared.request.HttpRequest.{HttpRequest}
-use Rattle.wire.specs.declared.request.HttpRequest.TheVariants.{ConsolePage, Denied, Keying, Order, Resource as Reads, Shown}
+use Rattle.wire.specs.declared.public_target.PublicTarget.{PublicTarget}
+use Rattle.wire.specs.declared.request.HttpRequest.TheVariants.{ConsolePage, Denied, Keying, Order, Public, Resource as Reads, Shown}
 use Rattle.wire.specs.declared.settings.Show.{Show}
 use Rattle.wire.specs.declared.settings.Show.TheVariants.{Left, Page}
 use Rattle.wire.specs.declared.read_failure.ReadFailure.{ReadFailure}
@@ -25,7 +26,7 @@ use Rattle.wire.specs.declared.account.Account.{Account}
 use Rattle.wire.specs.declared.account.Account.TheVariants.{Clerk, Office}
 use Rattle.wire.specs.ConsoleOrders.{ConsoleOrderEntry, console_order_entry, order_of}
 use Rattle.wire.specs.Bodies.{KeyingEntry, body_in, keying_of}
-use Rattle.wire.specs.Gates.{GateEntry, HttpSettingsEntry, PageEntry, account_at, has_code, kept_out, page_entry, reader_of, reading_account, sent_codes, served_at}
+use Rattle.wire.specs.Gates.{GateEntry, HttpSettingsEntry, PageEntry, PublicEntry, account_at, has_code, kept_out, page_entry, public_entry, reader_of, reading_account, sent_codes, served_at}
 use Rattle.wire.specs.Heads.{BeginsWith, HasNoHead, IsHeadWanting}
 use Rattle.wire.specs.Lengths.{NamedValue, body_length}
 use Rattle.wire.specs.Origins.{is_foreign}
@@ -40,8 +41,8 @@ abbrev pub show_entry : Show → ShowEntry
 show_entry (Page its) = page (page_entry its)
 show_entry Left = has_left
 
--- What is asked: nothing, since it is rejected; to be shown something for a clerk, or for the office; to keep a clerk's keying of a batch; to read; or to follow an order of
--- the office.
+-- What is asked: nothing, since it is rejected; to be shown something for a clerk, for the office or in public; to keep a clerk's keying of a batch; to read; or to follow
+-- an order of the office.
 pub data HttpRequestEntry : Type 0 where
   denied : RequestError → HttpRequestEntry
   shown : ℕ → ShowEntry → HttpRequestEntry
@@ -49,6 +50,7 @@ pub data HttpRequestEntry : Type 0 where
   reading : Resource → HttpRequestEntry
   console : ShowEntry → HttpRequestEntry
   order : ConsoleOrderEntry → HttpRequestEntry
+  public : PublicEntry → PublicTarget → HttpRequestEntry
 
 -- what a request asks that was read
 abbrev pub http_request_entry : HttpRequest → HttpRequestEntry
@@ -58,6 +60,7 @@ http_request_entry (Keying k) = keying k.clerk k.batch (record { id = string_byt
 http_request_entry (Reads what) = reading what
 http_request_entry (ConsolePage show) = console (show_entry show)
 http_request_entry (Order its) = order (console_order_entry its)
+http_request_entry (Public its what) = public (public_entry its) what
 
 -- why a request wasn't read, by what the source counts: one failure more, or none if an allocation failed
 abbrev pub IsUnread : ℕ → ℕ → ReadFailure → Type 0
@@ -78,6 +81,7 @@ verb_of (target.Resource what) = Get
 verb_of (target.Office office.ConsolePage) = Get
 verb_of (target.Office office.Leave) = Get
 verb_of (target.Office office.Orders) = Post
+verb_of (target.Public what) = Get
 
 -- a clerk's keying, by its body
 abbrev pub asked_in : ℕ → ℕ → Option KeyingEntry → HttpRequestEntry
@@ -110,16 +114,16 @@ let_in (Some why) method there = Err why
 let_in None method there = asked_for method there
 
 -- what is asked for after the gate: nothing if authentication failed there, whatever the target names
-abbrev pub wanted_behind : Option GateEntry → List NamedValue → List ℕ → List ℕ → Result Target RequestError
-wanted_behind gate fields method target = let_in (kept_out gate (account_at gate target) fields) method (served_at gate (named_by target))
+abbrev pub wanted_behind : Option GateEntry → Option PublicEntry → List NamedValue → List ℕ → List ℕ → Result Target RequestError
+wanted_behind gate hall fields method target = let_in (kept_out gate (account_at gate target) fields) method (served_at gate hall (named_by target))
 
 -- what is asked for by a request with these header fields: nothing by a foreign one
-abbrev pub wanted_by : Bool → Option GateEntry → List NamedValue → List ℕ → List ℕ → Result Target RequestError
-wanted_by true gate fields method target = Err Forbidden
-wanted_by false gate fields method target = wanted_behind gate fields method target
+abbrev pub wanted_by : Bool → Option GateEntry → Option PublicEntry → List NamedValue → List ℕ → List ℕ → Result Target RequestError
+wanted_by true gate hall fields method target = Err Forbidden
+wanted_by false gate hall fields method target = wanted_behind gate hall fields method target
 
 abbrev pub wanted : HttpSettingsEntry → List NamedValue → List ℕ → List ℕ → Result Target RequestError
-wanted settings fields method target = wanted_by (is_foreign settings.origin fields) settings.gate fields method target
+wanted settings fields method target = wanted_by (is_foreign settings.origin fields) settings.gate settings.public fields method target
 
 -- the page of a gate, for a clerk
 abbrev pub page_at : Option GateEntry → ℕ → HttpRequestEntry
@@ -131,26 +135,32 @@ abbrev pub console_at : Option GateEntry → HttpRequestEntry
 console_at None = denied NotFound
 console_at (Some gate) = console (page gate.console)
 
+-- what is shown in public, if anything is
+abbrev pub public_at : Option PublicEntry → PublicTarget → HttpRequestEntry
+public_at None what = denied NotFound
+public_at (Some its) what = public its what
+
 -- what is asked of a target; except for a keying and an order, neither the length of a body nor any byte after the head counts
-abbrev pub asked_of : Option GateEntry → Result Target RequestError → Result ℕ RequestError → List ℕ → HttpRequestEntry
-asked_of gate (Ok (target.Keying clerk batch)) size behind = asked_with clerk batch size behind
-asked_of gate (Ok (target.Page clerk)) size behind = page_at gate clerk
-asked_of gate (Ok (target.Leave clerk)) size behind = shown clerk has_left
-asked_of gate (Ok (target.Resource what)) size behind = reading what
-asked_of gate (Ok (target.Office office.ConsolePage)) size behind = console_at gate
-asked_of gate (Ok (target.Office office.Leave)) size behind = console has_left
-asked_of gate (Ok (target.Office office.Orders)) size behind = ordered_with size behind
-asked_of gate (Err why) size behind = denied why
+abbrev pub asked_of : Option GateEntry → Option PublicEntry → Result Target RequestError → Result ℕ RequestError → List ℕ → HttpRequestEntry
+asked_of gate hall (Ok (target.Keying clerk batch)) size behind = asked_with clerk batch size behind
+asked_of gate hall (Ok (target.Page clerk)) size behind = page_at gate clerk
+asked_of gate hall (Ok (target.Leave clerk)) size behind = shown clerk has_left
+asked_of gate hall (Ok (target.Resource what)) size behind = reading what
+asked_of gate hall (Ok (target.Office office.ConsolePage)) size behind = console_at gate
+asked_of gate hall (Ok (target.Office office.Leave)) size behind = console has_left
+asked_of gate hall (Ok (target.Office office.Orders)) size behind = ordered_with size behind
+asked_of gate hall (Ok (target.Public what)) size behind = public_at hall what
+asked_of gate hall (Err why) size behind = denied why
 
 -- what a head and the bytes that follow it ask, by these settings
 abbrev pub asked_by : HttpSettingsEntry → RequestHead → List ℕ → HttpRequestEntry
 asked_by settings head behind =
-    asked_of settings.gate (wanted settings (map name_and_value head.fields) head.method head.target) (body_length (map name_and_value head.fields)) behind
+    asked_of settings.gate settings.public (wanted settings (map name_and_value head.fields) head.method head.target) (body_length (map name_and_value head.fields)) behind
 
 -- the same for a head that was found in what was read, and for the bytes that follow
 abbrev pub asked_at : HttpSettingsEntry → List ℕ → List HeaderSpan → RequestSpans → List ℕ → HttpRequestEntry
 asked_at settings got headers spans left =
-    asked_of settings.gate (wanted settings (map (header_bytes got) (take spans.headers headers)) (span_bytes got spans.method) (span_bytes got spans.path))
+    asked_of settings.gate settings.public (wanted settings (map (header_bytes got) (take spans.headers headers)) (span_bytes got spans.method) (span_bytes got spans.path))
     (body_length (map (header_bytes got) (take spans.headers headers))) (drop spans.len got ++ left)
 
 -- what the bytes that a client sends ask
@@ -173,7 +183,8 @@ abbrev pub TakesOwn : HttpSettingsEntry → List ℕ → Type 0
 TakesOwn settings bytes =
     (head : RequestHead) (behind : List ℕ) → BeginsWith bytes head behind → is_foreign settings.origin (map name_and_value head.fields) ≡ false
     → (asked : HttpRequestEntry) → Asks settings bytes asked
-    → asked ≡ asked_of settings.gate (wanted_behind settings.gate (map name_and_value head.fields) head.method head.target) (body_length (map name_and_value head.fields)) behind
+    → asked ≡ asked_of settings.gate settings.public (wanted_behind settings.gate settings.public (map name_and_value head.fields) head.method head.target)
+    (body_length (map name_and_value head.fields)) behind
 
 -- the clerk under whose number something is asked: the page, signing out, a keying, the work, or the candidates of a batch
 abbrev pub clerk_asked : HttpRequestEntry → Option ℕ
@@ -183,6 +194,7 @@ clerk_asked (keying clerk batch entry) = Some clerk
 clerk_asked (reading what) = reader_of what
 clerk_asked (console show) = None
 clerk_asked (order entry) = None
+clerk_asked (public its what) = None
 
 -- the account whose code is needed for what is asked, if one is
 abbrev pub account_asked : HttpRequestEntry → Option Account
@@ -192,6 +204,7 @@ account_asked (keying clerk batch entry) = Some (Clerk clerk)
 account_asked (reading what) = reading_account what
 account_asked (console show) = Some Office
 account_asked (order entry) = Some Office
+account_asked (public its what) = None
 
 -- A request has an account's code: it has one `Authorization`, and that is this account's.
 pub record HoldsCode (gate : GateEntry) (account : Account) (fields : List NamedValue) : Type 0 where
@@ -222,6 +235,7 @@ MissesBytes (Ok (target.Resource what)) size behind = ⊥
 MissesBytes (Ok (target.Office office.ConsolePage)) size behind = ⊥
 MissesBytes (Ok (target.Office office.Leave)) size behind = ⊥
 MissesBytes (Ok (target.Office office.Orders)) size behind = MissesBody size behind
+MissesBytes (Ok (target.Public what)) size behind = ⊥
 MissesBytes (Err why) size behind = ⊥
 
 -- the same for a head and the bytes that follow it

@@ -117,6 +117,14 @@ abbrev pub shown_response : ShowEntry → ResponseEntry
 shown_response (page its) = record { status = 200; more = guards its.policy; content = Html; body = its.text }
 shown_response has_left = record { status = 200; more = forgets; content = Json; body = codes "{\"left\":true}" }
 
+-- what a browser lets a page do that an order prints: it has styles of its own, and no script
+abbrev pub printed_policy : List ℕ
+printed_policy = codes "default-src 'none'; style-src 'unsafe-inline'; base-uri 'none'; form-action 'none'; frame-ancestors 'none'"
+
+-- a page that an order prints
+abbrev pub printed_response : List ℕ → ResponseEntry
+printed_response text = shown_response (page (record { text = text; policy = printed_policy }))
+
 -- a request is rejected
 abbrev pub denied_response : RequestError → ResponseEntry
 denied_response BadRequest = json_response 400 (codes "{\"error\":\"bad request\"}")

@@ -19,22 +19,26 @@ use Rattle.tables.specs.declared.fault.Fault.{Fault}
 use Rattle.tables.specs.declared.fault.Fault.TheVariants.{Closed, Store}
 use Rattle.office.specs.Answers.{IsClosedIn, IsKeptOpen, IsOpenAt, Told, again, done, no, told_of}
 use Rattle.store.specs.Overviews.{WardView}
-use Rattle.office.specs.Overviews.{batches_told, differences_told, doubtful_told, papers_told, receipts_told}
+use Rattle.office.specs.Index.{index_told}
+use Rattle.office.specs.Overviews.{batches_told, differences_told, doubtful_told, papers_told, receipts_told, wards_told}
 use Rattle.office.specs.Reads.{IsClosedReading, paper_told, work_told}
 use Rattle.office.specs.Sheets.{text_told}
 use Rattle.office.specs.declared.answers.Stop.{Stop}
 use Rattle.office.specs.declared.answers.Stop.TheVariants.{Refused, Fault as Failed}
 use Rattle.office.specs.declared.sheets.Text.TheVariants as text
-use Rattle.wire.specs.Requests.{HttpRequestEntry, Asks, ShowEntry, console, denied, keying, order, reading, shown}
+use Rattle.wire.specs.Requests.{HttpRequestEntry, Asks, ShowEntry, console, denied, keying, order, page, public, reading, shown}
 use Rattle.wire.specs.Bodies.{KeyingEntry}
-use Rattle.wire.specs.Gates.{HttpSettingsEntry}
+use Rattle.wire.specs.Gates.{HttpSettingsEntry, PublicEntry}
 use Rattle.wire.specs.OfficeReads.{WardReadView, ward_read_told, wards_read_told}
 use Rattle.wire.specs.OfficeReplies.{batches_data, differences_data, doubtful_papers_data, papers_data, receipts_data, ward_read_data, wards_data}
+use Rattle.wire.specs.PublicReplies.{page_told, screen_of}
 use Rattle.wire.specs.Replies.{paper_body, work_body}
-use Rattle.wire.specs.Responses.{ResponseEntry, denied_response, fault_response, json_response, refusal_response, reply_response, shown_response, text_response}
+use Rattle.wire.specs.Responses.{ResponseEntry, denied_response, fault_response, json_response, printed_response, refusal_response, reply_response, shown_response, text_response}
 use Rattle.wire.specs.Told.{IsTold, IsWritten, told_bytes}
 use Rattle.wire.specs.declared.office_read.OfficeRead.{OfficeRead}
 use Rattle.wire.specs.declared.office_read.OfficeRead.TheVariants as read
+use Rattle.wire.specs.declared.public_target.PublicTarget.{PublicTarget}
+use Rattle.wire.specs.declared.public_target.PublicTarget.TheVariants as public_target
 use Rattle.wire.specs.declared.request_error.RequestError.{RequestError}
 use Rattle.wire.specs.declared.request_error.RequestError.TheVariants.{NotFound}
 use Rattle.wire.specs.declared.response.Response.{Response}
@@ -96,6 +100,13 @@ reading_response s (Sheet ward) = read_response text_response (text_told text.Sh
 reading_response s (Declaration ward) = read_response text_response (text_told text.Declaration s ward)
 reading_response s (Office its) = office_response s its
 
+-- the response with what is shown in public at a state
+abbrev pub public_response : OfficeState → PublicEntry → PublicTarget → ResponseEntry
+public_response s its public_target.Index = read_response printed_response (index_told its.title s)
+public_response s its public_target.Screen = shown_response (page its.screen)
+public_response s its public_target.Wards = read_response (λ views. data_response (screen_of its.title views)) (wards_told s)
+public_response s its (public_target.Page ward) = read_response printed_response (page_told its.title s ward)
+
 -- the request as which a clerk's keying of a batch is sent to the office
 pub record IsHandedOn (clerk batch : ℕ) (entry : KeyingEntry) (request : Request) : Type 0 where
   pub actor : request.actor ≡ clerk
@@ -119,6 +130,7 @@ IsAnswer s (shown clerk show) next answer = (next ≡ s) × (answer ≡ shown_re
 IsAnswer s (reading what) next answer = (next ≡ s) × (answer ≡ reading_response s what)
 IsAnswer s (console show) next answer = (next ≡ s) × (answer ≡ shown_response show)
 IsAnswer s (order entry) next answer = (next ≡ s) × (answer ≡ denied_response NotFound)
+IsAnswer s (public its what) next answer = (next ≡ s) × (answer ≡ public_response s its what)
 IsAnswer s (keying clerk batch entry) next answer =
     (outcome : Outcome) × IsOutcome s clerk batch entry outcome × (next ≡ state_after s outcome) × (answer ≡ told_response (told_of outcome))
 
@@ -136,6 +148,7 @@ FaultLeaves s (denied why) f closed st = ⊥
 FaultLeaves s (shown clerk show) f closed st = ⊥
 FaultLeaves s (console show) f closed st = ⊥
 FaultLeaves s (order entry) f closed st = ⊥
+FaultLeaves s (public its what) f closed st = IsKeptOpen s f closed st ⊎ IsClosedReading s f closed st
 FaultLeaves s (reading what) f closed st = IsKeptOpen s f closed st ⊎ IsClosedReading s f closed st
 FaultLeaves s (keying clerk batch entry) f closed st =
     (outcome : Outcome) × IsOutcome s clerk batch entry outcome × (IsKeptOpen s f closed st ⊎ IsClosedIn s outcome f closed st)
@@ -164,6 +177,7 @@ TellsAsked s (shown clerk show) response sent = IsTold (shown_response show) res
 TellsAsked s (reading what) response sent = IsTold (reading_response s what) response × (sent ≡ [])
 TellsAsked s (console show) response sent = IsTold (shown_response show) response × (sent ≡ [])
 TellsAsked s (order entry) response sent = IsTold (denied_response NotFound) response × (sent ≡ [])
+TellsAsked s (public its what) response sent = IsTold (public_response s its what) response × (sent ≡ [])
 TellsAsked s (keying clerk batch entry) response sent =
     (request : Request) × IsHandedOn clerk batch entry request × IsTold (told_response (told_of (step_of s request))) response × (sent ≡ request ∷ [])
 
@@ -178,12 +192,20 @@ TellsFor settings bytes s sent response = ((asked : HttpRequestEntry) × IfSome 
 
 -- ---- a closed office
 
+-- its response with what is shown in public: the page for the screen is the same at any state
+abbrev pub closed_public : PublicEntry → PublicTarget → ResponseEntry
+closed_public its public_target.Index = fault_response (fault_number Closed)
+closed_public its public_target.Screen = shown_response (page its.screen)
+closed_public its public_target.Wards = fault_response (fault_number Closed)
+closed_public its (public_target.Page ward) = fault_response (fault_number Closed)
+
 -- Its response to what is asked. What is rejected is rejected, what is shown at any state is shown, and everything else gets the fault that the office is closed.
 abbrev pub closed_response : HttpRequestEntry → ResponseEntry
 closed_response (denied why) = denied_response why
 closed_response (shown clerk show) = shown_response show
 closed_response (console show) = shown_response show
 closed_response (order entry) = denied_response NotFound
+closed_response (public its what) = closed_public its what
 closed_response (reading what) = fault_response (fault_number Closed)
 closed_response (keying clerk batch entry) = fault_response (fault_number Closed)
 

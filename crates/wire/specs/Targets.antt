@@ -12,14 +12,16 @@ use Rattle.matchit.specs.declared.error.InsertError.{InsertError}
 use Rattle.matchit.specs.declared.params.Params.{Params}
 use Rattle.wire.specs.Numbers.{number_in}
 use Rattle.wire.specs.OfficeTargets.{IsReadTarget, read_by}
+use Rattle.wire.specs.PublicTargets.{IsPublicTarget, public_by}
 use Rattle.wire.specs.declared.office_read.OfficeRead.{OfficeRead}
+use Rattle.wire.specs.declared.public_target.PublicTarget.{PublicTarget}
 use Rattle.wire.specs.declared.target.OfficeTarget.{OfficeTarget}
 use Rattle.wire.specs.declared.target.OfficeTarget.TheVariants as office
 use Rattle.wire.specs.declared.target.RouteTarget.{RouteTarget}
 use Rattle.wire.specs.declared.target.RouteTarget.TheVariants as place
 use Rattle.wire.specs.declared.target.Resource.TheVariants.{Candidates, Declaration, Office as Reads, Sheet, Work}
 use Rattle.wire.specs.declared.target.Target.{Target}
-use Rattle.wire.specs.declared.target.Target.TheVariants.{Keying, Leave, Office, Page, Resource}
+use Rattle.wire.specs.declared.target.Target.TheVariants.{Keying, Leave, Office, Page, Public, Resource}
 
 -- the routes with one more
 abbrev pub with_scanned : Result Scan InsertError → RouteTarget → RowsOf (RouteOf RouteTarget) → RowsOf (RouteOf RouteTarget)
@@ -84,15 +86,20 @@ office_by target =
     else (if bytes_eq target (office_path office.Leave) then Some office.Leave
     else (if bytes_eq target (office_path office.Orders) then Some office.Orders else None))
 
--- what a target names that isn't of the console itself: what the console reads, or what its route leads to
-abbrev pub read_or_routed : Option OfficeRead → List ℕ → Option Target
-read_or_routed (Some read) target = Some (Resource (Reads read))
-read_or_routed None target = routed_by target
+-- what a target names that isn't the console's: what is shown in public, or what its route leads to
+abbrev pub public_or_routed : Option PublicTarget → List ℕ → Option Target
+public_or_routed (Some what) target = Some (Public what)
+public_or_routed None target = routed_by target
+
+-- what a target names that isn't of the console itself: what the console reads, or what isn't the console's
+abbrev pub read_or_other : Option OfficeRead → List ℕ → Option Target
+read_or_other (Some read) target = Some (Resource (Reads read))
+read_or_other None target = public_or_routed (public_by target) target
 
 -- what a target names
 abbrev pub named_in : Option OfficeTarget → List ℕ → Option Target
 named_in (Some place) target = Some (Office place)
-named_in None target = read_or_routed (read_by target) target
+named_in None target = read_or_other (read_by target) target
 
 abbrev pub named_by : List ℕ → Option Target
 named_by target = named_in (office_by target) target
@@ -110,6 +117,7 @@ IsTargetOf (Leave clerk) target = (c : List ℕ) × (target ≡ codes "/clerks/"
 IsTargetOf (Resource (Work clerk)) target = (c : List ℕ) × (target ≡ codes "/clerks/" ++ (c ++ codes "/work")) × (number_in c ≡ Some clerk)
 IsTargetOf (Resource (Sheet ward)) target = (w : List ℕ) × (target ≡ codes "/wards/" ++ (w ++ codes "/sheet")) × (number_in w ≡ Some ward)
 IsTargetOf (Office place) target = target ≡ office_path place
+IsTargetOf (Public what) target = IsPublicTarget what target
 IsTargetOf (Resource (Reads read)) target = IsReadTarget read target
 IsTargetOf (Resource (Declaration ward)) target = (w : List ℕ) × (target ≡ codes "/wards/" ++ (w ++ codes "/result")) × (number_in w ≡ Some ward)
 

@@ -15,6 +15,7 @@ ghost use Rattle.wire.specs.Told.{IsTold};
 
 use crate::candidates::paper_body;
 use crate::office_responses::{faulted, refused, replied};
+use crate::public::answer_public;
 use crate::read_responses::answer_office;
 use crate::request::{HttpRequest, Keying};
 use crate::request_error::RequestError;
@@ -142,5 +143,6 @@ pub(crate) fn answer<S: Alter>(
         HttpRequest::Resource(what) => answer_reading(alloc, office, what),
         HttpRequest::ConsolePage(show) => Response::shown(alloc, show),
         HttpRequest::Order(_) => Response::denied(alloc, RequestError::NotFound),
+        HttpRequest::Public(shown, what) => answer_public(alloc, office, shown, what),
     }
 }

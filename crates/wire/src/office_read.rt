@@ -34,14 +34,14 @@ pub enum OfficeRead {
 }
 
 /// Returns the number with which a text begins.
-fn leading_number(text: &[u8]) -> Option<u32>
+pub(crate) fn leading_number(text: &[u8]) -> Option<u32>
     ensures { result ≡ leading_number text.now }
 {
     number_of(&text[..digits_length(text)])
 }
 
 /// Returns what follows the digits with which a text begins.
-fn behind_digits(text: &[u8]) -> &[u8]
+pub(crate) fn behind_digits(text: &[u8]) -> &[u8]
     ensures { result.now ≡ behind_digits text.now }
 {
     &text[digits_length(text)..]

@@ -15,7 +15,7 @@ use crate::console_order::order_of;
 use crate::head::{MAX_HEAD_BYTES, MAX_HEADERS};
 use crate::length::{MAX_BODY_BYTES, body_length};
 use crate::origin::is_foreign;
-use crate::request::{HttpRequest, Keying, asked_for, console_at, page_at, served_at};
+use crate::request::{HttpRequest, Keying, asked_for, console_at, page_at, public_at, served_at};
 use crate::request_error::RequestError;
 use crate::settings::{HttpSettings, Show};
 use crate::target::{OfficeTarget, Resource, Routes, Target};
@@ -126,10 +126,7 @@ impl Head {
         let authentication = authentication_by(settings.gate, account, why);
         let wanted = match why {
             Some(why) => Err(why),
-            None => asked_for(
-                spans.method.of(read),
-                served_at(settings.gate, routes, target),
-            ),
+            None => asked_for(spans.method.of(read), served_at(settings, routes, target)),
         };
         Head {
             wanted,
@@ -146,7 +143,7 @@ impl Head {
         settings: HttpSettings<'a>,
         behind: &[u8],
     ) -> Result<HttpRequest<'a>, AllocError>
-        ensures { IfOk result (λ asked. http_request_entry asked ≡ asked_of (settings_entry settings.entry).gate self.now.wanted self.now.body behind.now) }
+        ensures { IfOk result (λ asked. http_request_entry asked ≡ asked_of (settings_entry settings.entry).gate (settings_entry settings.entry).public self.now.wanted self.now.body behind.now) }
     {
         match self.wanted {
             Ok(Target::Keying { clerk, batch }) => {
@@ -158,6 +155,7 @@ impl Head {
             Ok(Target::Office(OfficeTarget::ConsolePage)) => Ok(console_at(settings.gate)),
             Ok(Target::Office(OfficeTarget::Leave)) => Ok(HttpRequest::ConsolePage(Show::Left)),
             Ok(Target::Office(OfficeTarget::Orders)) => order_in(alloc, self.body, behind),
+            Ok(Target::Public(what)) => Ok(public_at(settings.public, what)),
             Err(why) => Ok(HttpRequest::Denied(why)),
         }
     }

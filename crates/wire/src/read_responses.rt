@@ -37,6 +37,7 @@ use std::alloc::Global;
 use store::Fault;
 use ward::answer_ward;
 use wards::answer_wards;
+pub(crate) use wards::phase_word;
 
 /// Reads for the officer's console, and returns the response. A closed office stays as it is.
 pub(crate) fn answer_office<S: Alter>(

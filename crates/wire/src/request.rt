@@ -2,8 +2,10 @@
 
 ghost use Rattle.std.specs.Prelude.{◌≡◌, ◌≢◌, ◌-◌, ◌^◌, ◌<◌, ◌++◌, IfErr, IfOk, IfSome, List, Ok, OnOk, option_map, ℕ};
 ghost use Rattle.wire.specs.Requests.{Asks, AsksByHolder, AsksOneThing, ShowEntry, DeniesForeign, FailsAfter, IsUnread, IsWanting};
-ghost use Rattle.wire.specs.Requests.{MissesBytes, TakesOwn, http_request_entry, asked_for, asked_of, console_at, page_at, verb_of, verb_text};
-ghost use Rattle.wire.specs.Gates.{GateEntry, HttpSettingsEntry, gate_entry, settings_entry, needs_gate, needs_office, reading_needs_gate, reading_needs_office, served_at};
+ghost use Rattle.wire.specs.Requests.{MissesBytes, TakesOwn, http_request_entry, asked_for, asked_of, console_at, page_at, public_at, verb_of, verb_text};
+ghost use Rattle.wire.specs.Gates.{GateEntry, HttpSettingsEntry, gate_entry, let_through, needs_public, public_entry};
+ghost use Rattle.wire.specs.Gates.{settings_entry, needs_gate, needs_office, reading_needs_gate, reading_needs_office, served_at};
+ghost use Rattle.wire.specs.PublicRequests.{AsksInPublic};
 ghost use Rattle.wire.specs.Targets.{NamesItsOwn, named_by};
 ghost use Rattle.wire.specs.Serving.{IsConsoleAlike, IsDeniedAlike, IsShownAlike};
 ghost use Rattle.wire.specs.declared.request_error.RequestError.{RequestError};
@@ -12,9 +14,10 @@ use crate::body::read_body;
 use crate::console_order::ConsoleOrder;
 use crate::head::{MAX_HEAD_BYTES, MAX_HEADERS, read_head};
 use crate::parsed::Head;
+use crate::public_target::PublicTarget;
 use crate::read_failure::ReadFailure;
 use crate::request_error::{RequestError, Verb};
-use crate::settings::{Gate, HttpSettings, Show};
+use crate::settings::{Gate, HttpSettings, Public, Show};
 use crate::target::{OfficeTarget, Resource, Routes, Target};
 use httparse::spans::EMPTY_HEADER_SPAN;
 use std::alloc::Global;
@@ -46,6 +49,8 @@ pub enum HttpRequest<'a> {
     ConsolePage(Show<'a>),
     /// To follow an order of the office.
     Order(ConsoleOrder),
+    /// To show something in public.
+    Public(Public<'a>, PublicTarget),
 }
 
 impl Verb {
@@ -90,6 +95,7 @@ impl Target {
         match self {
             Target::Keying { .. } | Target::Office(OfficeTarget::Orders) => Verb::Post,
             Target::Page { .. } | Target::Leave { .. } | Target::Resource(_) => Verb::Get,
+            Target::Public(_) => Verb::Get,
             Target::Office(OfficeTarget::ConsolePage | OfficeTarget::Leave) => Verb::Get,
         }
     }
@@ -104,6 +110,7 @@ impl Target {
             Target::Leave { .. } => true,
             Target::Resource(what) => what.needs_gate(),
             Target::Office(_) => true,
+            Target::Public(_) => false,
         }
     }
 
@@ -117,13 +124,21 @@ impl Target {
             Target::Leave { .. } => false,
             Target::Resource(what) => what.needs_office(),
             Target::Office(_) => true,
+            Target::Public(_) => false,
         }
+    }
+
+    /// Returns whether it is served only if something is shown in public.
+    fn needs_public(&self) -> bool
+        ensures { result ≡ needs_public self.now }
+    {
+        matches!(self, Target::Public(_))
     }
 }
 
 /// Returns what a target names, if it is served with this gate, or without a gate.
-pub(crate) fn served_at(gate: Option<Gate<'_>>, routes: &Routes, target: &[u8]) -> Option<Target>
-    ensures { result ≡ served_at (option_map gate_entry gate.entry) (named_by target.now) }
+fn let_through(gate: Option<Gate<'_>>, routes: &Routes, target: &[u8]) -> Option<Target>
+    ensures { result ≡ let_through (option_map gate_entry gate.entry) (named_by target.now) }
 {
     let there = routes.named_by(target)?;
     let is_served = match gate {
@@ -131,6 +146,21 @@ pub(crate) fn served_at(gate: Option<Gate<'_>>, routes: &Routes, target: &[u8]) 
         None => !there.needs_gate(),
     };
     if is_served { Some(there) } else { None }
+}
+
+/// Returns what a target names, if it is served by these settings.
+pub(crate) fn served_at(
+    settings: HttpSettings<'_>,
+    routes: &Routes,
+    target: &[u8],
+) -> Option<Target>
+    ensures { result ≡ served_at (settings_entry settings.entry).gate (settings_entry settings.entry).public (named_by target.now) }
+{
+    let there = let_through(settings.gate, routes, target)?;
+    if there.needs_public() && settings.public.is_none() {
+        return None;
+    }
+    Some(there)
 }
 
 /// Returns what is asked for, if the method is the target's own; and otherwise why the request is rejected.
@@ -168,6 +198,16 @@ pub(crate) fn console_at<'a>(gate: Option<Gate<'a>>) -> HttpRequest<'a>
     }
 }
 
+/// Returns that something is shown in public; if nothing is, the request is rejected.
+pub(crate) fn public_at<'a>(public: Option<Public<'a>>, what: PublicTarget) -> HttpRequest<'a>
+    ensures { http_request_entry result ≡ public_at (option_map public_entry public.entry) what }
+{
+    match public {
+        Some(shown) => HttpRequest::Public(shown, what),
+        None => HttpRequest::Denied(RequestError::NotFound),
+    }
+}
+
 /// Reads the rest of a request whose head was parsed and is followed by these bytes, and returns what the request asks.
 fn read_behind<'a, R: Source>(
     alloc: Global,
@@ -177,7 +217,8 @@ fn read_behind<'a, R: Source>(
     behind: &[u8],
 ) -> Result<HttpRequest<'a>, ReadFailure>
     requires { R.failed reader.old < 2 ^ 64 - 1 }
-    ensures asks { IfSome (R.held reader.old) (λ left. IfOk result (λ asked. http_request_entry asked ≡ asked_of (settings_entry settings.entry).gate head.now.wanted head.now.body
+    ensures asks { IfSome (R.held reader.old) (λ left. IfOk result (λ asked. http_request_entry asked
+        ≡ asked_of (settings_entry settings.entry).gate (settings_entry settings.entry).public head.now.wanted head.now.body
         (behind.now ++ left))) }
     ensures ok { OnOk result (R.failed reader.new ≡ R.failed reader.old) }
     ensures err { IfErr result (IsUnread (R.failed reader.old) (R.failed reader.new)) }
@@ -219,8 +260,8 @@ fn read_from_head<'a, R: Source>(
     read_behind(alloc, settings, reader, &head, &read[front.spans.len..])
 }
 
-/// Reads a request, and returns what it asks, by the settings: the origin of pages that come through a proxy, and the gate, if
-/// any.
+/// Reads a request, and returns what it asks, by the settings: the origin of pages that come through a proxy, the gate, and what is
+/// shown in public, if any.
 ///
 /// A request with a header which shows that a page from elsewhere sent it, or that it came by a foreign name, is `Forbidden`,
 /// whatever else it asks. At a gate a request whose target begins with a clerk's number, such as `/clerks/4/`, is let in only
@@ -228,6 +269,7 @@ fn read_from_head<'a, R: Source>(
 /// is `Unauthorized`, or a `WrongCode`, whatever else it asks. So what is asked under a clerk's number is asked by the holder of
 /// that clerk's code, and what is asked of the console by the holder of the office's. Every other request needs no such check.
 /// The response to a rejected request is the same at every state of the office, and so is what is `Shown`, and the `ConsolePage`.
+/// What is shown in public needs no code, and is there only if the settings have it.
 ///
 /// `Broken` comes only from the source, which then counts one failure more. It comes only while what was read doesn't say yet
 /// what is asked. Once it does, nothing more is read, because the client may wait for its response. Some of the bytes that follow
@@ -235,7 +277,7 @@ fn read_from_head<'a, R: Source>(
 ///
 /// What is asked for depends only on the target, which names exactly what it is the path of. That is one of the seven routes of
 /// this crate, with numbers of 1 to 5 digits in it, the first not 0; or `/office/`, `/office/leave`, `/office/orders` or the path of
-/// a read of the console. Any other target names nothing.
+/// a read of the console. It may also be `/`, `/screen`, `/screen/wards` or the path of a ward's page. Any other target names nothing.
 pub fn read_request<'a, R: Source>(
     alloc: Global,
     settings: HttpSettings<'a>,
@@ -253,6 +295,7 @@ pub fn read_request<'a, R: Source>(
     ensures alike { (why : RequestError) → IsDeniedAlike why }
     ensures shown { (show : ShowEntry) → IsShownAlike show }
     ensures console { (show : ShowEntry) → IsConsoleAlike show }
+    ensures public { (its : HttpSettingsEntry) (bytes : List ℕ) → AsksInPublic its bytes }
     ensures targets { (target : List ℕ) → NamesItsOwn target }
 {
     read_from_head(alloc, settings, reader)

@@ -5,7 +5,7 @@ ghost use Rattle.wire.specs.Told.{IsTold, IsWritten, told_bytes};
 ghost use Rattle.wire.specs.Requests.{has_left, show_entry};
 ghost use Rattle.wire.specs.Gates.{page_entry};
 ghost use Rattle.wire.specs.Responses.{account_kept_out, code_line, denied_response, fault_response, guard_lines, lines_and_body};
-ghost use Rattle.wire.specs.Responses.{media_type, nothing, order_response, phrase, realm_of, response_bytes, shown_response, unauthorized_response, waits_response};
+ghost use Rattle.wire.specs.Responses.{media_type, nothing, order_response, phrase, printed_response, realm_of, response_bytes, shown_response, unauthorized_response, waits_response};
 
 use crate::account::Account;
 use crate::bodies::order_body;
@@ -89,6 +89,10 @@ const NO_CODE: &str = "{\"error\":\"unauthorized\"}";
 /// The response after a failed allocation; it is constant, so it needs none itself.
 const NO_MEMORY: &str =
     "HTTP/1.1 503 Service Unavailable\r\nContent-Type: application/json\r\nContent-Length: 13\r\nConnection: close\r\n\r\n{\"fault\":101}";
+
+/// What a browser lets a page do that an order prints: it has styles of its own, and no script.
+const PRINTED_POLICY: &str =
+    "default-src 'none'; style-src 'unsafe-inline'; base-uri 'none'; form-action 'none'; frame-ancestors 'none'";
 
 /// Returns the response to a request with another method than the one that is served.
 fn only_text(allowed: Verb) -> &'static str
@@ -298,6 +302,14 @@ impl Response {
             Show::Page(page) => Response::of_text(200, page_response_text(alloc, page)),
             Show::Left => Response::left(),
         }
+    }
+
+    /// Returns the response that is a page which an order prints; or the out-of-memory response if the allocation fails.
+    pub(crate) fn printed(alloc: Global, text: &str) -> Response
+        ensures { IsTold (printed_response text.now) result }
+    {
+        let policy = PRINTED_POLICY;
+        Response::of_text(200, page_response_text(alloc, Page { text, policy }))
     }
 
     /// Returns the response to a client that must wait.

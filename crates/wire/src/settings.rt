@@ -19,17 +19,25 @@ pub struct Gate<'a> {
     pub console: Page<'a>,
 }
 
-/// The origin of pages that come through a proxy, and the gate, if any.
+/// What is shown in public: the title of the election, and the page for the screen in the hall.
+#[derive(Clone, Copy)]
+pub struct Public<'a> {
+    pub title: &'a str,
+    pub screen: Page<'a>,
+}
+
+/// The origin of pages that come through a proxy, the gate, and what is shown in public, if any.
 #[derive(Clone, Copy)]
 pub struct HttpSettings<'a> {
     pub origin: Option<Origin<'a>>,
     pub gate: Option<Gate<'a>>,
+    pub public: Option<Public<'a>>,
 }
 
-/// What is shown to a clerk or to the office, independently of the office's state.
+/// What is shown to a clerk, to the office or in public, independently of the office's state.
 #[derive(Clone, Copy)]
 pub enum Show<'a> {
-    /// The page on which the clerk keys, or the console.
+    /// The page on which the clerk keys, the console, or the page for the screen in the hall.
     Page(Page<'a>),
     /// That the clerk or the office is signed out. The browser is to forget the code.
     Left,

@@ -3,10 +3,12 @@
 ghost use Rattle.std.specs.Prelude.{◌≡◌, IfOk};
 ghost use Rattle.matchit.specs.Params.{AllText};
 ghost use Rattle.wire.specs.OfficeTargets.{read_by};
-ghost use Rattle.wire.specs.Targets.{named_at, named_by, office_by, office_routes, parameter, read_or_routed, routed_by, taken_by};
+ghost use Rattle.wire.specs.PublicTargets.{public_by};
+ghost use Rattle.wire.specs.Targets.{named_at, named_by, office_by, office_routes, parameter, public_or_routed, read_or_other, routed_by, taken_by};
 
 use crate::digits::number_in;
 use crate::office_read::{OfficeRead, read_by};
+use crate::public_target::{PublicTarget, public_by};
 use matchit::{InsertError, Params, Router};
 use std::alloc::{AllocError, Global};
 use std::str;
@@ -50,6 +52,8 @@ pub(crate) enum Target {
     Resource(Resource),
     /// Something of the officer's console.
     Office(OfficeTarget),
+    /// Something that is shown in public.
+    Public(PublicTarget),
 }
 
 /// Where a route leads.
@@ -177,13 +181,23 @@ impl Routes {
         }
     }
 
-    /// Returns what a target names that isn't of the console itself: what the console reads, or what its route leads to.
-    fn read_or_routed(&self, target: &[u8]) -> Option<Target>
-        ensures { result ≡ read_or_routed (read_by target.now) target.now }
+    /// Returns what a target names that isn't the console's: what is shown in public, or what its route leads to.
+    fn public_or_routed(&self, target: &[u8]) -> Option<Target>
+        ensures { result ≡ public_or_routed (public_by target.now) target.now }
+    {
+        match public_by(target) {
+            Some(what) => Some(Target::Public(what)),
+            None => self.routed_by(target),
+        }
+    }
+
+    /// Returns what a target names that isn't of the console itself: what the console reads, or what isn't the console's.
+    fn read_or_other(&self, target: &[u8]) -> Option<Target>
+        ensures { result ≡ read_or_other (read_by target.now) target.now }
     {
         match read_by(target) {
             Some(read) => Some(Target::Resource(Resource::Office(read))),
-            None => self.routed_by(target),
+            None => self.public_or_routed(target),
         }
     }
 
@@ -193,7 +207,7 @@ impl Routes {
     {
         match office_by(target) {
             Some(place) => Some(Target::Office(place)),
-            None => self.read_or_routed(target),
+            None => self.read_or_other(target),
         }
     }
 }

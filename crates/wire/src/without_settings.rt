@@ -40,6 +40,7 @@ pub fn serve_one<R: Source, W: Sink, S: Alter>(
     let settings = HttpSettings {
         origin: None,
         gate: None,
+        public: None,
     };
     crate::serving::serve_one(alloc, settings, reader, writer, office)
 }

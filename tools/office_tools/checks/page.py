@@ -1,9 +1,10 @@
-"""Checks that the pages for clerks and for the returning officer may run their own script and style, and nothing else.
+"""Checks that the pages for clerks, for the returning officer and for the hall may run their own script and style, and nothing else.
 
-A page of crates/keying_page or crates/console_page is ASCII, has one script and one style, loads nothing from elsewhere, makes no markup
-of a text, and has no style or handler in an attribute, which its policy forbids. The page and the policy that the code of the crate makes
-are those of the crate's definitions, byte for byte, and the policy has the SHA-256 of the page's script and style. If COUNT_OFFICE names a
-program, it serves an office, and both pages and the policies of their responses are compared with the sources, byte for byte.
+A page of crates/keying_page, console_page or screen_page is ASCII, has one script and one style, loads nothing from elsewhere, makes no
+markup of a text, and has no style or handler in an attribute, which its policy forbids. The page and the policy that the code of the
+crate makes are those of the crate's definitions, byte for byte, and the policy has the SHA-256 of the page's script and style. If
+COUNT_OFFICE names a program, it serves an office, and the pages that it serves and the policies of their responses are compared with the
+sources, byte for byte.
 """
 import base64
 import hashlib
@@ -19,10 +20,10 @@ FORMAT = re.compile(r'format!\(in alloc;\s*"(.*?)"\s*\)', re.DOTALL)
 HASHED = re.compile(r"let (\w+) = hash_source\(alloc, (\w+)\.as_bytes\(\)\)")
 # What a definition is made of: a text, a constant, how a policy names a text, or another definition by its name.
 PIECE = re.compile(r'codes "([^"]*)"|([A-Z]+)\.now|hash_source (\w+)|\b(?:its_)?(script|style)\b')
-PAGES = KEYING, CONSOLE = "keying_page", "console_page"
+PAGES = KEYING, CONSOLE, SCREEN = "keying_page", "console_page", "screen_page"
 PARTS, CLERK = ("script", "style"), 4
-# Where a program serves a page, and to whom.
-SERVED = {KEYING: (f"/clerks/{CLERK}/", CLERK, CODES[CLERK]), CONSOLE: ("/office/", "office", OFFICE_CODE)}
+# Where a program serves a page, and to whom: the last one to anyone.
+SERVED = {KEYING: (f"/clerks/{CLERK}/", CLERK, CODES[CLERK]), CONSOLE: ("/office/", "office", OFFICE_CODE), SCREEN: ("/screen", "", "")}
 FORBIDDEN = {
     "a text from elsewhere": r"""(?i)\b(src|href)\s*=(?!\s*["']?data:,)|@import|\burl\(|https?://""",
     "markup made of a text": r"innerHTML|outerHTML|insertAdjacentHTML|document\.write|\beval\b|new Function|DOMParser",
@@ -88,8 +89,9 @@ def wrong_defined(crate):
 
 def wrong_served(crate, target, name, code):
     """Returns what of the page that a program serves at a target, and of its policy, is otherwise than in the sources."""
-    with temporary_folder() as folder, evening_office(folder, CODES | {"office": OFFICE_CODE}).serve("--codes", "codes.txt") as serving:
-        head, _, served = serving.ask(request(target, f"Authorization: {basic(name, code)}")).decode().partition("\r\n\r\n")
+    codes, headers = CODES | {"office": OFFICE_CODE}, [f"Authorization: {basic(name, code)}"] if name else []
+    with temporary_folder() as folder, evening_office(folder, codes).serve("--codes", "codes.txt", "--public") as serving:
+        head, _, served = serving.ask(request(target, *headers)).decode().partition("\r\n\r\n")
     page, policy = page_of_sources(crate)
     told = re.search(r"(?i)^content-security-policy: (.*?)\r?$", head, re.M)[1]
     wrong = [] if served == page else ["the page that is served isn't that of the sources"]

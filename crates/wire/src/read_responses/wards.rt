@@ -20,7 +20,7 @@ use std::alloc::{AllocError, Global};
 use store::WardOverview;
 
 /// Returns a phase, in a word.
-fn phase_word(phase: Phase) -> &'static str
+pub(crate) fn phase_word(phase: Phase) -> &'static str
     ensures { result.now ≡ phase_word phase }
 {
     match phase {

@@ -80,6 +80,19 @@ returns-in-ConsolePage-clause-served g c = λ number moment.
           (keeps_same its (state g.S.Store) c.args.office.now did.new.office kept c.args.got.now asked asks tt (did.ensures.only tt)),
     )
 
+pub returns-in-Public-clause-served : goal.returns-in-Public-clause-served
+returns-in-Public-clause-served g c = λ number moment.
+    let its = settings_entry c.args.server_settings.http in
+    let did = c.response_to-bytes-in-Public in
+    let kept = memory_entry c.args.kept.now in
+    let asked = http_request_entry (variant.Public c.in-Public.shown c.in-Public.what) in
+    let asks = subst (λ (a : HttpRequest). Asks its c.args.got.now (http_request_entry a)) c.in-Public.is (c.in-Ok.ensures c.requires) in
+    inl (
+      asks_no_order its c.args.got.now asked asks refl,
+      served_anew its (state g.S.Store) c.args.office.now did.new.office kept kept number moment c.args.got.now asked did.result.0.items asks did.ensures.answers
+          (keeps_same its (state g.S.Store) c.args.office.now did.new.office kept c.args.got.now asked asks tt (did.ensures.only tt)),
+    )
+
 pub returns-in-Order-clause-served : goal.returns-in-Order-clause-served
 returns-in-Order-clause-served g c = λ number moment.
     let its = settings_entry c.args.server_settings.http in

@@ -3,6 +3,7 @@ use Rattle.wire.specs.Gates.{settings_entry}
 use Rattle.wire.proofs.RequestLemmas.{AsksOneThing-all, DeniesForeign-all, TakesOwn-all}
 use Rattle.wire.proofs.GateLemmas.{AsksByHolder-all}
 use Rattle.wire.proofs.PathLemmas.{NamesItsOwn-all}
+use Rattle.wire.proofs.PublicRequestLemmas.{AsksInPublic-all}
 use Rattle.wire.proofs.ServingLemmas.{IsConsoleAlike-all, IsDeniedAlike-all, IsShownAlike-all}
 use Rattle.wire.proofs.request.read_request.Goals as goal
 
@@ -29,3 +30,6 @@ returns-clause-shown g c = IsShownAlike-all
 
 pub returns-clause-console : goal.returns-clause-console
 returns-clause-console g c = IsConsoleAlike-all
+
+pub returns-clause-public : goal.returns-clause-public
+returns-clause-public g c = AsksInPublic-all

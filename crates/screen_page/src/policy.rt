@@ -1,0 +1,36 @@
+//! The policy of the page: what a browser lets it do.
+
+ghost use Rattle.std.specs.Prelude.{◌≡◌, IfOk, string_bytes};
+ghost use Rattle.screen_page.specs.Page.{policy_text};
+ghost use Rattle.screen_page.specs.Policies.{hash_source};
+
+use crate::script::script_text;
+use crate::stylesheet::STYLE;
+use base64::engine::general_purpose::STANDARD;
+use sha2::{Digest, Sha256};
+use std::alloc::{AllocError, Global};
+
+#[tactic(auto, unfolding(crate::specs::Policies::hash_source))]
+/// Returns how a policy names a text that a browser may run: by its SHA-256, in base64.
+fn hash_source(alloc: Global, text: &[u8]) -> Result<String, AllocError>
+    ensures { IfOk result (λ source. string_bytes source ≡ hash_source text.now) }
+{
+    let digest: [u8; 32] = Sha256::digest(text);
+    let encoded = STANDARD.encode(alloc, &digest)?;
+    format!(in alloc; "'sha256-{encoded}'")
+}
+
+#[tactic(auto, unfolding(crate::specs::Page::policy_text, crate::specs::Policies::policy_of))]
+/// Returns the policy of the page, for the header `Content-Security-Policy`. A browser runs no other script, uses no other
+/// style, and sends no request elsewhere. The only error is that an allocation failed.
+pub fn policy_text(alloc: Global) -> Result<String, AllocError>
+    ensures { IfOk result (λ policy. string_bytes policy ≡ policy_text) }
+{
+    let text = script_text(alloc)?;
+    let script = hash_source(alloc, text.as_bytes())?;
+    let style = hash_source(alloc, STYLE.as_bytes())?;
+    format!(in alloc;
+        "default-src 'none'; script-src {script}; style-src {style}; img-src data:; connect-src 'self'; \
+base-uri 'none'; form-action 'none'; frame-ancestors 'none'; require-trusted-types-for 'script'; trusted-types 'none'"
+    )
+}
