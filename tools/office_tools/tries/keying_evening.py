@@ -17,7 +17,7 @@ from office_tools.office import Wrong, free_port, temporary_folder
 from office_tools.tables import Table
 from office_tools.web import HERE, Proxy
 
-ASKED = re.compile(r"(GET /clerks/\d+/(work|leave|batches/\d+/candidates)?|POST /clerks/\d+/batches/\d+/keying) HTTP/1.1")
+ASKED = re.compile(r"(GET /clerks/\d+/(work|leave|batches/\d+/(candidates|keyed))?|POST /clerks/\d+/batches/\d+/keying) HTTP/1.1")
 
 
 def made_up(size, columns, chance):
@@ -102,6 +102,7 @@ class Evening:
             try:
                 self.key(four, nine)
                 self.send(four, nine)
+                self.go_through(four)
                 print_keys(self.papers, four.keys)
                 self.leave(four, nine)
             finally:
@@ -160,6 +161,24 @@ class Evening:
             receipts = [subject for actor, _, subject, _ in rows["receipt"] if actor == teller.clerk]
             if receipts != ["key 12 1"] or teller.browser.value("Object.keys(localStorage).length"):
                 raise Wrong(f"clerk {teller.clerk} has {receipts}, or something of his keying stays in the browser")
+
+    def go_through(self, four):
+        """Batch 14 differs, and is opened again: clerk 4 goes through his own keying of it, mends its paper, and sends it."""
+        for line in ("key 4 14 1 1,2,,, --id k2", "key 9 14 1 1,,2,, --id k2", "again 14 --id r14"):
+            self.office.do(*line.split())
+        four.log_in()
+        four.said("round 2", "list")
+        four.press("Tab", "Enter")
+        four.shows("start")
+        four.press("Enter", at=1)
+        four.said("1 Ann2 Bob", "read-marks")
+        four.picture("read")
+        four.press("Delete", "1", "0", "2", "Enter")
+        four.said("Mended: 1 paper", "summary")
+        four.press("s")
+        four.said("batch 14 round 2 keyed")
+        if [row[-1] for row in self.office.rows()["keying"] if row[:3] == (14, 2, 4)] != ["1,,2,,"]:
+            raise Wrong("clerk 4's second keying of batch 14 isn't what was mended")
 
     def leave(self, four, nine):
         """Checks that the page asked nothing but what is its clerk's, and broke no policy. Who leaves is asked for his code again."""
