@@ -5,7 +5,8 @@ use Rattle.serde_json.specs.Data.{Data}
 use Rattle.register.specs.Status.{BallotPaperEntry, WorkEntry}
 use Rattle.serde_json.proofs.OnLiterals.{serde_json_on_literals}
 use Rattle.store.specs.EarlierKeyings.{KeyedRoundEntry}
-use Rattle.wire.specs.Replies.{candidate_data, clerk_data, fault_body, fault_data, keyed_data, list_data, marks_data, number_data, paper_data, refusal_body, refusal_data, reply_body, reply_data, work_data}
+use Rattle.wire.specs.Replies.{candidate_data, clerk_data, fault_body, fault_data, keyed_data, list_data, marks_data, number_data, paper_data}
+use Rattle.wire.specs.Replies.{refusal_body, refusal_data, reply_body, reply_data, work_data}
 
 pub reply_body-written : (text : List ℕ) → compact_text (reply_data text) ≡ reply_body text
 unfolding serde_json_on_literals
