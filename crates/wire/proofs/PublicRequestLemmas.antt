@@ -108,7 +108,7 @@ shown-by-settings gate (Some shows) (Ok (target.Public what)) size behind its is
 -- ---- of any bytes
 
 pub AsksInPublic-all : (settings : HttpSettingsEntry) (bytes : List ℕ) → AsksInPublic settings bytes
-AsksInPublic-all settings bytes = record { target = at; settings = by }
+AsksInPublic-all settings bytes = record { target = at; shown = by }
   where
     at : (head : RequestHead) (behind : List ℕ) → BeginsWith bytes head behind → is_foreign settings.origin (map name_and_value head.fields) ≡ false
         → (what : PublicTarget) → IsPublicTarget what head.target → (asked : HttpRequestEntry) → Asks settings bytes asked → IsAskedInPublic settings head.method what asked

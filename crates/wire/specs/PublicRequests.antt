@@ -20,4 +20,4 @@ pub record IsAskedInPublic (settings : HttpSettingsEntry) (method : List ℕ) (w
 pub record AsksInPublic (settings : HttpSettingsEntry) (bytes : List ℕ) : Type 0 where
   pub target : (head : RequestHead) (behind : List ℕ) → BeginsWith bytes head behind → is_foreign settings.origin (map name_and_value head.fields) ≡ false
       → (what : PublicTarget) → IsPublicTarget what head.target → (asked : HttpRequestEntry) → Asks settings bytes asked → IsAskedInPublic settings head.method what asked
-  pub settings : (its : PublicEntry) (what : PublicTarget) → Asks settings bytes (public its what) → settings.public ≡ Some its
+  pub shown : (its : PublicEntry) (what : PublicTarget) → Asks settings bytes (public its what) → settings.public ≡ Some its
