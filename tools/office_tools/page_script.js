@@ -277,7 +277,7 @@ const PLANTED = {
   'the keying of another batch is sent': ['ask(`batches/${sent.batch}/keying`', 'ask(`batches/13/keying`'],
   'the office is asked for another clerk\u2019s work': ['await ask(\'work\')', 'await ask(\'../9/work\')'],
   'an earlier keying is sent without a look at its papers': ['state: EARLIER, column', 'state: KEYED, column'],
-  'what is mended of an earlier keying isn\u2019t sent': ['papers: rows.map((it) => it.text)', 'papers: rows.map((it) => it.was ?? it.text)'],
+  'what is mended isn\u2019t sent': ['papers: rows.map((it) => it.text)', 'papers: rows.map((it) => it.was ?? it.text)'],
   'an earlier keying is shown beside other names': ['isolated(candidates[column].name))]', 'isolated(candidates[0].name))]'],
   'the keying of another clerk is gone through': ['ask(`batches/${work.batch}/keyed`)', 'ask(`../9/batches/${work.batch}/keyed`)'],
   'a keying of this round is gone through': ['says.round < round', 'says.round <= round'],

@@ -14,14 +14,14 @@ pub loop-round-preserved : goal.loop-round-preserved
 loop-round-preserved g c = loads_as (loads_both c.loop-round.invariant c.in_ok-papers.ensures)
     (λ s is told.
     let not_keyed : is_keyed (keying_of s c.args.batch c.loop-round.round c.args.clerk) ≡ false =
-        ap is_keyed (sym told.1) ∙ ap (λ ks. is_keyed (map keyed_entry ks)) (sym c.deref.ensures.value) ∙ sym c.is_keyed.ensures ∙ c.if-is_keyed.false in
+    ap is_keyed (sym told.1) ∙ ap (λ ks. is_keyed (map keyed_entry ks)) (sym c.deref.ensures.value) ∙ sym c.is_keyed.ensures ∙ c.if-is_keyed.false in
     told.0 ∙ keyed_before s c.args.batch c.args.clerk c.loop-round.round c.loop-round-test.true not_keyed)
 
 pub returns-then-is_keyed : goal.returns-then-is_keyed
 returns-then-is_keyed g c = loads_as (loads_both c.loop-round.invariant c.in_ok-papers.ensures)
     (λ s is told.
     let keyed : is_keyed (keying_of s c.args.batch c.loop-round.round c.args.clerk) ≡ true =
-        ap is_keyed (sym told.1) ∙ ap (λ ks. is_keyed (map keyed_entry ks)) (sym c.deref.ensures.value) ∙ sym c.is_keyed.ensures ∙ c.if-is_keyed.true in
+    ap is_keyed (sym told.1) ∙ ap (λ ks. is_keyed (map keyed_entry ks)) (sym c.deref.ensures.value) ∙ sym c.is_keyed.ensures ∙ c.if-is_keyed.true in
     ap (λ (ks : List KeyedEntry). Some (record { round = c.loop-round.round; papers = ks })) told.1
     ∙ keyed_here s c.args.batch c.args.clerk c.loop-round.round c.loop-round-test.true keyed
     ∙ sym told.0)
