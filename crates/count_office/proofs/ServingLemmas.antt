@@ -6,6 +6,7 @@ use Rattle.sqlite.specs.State.{State}
 use Rattle.connections.specs.Streams.{Stream}
 use Rattle.connections.specs.Tables.{NetworkEntry}
 use Rattle.office.specs.Values.{OfficeValue}
+use Rattle.wire.specs.Gates.{PublicEntry}
 use Rattle.wire.specs.Origins.{given_by}
 use Rattle.desk.specs.declared.lines.Failure.{Failure}
 use Rattle.server.specs.Settings.{ServerSettingsEntry}
@@ -32,14 +33,18 @@ given_for serving codes_at gate_files numbers settings gate (is, file) = record 
 }
 
 -- the office was served on a network that was opened on a port and closed again
-pub served_on : {L S : Type 0} (serving : Serving) (gate_files : Option GateFiles) (numbers : Option FileNumbers) (file : FileNumbers) (whole : Option Bool)
+pub served_on : {L S : Type 0} (serving : Serving) (gate_files : Option GateFiles) (public : Option PublicEntry) (numbers : Option FileNumbers) (file : FileNumbers) (whole : Option Bool)
     (stream : Stream L) (state_of : Held S → State)
     (before opened later : ℕ → NetworkEntry L) (first last : NetworkEntry L) (old new : OfficeValue S) (ends : Result (Unit {0}) ServeError)
     → opened ≡ before → first ≡ before serving.port → later serving.port ≡ last → IsElsewhereSame serving.port opened later → IfSome numbers (λ known. file ≡ known)
-    → ServesAtNetwork (settings_with (given_by serving.origin) (option_map gate_at gate_files) (public_in serving) file whole) stream state_of first last serving.connections old new ends
+    → public ≡ public_in serving
+    → ServesAtNetwork (settings_with (given_by serving.origin) (option_map gate_at gate_files) public file whole) stream state_of first last serving.connections old new ends
     → MayServe (IsGivenBy serving gate_files numbers) stream state_of serving.port before later serving.connections old new (outcome_by ends)
-served_on serving gate_files numbers file whole stream state_of before opened later first last old new ends same began closed elsewhere is_file served =
+served_on serving gate_files public numbers file whole stream state_of before opened later first last old new ends same began closed elsewhere is_file shown given =
     let settings = settings_with (given_by serving.origin) (option_map gate_at gate_files) (public_in serving) file whole in
+    let by = λ (its : Option PublicEntry). ServesAtNetwork (settings_with (given_by serving.origin) (option_map gate_at gate_files) its file whole) stream state_of first last serving.connections
+    old new ends in
+    let served = subst by shown given in
     let at = λ (one other : NetworkEntry _). ServesAtNetwork settings stream state_of one other serving.connections old new ends in
     inr (
       settings,

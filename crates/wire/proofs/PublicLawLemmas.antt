@@ -2,21 +2,21 @@
 use Rattle.std.proofs.Common.{◌≡◌, ◌∙◌, ◌&&◌, ◌==◌, Bool, true, false, ℕ, List, [], ◌∷◌, Option, Some, None, Result, Ok, Err, ap, map, refl, sym}
 use Rattle.std.specs.Prelude.{find, if◌then◌else◌, is_some, length}
 use Rattle.std.specs.Ordering.{is_eq}
-use Rattle.std.specs.List.{All, filter, list_all}
+use Rattle.std.specs.List.{All, list_all}
 use Rattle.std.proofs.lemmas.Bool.{eqb-true}
 use Rattle.std.proofs.lemmas.List.Elements.{All-cons, All-head, All-nil, All-tail}
 use Rattle.register.specs.Elections.{ElectionEntry, elected_of, election_of, is_counted, is_counted_right, is_declared, is_uncounted}
-use Rattle.register.specs.Offices.{OfficeState, WardEntry, ward_at, ward_compared}
+use Rattle.register.specs.Offices.{CandidateEntry, OfficeState, WardEntry, ward_at, ward_compared}
 use Rattle.register.specs.Ranges.{is_ward_number}
 use Rattle.register.specs.StateConditions.{IsState, all_counted}
+use Rattle.register.specs.Status.{status_of}
 use Rattle.register.specs.declared.phase.Phase.{Phase}
 use Rattle.register.specs.declared.phase.Phase.TheVariants.{Nominations, Keying, Sealed, Declared}
 use Rattle.register.specs.declared.refusal.Reason.{Reason}
 use Rattle.register.specs.declared.refusal.Reason.TheVariants.{WrongPhase}
-use Rattle.sheet.specs.Index.{ListedEntry, index}
 use Rattle.store.specs.Overviews.{ward_view_of, ward_views}
-use Rattle.office.specs.Index.{is_among_elected, listed_shown, standing_in}
-use Rattle.office.specs.Sheets.{candidate_shown, result_page_of}
+use Rattle.office.specs.Index.{listed_shown}
+use Rattle.office.specs.Sheets.{result_page_of}
 use Rattle.wire.specs.Gates.{PublicEntry}
 use Rattle.wire.specs.PublicLaws.{AlikeShowAlike, AreAlikeInPublic, ListsUnsealed, RestsOnWards}
 use Rattle.wire.specs.PublicReplies.{page_found, page_told, screen_data, screen_of, screen_ward_data}
@@ -40,29 +40,34 @@ RestsOnWards-all title s = ap (screen_data title) (wards-again s s.wards)
 abbrev IsSameOnceSealed : OfficeState → OfficeState → WardEntry → Type 0
 IsSameOnceSealed s t w = is_counted w.phase ≡ true → election_of t w ≡ election_of s w
 
--- those elected in an election, once its ward is in this phase
-abbrev listed_in : Phase → ElectionEntry → List (ℕ × List ℕ)
-listed_in phase e =
-    map candidate_shown (filter (is_among_elected (if is_declared phase then Some (elected_of e) else None)) (if is_declared phase then e.candidates else []))
+-- those elected in an election and its candidates, once its ward is declared
+abbrev Told : Type 0
+Told = Option (List ℕ) × List CandidateEntry
 
-listed-same : (phase : Phase) (one other : ElectionEntry) → (is_counted phase ≡ true → one ≡ other) → listed_in phase one ≡ listed_in phase other
-listed-same Nominations one other same = refl
-listed-same Keying one other same = refl
-listed-same Sealed one other same = refl
-listed-same Declared one other same = ap (listed_in Declared) (same refl)
+abbrev told_in : Phase → ElectionEntry → Told
+told_in phase e = (if is_declared phase then Some (elected_of e) else None, if is_declared phase then e.candidates else [])
 
--- a ward, with those elected
-abbrev listed : WardEntry → List (ℕ × List ℕ) → ListedEntry
-listed w elected = record { number = w.number; name = w.name; seats = w.seats; standing = standing_in w.phase; elected = elected }
+told-same : (phase : Phase) (one other : ElectionEntry) → (is_counted phase ≡ true → one ≡ other) → told_in phase one ≡ told_in phase other
+told-same Nominations one other same = refl
+told-same Keying one other same = refl
+told-same Sealed one other same = refl
+told-same Declared one other same = ap (told_in Declared) (same refl)
 
 ward-same : (s t : OfficeState) (w : WardEntry) → IsSameOnceSealed s t w → listed_shown (ward_view_of t w) ≡ listed_shown (ward_view_of s w)
-ward-same s t w same = ap (listed w) (listed-same w.phase (election_of t w) (election_of s w) same)
+ward-same s t w same =
+    ap (λ (told : Told). listed_shown (record { ward = w; status = status_of s w; elected = told.0; candidates = told.1 })) (told-same w.phase (election_of t w) (election_of s w) same)
+
+both-same : {X : Type 0} (x y : X) (xs ys : List X) → x ≡ y → xs ≡ ys → x ∷ xs ≡ y ∷ ys
+both-same x y xs ys first rest = ap (λ (z : X). z ∷ xs) first ∙ ap (λ (zs : List X). y ∷ zs) rest
 
 all-listed : (s t : OfficeState) (wards : List WardEntry) → All (IsSameOnceSealed s t) wards → map listed_shown (map (ward_view_of t) wards) ≡ map listed_shown (map (ward_view_of s) wards)
 all-listed s t [] same = refl
 all-listed s t (w ∷ wards) same =
-    ap (λ (x : ListedEntry). x ∷ map listed_shown (map (ward_view_of t) wards)) (ward-same s t w (All-head (IsSameOnceSealed s t) w wards same))
-    ∙ ap (λ (xs : List ListedEntry). listed_shown (ward_view_of s w) ∷ xs) (all-listed s t wards (All-tail (IsSameOnceSealed s t) w wards same))
+    both-same (listed_shown (ward_view_of t w)) (listed_shown (ward_view_of s w)) (map listed_shown (map (ward_view_of t) wards)) (map listed_shown (map (ward_view_of s) wards))
+    (ward-same s t w (All-head (IsSameOnceSealed s t) w wards same)) (all-listed s t wards (All-tail (IsSameOnceSealed s t) w wards same))
+
+views-listed : (s t : OfficeState) → AreAlikeInPublic s t → map listed_shown (ward_views t) ≡ map listed_shown (ward_views s)
+views-listed s t alike = ap (λ (wards : List WardEntry). map listed_shown (map (ward_view_of t) wards)) alike.wards ∙ all-listed s t s.wards alike.sealed
 
 -- the page of a ward
 abbrev page_once_sealed : List ℕ → Bool → ElectionEntry → Result (List ℕ) Reason
@@ -94,9 +99,7 @@ page-alike title ward s t alike = by (is_ward_number ward) refl
     by false is = rw is refl
 
 pub AlikeShowAlike-all : AlikeShowAlike
-AlikeShowAlike-all its Index s t alike =
-    ap (λ (wards : List WardEntry). printed_response (index its.title (map listed_shown (map (ward_view_of t) wards)))) alike.wards
-    ∙ ap (λ (all : List ListedEntry). printed_response (index its.title all)) (all-listed s t s.wards alike.sealed)
+AlikeShowAlike-all its Index s t alike = rw (views-listed s t alike) refl
 AlikeShowAlike-all its Screen s t alike = refl
 AlikeShowAlike-all its Wards s t alike =
     ap data_response (RestsOnWards-all its.title t ∙ ap (screen_data its.title) alike.wards ∙ sym (RestsOnWards-all its.title s))
