@@ -6,6 +6,7 @@ ghost use Rattle.register.specs.Offices.{keyed_entry};
 ghost use Rattle.store.specs.EarlierKeyings.{keyed_round_entry};
 ghost use Rattle.wire.specs.Replies.{keyed_data, list_data, marks_data};
 ghost use Rattle.wire.specs.Serving.{IsReadTold, earlier_response};
+ghost use Rattle.wire.specs.Told.{IsTold};
 
 use crate::office_responses::{faulted, refused, valued};
 use crate::request_error::RequestError;
@@ -42,8 +43,17 @@ fn keyed_value(alloc: Global, batch: u32, keyed: &KeyedRound) -> Result<Value, A
     json!(in alloc; {"batch": batch, "papers": papers, "round": keyed.round})
 }
 
-/// Returns the response with what a clerk keyed of a batch in an earlier round, or with the refusal or fault. If the clerk
-/// keyed no earlier round, nothing is found.
+/// Returns the response with what a clerk keyed of a batch in an earlier round. If the clerk keyed none, nothing is found.
+fn answer_found(alloc: Global, batch: u32, found: Option<KeyedRound>) -> Response
+    ensures { IsTold (earlier_response batch (option_map keyed_round_entry found)) result }
+{
+    match found {
+        Some(keyed) => valued(alloc, keyed_value(alloc, batch, &keyed)),
+        None => Response::denied(alloc, RequestError::NotFound),
+    }
+}
+
+/// Returns the response with what a clerk keyed of a batch in an earlier round, or with the refusal or fault.
 pub(crate) fn answer_earlier(
     alloc: Global,
     batch: u32,
@@ -52,8 +62,7 @@ pub(crate) fn answer_earlier(
     ensures { IsReadTold (earlier_response batch) (option_map keyed_round_entry) told result }
 {
     match told {
-        Ok(Some(keyed)) => valued(alloc, keyed_value(alloc, batch, &keyed)),
-        Ok(None) => Response::denied(alloc, RequestError::NotFound),
+        Ok(found) => answer_found(alloc, batch, found),
         Err(Stop::Refused(why)) => refused(alloc, &why),
         Err(Stop::Fault(fault)) => faulted(alloc, fault),
     }
