@@ -7,3 +7,4 @@ pub mod EarlierKeyings
 pub mod Sheets
 pub mod Index
 pub mod Overviews
+pub mod Decisions

@@ -27,12 +27,12 @@ use register::{Command, Decision, Request};
 use sqlite::{Alter, Connection};
 use std::alloc::Global;
 use std::marker::Model;
-use store::{Fault, Store};
+use store::{Fault, Keeper};
 
 /// An office in a store. A fault inside a transaction closes it, and so does any fault but out of memory; then each
 /// call but `into_connection` returns `Closed`, until the office is reopened.
 pub struct Office<S: Alter> {
-    pub(crate) store: Store<S>,
+    pub(crate) store: Keeper<S>,
     pub(crate) closed: bool,
     pub(crate) alloc: Global,
 }
@@ -65,7 +65,7 @@ impl<S: Alter> Office<S> {
         ensures wrong { has_some_table (state S.Store conn).now.schema ≡ true → conn.in_transaction ≡ false → IfErr result (λ e. e.0 ≡ Fault.WrongDatabase) }
         ensures told { IfErr result (λ e. (e.0 ≡ Fault.Memory) ⊎ ((e.0 ≡ Fault.Store) ⊎ ((e.0 ≡ Fault.WrongDatabase) × (has_some_table (state S.Store conn).now.schema ≡ true) × (e.1 ≡ conn)))) }
     {
-        match Store::create(alloc, conn) {
+        match Keeper::create(alloc, conn) {
             Ok(store) => Ok(Office {
                 store,
                 closed: false,
@@ -99,7 +99,7 @@ impl<S: Alter> Office<S> {
         ensures alone { (db : Database) → (s t : OfficeState) → HoldsState db s → HoldsState db t → s ≡ t }
         ensures equal { (s t : OfficeState) → IsState s → IsState t → SameContents (tables_of s) (tables_of t) → s ≡ t }
     {
-        match Store::open_from(alloc, conn) {
+        match Keeper::open_from(alloc, conn) {
             Ok(store) => Ok(Office {
                 store,
                 closed: false,

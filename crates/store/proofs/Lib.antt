@@ -24,3 +24,8 @@ pub mod SettledLemmas
 pub mod MigrationLemmas
 pub mod OverviewLemmas
 pub mod PileLemmas
+pub mod MemoryLemmas
+pub mod KeeperLemmas
+pub mod TwinLemmas
+pub mod KnownLemmas
+pub mod SchemaLemmas

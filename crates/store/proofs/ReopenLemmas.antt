@@ -36,7 +36,7 @@ sound : (c : Contents) (db : Database) → IsOffice c db → IsDatabase db
 unfolding IsOffice
 sound c db office = office.sound
 
-begins : (c : Contents) (db : Database) → IsOffice c db → IsOfficeSchema db.schema
+pub begins : (c : Contents) (db : Database) → IsOffice c db → IsOfficeSchema db.schema
 unfolding IsOffice
 begins c db office = office.begins
 

@@ -20,12 +20,12 @@ use Rattle.store.specs.Tallies.{tally_by, IsTally}
 
 -- ---- one batch
 
-one_there : (b : BatchEntry) (q : Bool) → cond q 1 0 ≡ length (cond q (b ∷ []) [])
+pub one_there : (b : BatchEntry) (q : Bool) → cond q 1 0 ≡ length (cond q (b ∷ []) [])
 one_there b true = refl
 one_there b false = refl
 
 -- a batch that isn't taken has no open paper
-open_there : (s : OfficeState) (b : BatchEntry) → open_in s b ≡ open_among s (cond (is_taken s b) (b ∷ []) [])
+pub open_there : (s : OfficeState) (b : BatchEntry) → open_in s b ≡ open_among s (cond (is_taken s b) (b ∷ []) [])
 open_there s b = go (taken_papers s b) refl
   where
     plus : (n : ℕ) → n ≡ n + 0

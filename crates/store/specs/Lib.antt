@@ -13,3 +13,4 @@ pub mod Overviews
 pub mod Piles
 pub mod Copies
 pub mod Whole
+pub mod Memories

@@ -29,10 +29,10 @@ use tables::Fault;
 
 /// A tally of batches: how many are taken, how many differ, and how many doubtful papers of the taken ones have no verdict.
 #[derive(Clone, Copy)]
-struct Tally {
-    taken: usize,
-    differing: usize,
-    doubtful_open: usize,
+pub(crate) struct Tally {
+    pub(crate) taken: usize,
+    pub(crate) differing: usize,
+    pub(crate) doubtful_open: usize,
 }
 
 /// Returns 1 if the condition holds, otherwise 0.
@@ -43,7 +43,7 @@ fn count_of(it_is: bool) -> usize
 }
 
 /// Returns the sum of two tallies, saturating at the largest number. No office reaches it, with at most 9999 batches of 500 papers.
-fn both(some: Tally, others: Tally) -> Tally
+pub(crate) fn both(some: Tally, others: Tally) -> Tally
     ensures taken { result.taken ≡ min (some.taken + others.taken) (2 ^ 64 - 1) }
     ensures differing { result.differing ≡ min (some.differing + others.differing) (2 ^ 64 - 1) }
     ensures doubtful_open { result.doubtful_open ≡ min (some.doubtful_open + others.doubtful_open) (2 ^ 64 - 1) }
@@ -139,7 +139,7 @@ impl<S: Alter> Store<S> {
     }
 
     /// Returns the next step in a ward that was found with its count. If its papers are being keyed, they are read for it.
-    fn step_in(&mut self, found: CountedWard) -> Result<NextStep, Fault>
+    pub(crate) fn step_in(&mut self, found: CountedWard) -> Result<NextStep, Fault>
         requires { IsOpen S.Store self.old }
         ensures { Loads S.Store self.old self.new result (λ s step. (w : WardEntry) → IsCountedWard (election_of s w) found → step_entry step ≡ next_of s w) }
     {

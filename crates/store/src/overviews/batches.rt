@@ -89,7 +89,11 @@ fn overviews_among(alloc: Global, read: Vec<ReadBatch>) -> Result<Vec<BatchOverv
 
 impl<S: Alter> Store<S> {
     /// Returns the overview of a batch with these keyings, without its twin.
-    fn batch_overview(&mut self, batch: Batch, keyings: &Keyings) -> Result<BatchOverview, Fault>
+    pub(crate) fn batch_overview(
+        &mut self,
+        batch: Batch,
+        keyings: &Keyings,
+    ) -> Result<BatchOverview, Fault>
         requires { IsOpen S.Store self.old }
         ensures { Loads S.Store self.old self.new result (λ s found. KeyingsAre s (batch_entry batch) keyings.now → batch_view found ≡ batch_view_with s (batch_entry batch) None) }
     {
@@ -120,7 +124,11 @@ impl<S: Alter> Store<S> {
     }
 
     /// Returns the papers that a batch is taken with by these keyings, as one text; none if it isn't taken.
-    fn pile_in(&mut self, batch: &Batch, keyings: &Keyings) -> Result<Option<String>, Fault>
+    pub(crate) fn pile_in(
+        &mut self,
+        batch: &Batch,
+        keyings: &Keyings,
+    ) -> Result<Option<String>, Fault>
         requires { IsOpen S.Store self.old }
         ensures { Loads S.Store self.old self.new result (λ s found. KeyingsAre s (batch_entry batch.now) keyings.now → option_map string_bytes found ≡ pile_in s (batch_entry batch.now)) }
     {

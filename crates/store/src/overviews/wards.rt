@@ -42,7 +42,10 @@ fn is_declared(phase: Phase) -> bool
 
 impl<S: Alter> Store<S> {
     /// Returns those elected in a ward and its candidates, if it is declared.
-    fn declared_in(&mut self, ward: &Ward) -> Result<(Option<Columns>, Vec<Candidate>), Fault>
+    pub(crate) fn declared_in(
+        &mut self,
+        ward: &Ward,
+    ) -> Result<(Option<Columns>, Vec<Candidate>), Fault>
         requires { IsOpen S.Store self.old }
         ensures { Loads S.Store self.old self.new result (λ s found. ward_at s ward.now.number ≡ Some (ward_entry ward.now)
             → (found.0 ≡ declared_in s (ward_entry ward.now)) × (map candidate_entry found.1.items ≡ candidates_told s (ward_entry ward.now))) }

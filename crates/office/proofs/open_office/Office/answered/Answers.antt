@@ -54,3 +54,9 @@ returns-in-Ok-clause-handled g c clean is_open s at =
     let tabulated : AddsWhatIsCounted s (Accepted c.in-Ok-Accepted.change c.in-Ok-Accepted.reply) = rw c.in-Ok-Accepted.field-0-is at (c.in-Ok-Accepted.ensures.tabulates before s here) in
     handled_ok s (step s c.args.actor c.args.id.now c.args.command.now) (accepted (with_change (change_entry c.in-Ok-Accepted.change) s) (string_bytes c.in-Ok-Accepted.reply))
     (Done c.in-Ok-Accepted.reply) c.self.inside.closed (state g.S.Store c.commit.new.self) same refl opened (c.in-Ok.ensures.done clean was_open s kept_at tabulated is)
+
+pub commit-requires-clause-opened : goal.commit-requires-clause-opened
+commit-requires-clause-opened g c clean = c.in-Ok-Accepted.ensures.opens clean
+
+pub commit-requires-clause-leads : goal.commit-requires-clause-leads
+commit-requires-clause-leads g c clean is_open s at = rw c.in-Ok-Accepted.field-0-is at (c.in-Ok-Accepted.ensures.leads clean is_open s at)

@@ -1,0 +1,14 @@
+-- What an accepted decision leads to.
+use Rattle.std.specs.Prelude.{⊤}
+use Rattle.register.specs.declared.decision.Decision.{Decision}
+use Rattle.register.specs.declared.decision.Decision.TheVariants.{Accepted, Kept, Refused}
+use Rattle.register.specs.Offices.{OfficeState}
+use Rattle.register.specs.StateConditions.{IsState}
+use Rattle.register.specs.Effects.{change_entry, with_change}
+use Rattle.register.specs.Tabulated.{IsTabulated}
+
+-- from this state, an accepted decision leads to another state, and adds all that is counted there
+abbrev pub LeadsOn : OfficeState → Decision → Type 0
+LeadsOn s (Accepted change reply) = IsTabulated s change × IsState (with_change (change_entry change) s)
+LeadsOn s (Kept reply) = ⊤
+LeadsOn s (Refused why) = ⊤

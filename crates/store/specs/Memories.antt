@@ -1,0 +1,124 @@
+-- What an open office keeps in memory of its batches.
+use Rattle.std.specs.Prelude.{◌≡◌, ℕ, ◌+◌, ◌*◌, ◌%◌, ◌^◌, ◌==◌, ◌&&◌, not, if◌then◌else◌, Bool, true, false, List, map, fold, Option, Some, None, IfSome, option_map, IsTrue}
+use Rattle.std.specs.List.{AllByRecursion, filter, list_any}
+use Rattle.std.specs.Global.{Vec}
+use Rattle.sqlite.specs.State.{State, HasCleanDisk}
+use Rattle.register.specs.Offices.{WardEntry, BatchEntry, KeyedEntry, OfficeState, batch_entry, ward_at}
+use Rattle.register.specs.Agreement.{batches_of}
+use Rattle.register.specs.Effects.{EffectEntry, ward_added, ward_moved, candidate_added, candidate_withdrawn, batch_added, batch_reopened, third_set, papers_keyed, paper_judged}
+use Rattle.register.specs.Effects.{stage_counted, lot_drawn}
+use Rattle.store.specs.declared.overviews.batches.BatchStanding.{BatchStanding}
+use Rattle.store.specs.declared.overviews.batches.BatchStanding.TheVariants.{Taken, Differing, Waiting}
+use Rattle.store.specs.declared.status.Tally.{Tally}
+use Rattle.store.specs.declared.memory.Known.{Known}
+use Rattle.store.specs.declared.memory.Concern.{Concern}
+use Rattle.store.specs.declared.memory.Concern.TheVariants.{Nothing, Batch, Ward, All}
+use Rattle.store.specs.StateTables.{IsAt}
+use Rattle.store.specs.Overviews.{BatchView, WardView, batch_view, batch_view_of, batch_view_with, pile_in, ward_view, ward_view_of}
+
+-- ---- checksums
+
+-- one more byte of a text
+abbrev pub mixed : ℕ → ℕ → ℕ
+mixed sum byte = ((sum * 1099511628211) % 2 ^ 64 + byte) % 2 ^ 64
+
+-- the checksum of a text, by which most texts that differ are told apart
+unfoldable pub checksum : List ℕ → ℕ
+checksum text = fold mixed 14695981039346656037 text
+
+-- ---- what is kept of a batch
+
+-- the overview of a batch without its twin; and, if the batch is taken, the checksum of its papers
+pub record KnownView : Type 0 where
+  pub view : BatchView
+  pub pile : Option ℕ
+
+abbrev pub known_of : OfficeState → BatchEntry → KnownView
+known_of s b = record { view = batch_view_with s b None; pile = option_map checksum (pile_in s b) }
+
+abbrev pub known_view : Known → KnownView
+known_view k = record { view = batch_view k.overview; pile = k.pile }
+
+-- the row of the batch of which it is kept
+abbrev pub row_of : Known → BatchEntry
+row_of k = batch_entry k.overview.batch
+
+-- it is right in a state: it is what the state has of a batch with this row
+abbrev pub IsKnown : OfficeState → Known → Type 0
+IsKnown s k = known_view k ≡ known_of s (row_of k)
+
+abbrev pub AreKnown : OfficeState → List Known → Type 0
+AreKnown s ks = AllByRecursion (IsKnown s) ks
+
+-- it is kept of every batch of a state, in the order of their numbers
+abbrev pub KnowsAll : OfficeState → List Known → Type 0
+KnowsAll s ks = map known_view ks ≡ map (known_of s) s.batches
+
+-- both have a checksum, and it is the same
+abbrev pub same_sum : Option ℕ → Option ℕ → Bool
+same_sum (Some a) (Some b) = a == b
+same_sum (Some a) None = false
+same_sum None b = false
+
+-- by what is kept of them, another batch may be a batch's twin
+abbrev pub may_be_twin : Known → Known → Bool
+may_be_twin k c = not (c.overview.batch.number == k.overview.batch.number) && same_sum k.pile c.pile
+
+-- the overview of a batch with its twin, if it is of this ward
+abbrev pub batch_view_in : OfficeState → ℕ → BatchEntry → Option BatchView
+batch_view_in s ward b = if b.ward == ward then Some (batch_view_of s b) else None
+
+-- ---- what an effect concerns
+
+-- an effect may change what is kept of a batch
+abbrev pub is_about : EffectEntry → BatchEntry → Bool
+is_about (ward_added w) b = false
+is_about (ward_moved ward phase) b = false
+is_about (candidate_added c) b = b.ward == c.ward
+is_about (candidate_withdrawn ward candidate) b = b.ward == ward
+is_about (batch_added c) b = false
+is_about (batch_reopened batch round) b = false
+is_about (third_set t) b = b.number == t.batch
+is_about (papers_keyed papers) b = list_any (λ (k : KeyedEntry). b.number == k.batch) papers
+is_about (paper_judged v) b = b.number == v.batch
+is_about (stage_counted ward done) b = false
+is_about (lot_drawn l) b = false
+
+-- the batches among which are all that an effect concerns
+abbrev pub concerns : Concern → BatchEntry → Bool
+concerns Nothing b = false
+concerns (Batch number) b = b.number == number
+concerns (Ward ward) b = b.ward == ward
+concerns All b = true
+
+-- ---- a store with such a memory
+
+-- While the connection is open, it keeps some state, in which all that is remembered is right.
+pub record Remembers (st : State) (ks : List Known) : Type 0 where
+  pub state : OfficeState
+  pub at : IsAt state st
+  pub known : AreKnown state ks
+
+-- a read leaves what is remembered right, in any state that the store keeps
+abbrev pub StaysKnown : State → State → List Known → List Known → Type 0
+StaysKnown old new before after = HasCleanDisk new → (s : OfficeState) → IsAt s old → AreKnown s before → AreKnown s after
+
+-- the same for a memory, if there is one
+abbrev pub IsTied : State → Option (Vec Known) → Type 0
+IsTied st memory = IfSome memory (λ known. HasCleanDisk st → IsTrue st.is_open → Remembers st known.items)
+
+-- ---- the batches of a ward
+
+-- the overviews of these batches, without their twins
+abbrev pub views_of : OfficeState → List BatchEntry → List BatchView
+views_of s bs = map (λ (b : BatchEntry). batch_view_with s b None) bs
+
+-- those that are kept of the batches of a ward
+abbrev pub views_in : List Known → ℕ → List BatchView
+views_in ks ward = map (λ (k : Known). batch_view k.overview) (filter (λ (k : Known). k.overview.batch.ward == ward) ks)
+
+-- the tally of a batch by its standing, and how many of its doubtful papers have no verdict
+abbrev pub tally_at : BatchStanding → ℕ → Tally
+tally_at Taken doubtful_open = record { taken = 1; differing = 0; doubtful_open = doubtful_open }
+tally_at Differing doubtful_open = record { taken = 0; differing = 1; doubtful_open = doubtful_open }
+tally_at Waiting doubtful_open = record { taken = 0; differing = 0; doubtful_open = doubtful_open }

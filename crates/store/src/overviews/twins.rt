@@ -1,0 +1,203 @@
+//! Twins: batches that are taken with exactly the same papers, found by what is kept in memory of all batches. The
+//! papers of two batches are read and compared only if their checksums are equal.
+
+ghost use Rattle.std.specs.Prelude.{◌≡◌, ◌++◌, true, map, find, Some, List, ℕ, option_map, string_bytes, IfOk};
+ghost use Rattle.std.specs.Option.{option_to_list};
+ghost use Rattle.std.specs.Str.{bytes_eq};
+ghost use Rattle.sqlite.specs.Held.{state};
+ghost use Rattle.register.specs.Offices.{BatchEntry, batch_entry};
+ghost use Rattle.register.specs.Agreement.{is_taken};
+ghost use Rattle.store.specs.Overviews.{batch_view, batch_view_of, batch_views, batch_views_at, is_twin, pile_in, pile_text_of, twin_of};
+ghost use Rattle.store.specs.Loads.{Loads, IsOpen};
+ghost use Rattle.store.specs.Memories.{batch_view_in, row_of, same_sum, may_be_twin, AreKnown, IsKnown, KnowsAll, StaysKnown};
+
+use crate::memory::{Known, copy_overview};
+use crate::overviews::batches::BatchOverview;
+use crate::storage::Store;
+use register::Batch;
+use sqlite::Alter;
+use std::alloc::AllocError;
+use tables::Fault;
+
+/// Returns whether there are two checksums, and they are equal.
+fn same_sum(one: Option<u64>, other: Option<u64>) -> bool
+    ensures { result ≡ same_sum one other }
+{
+    match (one, other) {
+        (Some(one), Some(other)) => one == other,
+        (Some(_), None) | (None, _) => false,
+    }
+}
+
+/// Returns whether another batch may be a batch's twin, by what is kept of both.
+fn may_be_twin(one: &Known, other: &Known) -> bool
+    ensures { result ≡ may_be_twin one.now other.now }
+{
+    (other.overview.batch.number != one.overview.batch.number) & same_sum(one.pile, other.pile)
+}
+
+/// Returns whether there are two texts, and they are equal.
+fn same_texts(one: &Option<String>, other: &Option<String>) -> bool
+    ensures { (a b : List ℕ) → option_map string_bytes one.now ≡ Some a → option_map string_bytes other.now ≡ Some b → result ≡ bytes_eq a b }
+{
+    match (one, other) {
+        (Some(one), Some(other)) => one.as_str() == other.as_str(),
+        (Some(_), None) | (None, _) => false,
+    }
+}
+
+/// Appends an overview to others, if there is one.
+fn put_some(
+    found: &mut Vec<BatchOverview>,
+    overview: Option<BatchOverview>,
+) -> Result<(), AllocError>
+    ensures { IfOk result (λ _. map batch_view found.new.items ≡ map batch_view found.old.items ++ option_to_list (option_map batch_view overview)) }
+{
+    match overview {
+        Some(overview) => {
+            found.push(overview)?;
+            Ok(())
+        }
+        None => Ok(()),
+    }
+}
+
+impl<S: Alter> Store<S> {
+    /// Returns the papers that a batch is taken with, as one text; none if it isn't taken.
+    fn pile_of(&mut self, batch: &Batch) -> Result<Option<String>, Fault>
+        ensures { Loads S.Store self.old self.new result (λ s found. option_map string_bytes found ≡ pile_in s (batch_entry batch.now)) }
+    {
+        let keyings = self.keyings_of(batch)?;
+        let papers = self.pile_in(batch, &keyings)?;
+        Ok(papers)
+    }
+
+    /// Returns whether two batches that are taken have the same papers, and their wards the same candidates' numbers.
+    fn have_same_papers(&mut self, one: &Batch, other: &Batch) -> Result<bool, Fault>
+        ensures { Loads S.Store self.old self.new result (λ s found. is_taken s (batch_entry one.now) ≡ true → is_taken s (batch_entry other.now) ≡ true
+            → found ≡ bytes_eq (pile_text_of s (batch_entry one.now)) (pile_text_of s (batch_entry other.now))) }
+    {
+        let own = self.pile_of(one)?;
+        let others = self.pile_of(other)?;
+        Ok(same_texts(&own, &others))
+    }
+
+    /// Returns whether another batch is a twin of one that is taken, by what is kept of both.
+    fn is_twin(&mut self, one: &Known, other: &Known) -> Result<bool, Fault>
+        requires { IsOpen S.Store self.old }
+        ensures { Loads S.Store self.old self.new result (λ s found. IsKnown s one.now → is_taken s (row_of one.now) ≡ true → IsKnown s other.now
+            → found ≡ is_twin s (row_of one.now) (row_of other.now)) }
+    {
+        if !may_be_twin(one, other) {
+            return Ok(false);
+        }
+        let same = self.have_same_papers(&one.overview.batch, &other.overview.batch)?;
+        Ok(same)
+    }
+
+    /// Returns the number of the first of these batches that is a twin of one that is taken.
+    fn find_twin(&mut self, known: &[Known], one: &Known) -> Result<Option<u32>, Fault>
+        requires { IsOpen S.Store self.old }
+        ensures { Loads S.Store self.old self.new result (λ s found. IsKnown s one.now → is_taken s (row_of one.now) ≡ true → AreKnown s known.now
+            → found ≡ option_map (λ (b : BatchEntry). b.number) (find (is_twin s (row_of one.now)) (map row_of known.now))) }
+    {
+        for other in known {
+            let is_twin = self.is_twin(one, other)?;
+            if is_twin {
+                return Ok(Some(other.overview.batch.number));
+            }
+        }
+        Ok(None)
+    }
+
+    /// Returns the number of a batch's twin, if it has one, by what is kept of all batches.
+    fn twin_of(&mut self, known: &[Known], one: &Known) -> Result<Option<u32>, Fault>
+        requires { IsOpen S.Store self.old }
+        ensures { Loads S.Store self.old self.new result (λ s found. KnowsAll s known.now → IsKnown s one.now → found ≡ twin_of s (row_of one.now)) }
+    {
+        match one.pile {
+            Some(_) => self.find_twin(known, one),
+            None => Ok(None),
+        }
+    }
+
+    /// Returns the overview of a batch with its twin, by what is kept of all batches.
+    fn with_twin(&mut self, known: &[Known], one: &Known) -> Result<BatchOverview, Fault>
+        requires { IsOpen S.Store self.old }
+        ensures { Loads S.Store self.old self.new result (λ s found. KnowsAll s known.now → IsKnown s one.now → batch_view found ≡ batch_view_of s (row_of one.now)) }
+    {
+        let twin = self.twin_of(known, one)?;
+        match copy_overview(self.allocator(), &one.overview) {
+            Ok(overview) => Ok(BatchOverview { twin, ..overview }),
+            Err(_) => Err(Fault::Memory),
+        }
+    }
+
+    /// Returns the same for a batch of this ward, and nothing for one of another ward.
+    fn with_twin_in(
+        &mut self,
+        known: &[Known],
+        one: &Known,
+        ward: u32,
+    ) -> Result<Option<BatchOverview>, Fault>
+        requires { IsOpen S.Store self.old }
+        ensures { Loads S.Store self.old self.new result (λ s found. KnowsAll s known.now → IsKnown s one.now
+            → option_map batch_view found ≡ batch_view_in s ward (row_of one.now)) }
+    {
+        if one.overview.batch.ward != ward {
+            return Ok(None);
+        }
+        let overview = self.with_twin(known, one)?;
+        Ok(Some(overview))
+    }
+
+    /// Returns the overviews of the batches of a ward, by what is kept of all batches.
+    fn ward_batches_by(&mut self, known: &[Known], ward: u32) -> Result<Vec<BatchOverview>, Fault>
+        requires { IsOpen S.Store self.old }
+        ensures { Loads S.Store self.old self.new result (λ s found. KnowsAll s known.now → map batch_view found.items ≡ batch_views s ward) }
+    {
+        let mut found = Vec::new(self.allocator());
+        for one in known {
+            let overview = self.with_twin_in(known, one, ward)?;
+            let Ok(()) = put_some(&mut found, overview) else {
+                return Err(Fault::Memory);
+            };
+        }
+        Ok(found)
+    }
+
+    /// Returns the overviews of the batches of the ward with this number, in the order of their numbers, by what is kept
+    /// of all batches; none if there is no such ward.
+    fn batches_by(
+        &mut self,
+        known: &[Known],
+        ward: u32,
+    ) -> Result<Option<Vec<BatchOverview>>, Fault>
+        ensures { Loads S.Store self.old self.new result (λ s found. KnowsAll s known.now
+            → option_map (λ batches. map batch_view batches.items) found ≡ batch_views_at s ward) }
+    {
+        let found = self.find_ward(ward)?;
+        match found {
+            Some(ward) => {
+                let batches = self.ward_batches_by(known, ward.number)?;
+                Ok(Some(batches))
+            }
+            None => Ok(None),
+        }
+    }
+
+    /// Does the same as `load_batches`, by what is in memory of all batches, which it renews.
+    pub(crate) fn batches_with(
+        &mut self,
+        known: &mut Vec<Known>,
+        ward: u32,
+    ) -> Result<Option<Vec<BatchOverview>>, Fault>
+        ensures loads { Loads S.Store self.old self.new result (λ s found. AreKnown s known.old.items
+            → option_map (λ batches. map batch_view batches.items) found ≡ batch_views_at s ward) }
+        ensures stays { StaysKnown (state S.Store self.old) (state S.Store self.new) known.old.items known.new.items }
+    {
+        self.renew(known)?;
+        let found = self.batches_by(known, ward)?;
+        Ok(found)
+    }
+}
