@@ -94,6 +94,10 @@ digest = record { name = codes "sha256"; kind = kind.Digest }
 abbrev pub texts : Text → WordEntry
 texts name = record { name = name; kind = kind.Texts }
 
+-- any texts, each after `--` and the name, zero or more
+abbrev pub options : Text → WordEntry
+options name = record { name = name; kind = kind.Options }
+
 -- a flag, `--` and its name, optional
 abbrev pub flag : Text → WordEntry
 flag name = record { name = name; kind = kind.Flag }
@@ -169,6 +173,7 @@ pub data Meant : Type 0 where
   replay : Text → Bool → Meant
   copy : Text → Meant
   journal : Meant
+  mend : Text → List Text → List Text → Meant
   make_codes : Text → Text → Bool → Meant
   serve : ℕ → Option ℕ → Option Text → Option Text → Meant
   no_verdict : Meant
@@ -200,6 +205,7 @@ told (order.Perform (task.InOffice (job.Run errand))) = told_errand errand
 told (order.Perform (task.InOffice (job.Replay file keep_going))) = replay file.now keep_going
 told (order.Copy path) = copy path.now
 told order.Journal = journal
+told (order.Mend m) = mend m.path.now (map string_bytes m.without.items) (map string_bytes m.instead.items)
 told (order.Codes path clerks with_office) = make_codes path.now clerks.now with_office
 told (order.Serve port connections origin file) = serve port connections (option_map origin_text origin) (option_map (λ path. path.now) file)
 
@@ -224,6 +230,7 @@ WordValue kind.CodesFile = Option Text
 WordValue kind.Title = Text
 WordValue kind.Digest = Option (List ℕ)
 WordValue kind.Texts = List Text
+WordValue kind.Options = List Text
 WordValue kind.Flag = Bool
 
 -- a function of the values of some words, in sequence
@@ -289,6 +296,7 @@ orders =
     ∷ takes (codes "journal") [] journal
     ∷ takes (codes "replay") (text (codes "FILE") ∷ flag (codes "keep-going") ∷ []) replay
     ∷ takes (codes "copy") (text (codes "NEW") ∷ []) copy
+    ∷ takes (codes "mend") (text (codes "NEW") ∷ options (codes "without") ∷ options (codes "with") ∷ []) mend
     ∷ takes (codes "codes") (text (codes "FILE") ∷ text (codes "CLERKS") ∷ flag (codes "office") ∷ []) make_codes
     ∷ takes (codes "ballots") (number (codes "WARD") ∷ []) (λ ward. print ward ward_text.Ballots)
     ∷ takes (codes "page") (number (codes "WARD") ∷ title ∷ []) print_page

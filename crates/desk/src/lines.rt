@@ -49,6 +49,8 @@ pub(crate) enum LineOutcome {
     Uncopied(CopyFault),
     /// The office has no journal: the one that was written doesn't make it.
     Unjournalled,
+    /// No new office is made from the journal. This text, whose lines are terminated, says why.
+    Unmended(String),
 }
 
 /// Why the program fails. 101 to 106 and 108 are faults of the office. 107 is an output that fails. 109 is a copy that exists already,
@@ -409,7 +411,7 @@ fn tell_noted<O: Sink, E: Sink>(
 }
 
 /// Prints an outcome, and returns its status. The status is 0 if the outcome goes to the output. On the error output it is 1 for a
-/// refusal of a request or a file, and for an office without a journal, and 3 for a fault or a file that couldn't be read. It is 3 too
+/// refusal of a request, a file or a mending, and for an office without a journal, and 3 for a fault or a file that couldn't be read. It is 3 too
 /// if one of the two fails; a prefix was then written to that output. If the outcome is that of a script's line, what goes to the
 /// error output begins with that line's number.
 pub(crate) fn tell<O: Sink, E: Sink>(
@@ -435,6 +437,7 @@ pub(crate) fn tell<O: Sink, E: Sink>(
         LineOutcome::Failed(fault) => tell_failure_at(line, Failure::Office(*fault), err),
         LineOutcome::Uncopied(fault) => tell_failure_at(line, failure_of(*fault), err),
         LineOutcome::Unjournalled => tell_no_journal(line, err),
+        LineOutcome::Unmended(text) => tell_error(line, &[text.as_str()], 1, err),
     }
 }
 
