@@ -89,7 +89,8 @@ IsMendedOpen s m page left new_old new_new =
 -- the page of an order to mend the office of a state
 abbrev pub IsMendTold : OfficeState → MendOrder → Page → Type 0
 IsMendTold s m page =
-    ((changes : Changes) × AreAsked s m changes × ((CanBeMade changes × IsMended changes.orders.now (mended changes) × (page ≡ printed (mended_text (ward_lines s) (mended changes)))) ⊎ IsUnmade changes page))
+    ((changes : Changes) × AreAsked s m changes
+    × ((CanBeMade changes × IsMended changes.orders.now (mended changes) × (page ≡ printed (mended_text (ward_lines s) (mended changes)))) ⊎ IsUnmade changes page))
     ⊎ ((page ≡ unmended unsent_text) ⊎ IsUnread page)
 
 -- and perhaps after it that the log of the new office couldn't be merged into its file

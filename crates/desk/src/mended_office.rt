@@ -335,9 +335,17 @@ fn checked<T: Alter, N: Alter>(
         Ok(None) => made(alloc, blank, changes, before, new),
         Ok(Some(flaw)) => match flaw.text(alloc) {
             Ok(text) => (LineOutcome::Unmended(text), CopyState::Untouched, blank),
-            Err(AllocError) => (LineOutcome::Failed(Fault::Memory), CopyState::Untouched, blank),
+            Err(AllocError) => (
+                LineOutcome::Failed(Fault::Memory),
+                CopyState::Untouched,
+                blank,
+            ),
         },
-        Err(AllocError) => (LineOutcome::Failed(Fault::Memory), CopyState::Untouched, blank),
+        Err(AllocError) => (
+            LineOutcome::Failed(Fault::Memory),
+            CopyState::Untouched,
+            blank,
+        ),
     }
 }
 
@@ -360,29 +368,20 @@ fn mended_open<S: Alter, T: Alter, N: Alter>(
         × (HasCleanDisk (state N.Store new.new) → IsBlank (state N.Store new.old) → (x : OfficeState) × IsAt x (state N.Store new.new)) }
     ensures untouched { result.1 ≡ CopyState.Untouched → new.new ≡ new.old }
 {
-    let MendTrial {
-        journal: first,
-        mended: second,
-    } = trial;
     let instead = match orders_in(alloc, &asked.instead) {
         Ok(instead) => instead,
-        Err(outcome) => {
-            let trial = MendTrial {
-                journal: first,
-                mended: second,
-            };
-            return (outcome, CopyState::Untouched, trial);
-        }
+        Err(outcome) => return (outcome, CopyState::Untouched, trial),
     };
-    let (found, journal) = journalled(alloc, office, first);
+    let MendTrial {
+        journal: blank,
+        mended: second,
+    } = trial;
+    let (found, journal) = journalled(alloc, office, blank);
     let found = match found {
         Ok(found) => found,
         Err(outcome) => {
-            let trial = MendTrial {
-                journal,
-                mended: second,
-            };
-            return (outcome, CopyState::Untouched, trial);
+            let mended = second;
+            return (outcome, CopyState::Untouched, MendTrial { journal, mended });
         }
     };
     let changes = Changes {

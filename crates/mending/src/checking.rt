@@ -35,10 +35,7 @@ fn places_for(alloc: Global, orders: &[Request], other: &Request) -> Result<usiz
 }
 
 /// Returns a name that none of the orders has, if one of the names isn't theirs.
-fn flaw_of_names(
-    alloc: Global,
-    changes: Changes<'_>,
-) -> Result<Option<Flaw>, AllocError>
+fn flaw_of_names(alloc: Global, changes: Changes<'_>) -> Result<Option<Flaw>, AllocError>
     ensures none { IfOk result (λ found. IfNone found (list_all (is_name_of_one changes.entry.orders.now) (map string_bytes changes.entry.without.now) ≡ true)) }
     ensures some { IfOk result (λ found. IfSome found (IsFlawOf changes.entry)) }
 {
@@ -51,10 +48,7 @@ fn flaw_of_names(
 }
 
 /// Returns why one of the orders can't take the place of just one, if that is so.
-fn flaw_of_places(
-    alloc: Global,
-    changes: Changes<'_>,
-) -> Result<Option<Flaw>, AllocError>
+fn flaw_of_places(alloc: Global, changes: Changes<'_>) -> Result<Option<Flaw>, AllocError>
     ensures none { IfOk result (λ found. IfNone found (list_all (λ other. places_for changes.entry.orders.now other == 1) changes.entry.instead.now ≡ true)) }
     ensures some { IfOk result (λ found. IfSome found (IsFlawOf changes.entry)) }
 {
@@ -68,10 +62,7 @@ fn flaw_of_places(
 }
 
 /// Returns why two of the orders are to take the same place, if that is so.
-fn flaw_of_others(
-    alloc: Global,
-    changes: Changes<'_>,
-) -> Result<Option<Flaw>, AllocError>
+fn flaw_of_others(alloc: Global, changes: Changes<'_>) -> Result<Option<Flaw>, AllocError>
     ensures none { IfOk result (λ found. IfNone found (list_all (λ other. places_for changes.entry.instead.now other == 1) changes.entry.instead.now ≡ true)) }
     ensures some { IfOk result (λ found. IfSome found (IsFlawOf changes.entry)) }
 {
@@ -86,10 +77,7 @@ fn flaw_of_others(
 
 /// Returns why the changes can't be made to the orders of the office, if they can't: no order has one of the names, or one of the
 /// orders doesn't take the place of just one, or two take the same.
-pub fn flaw_in(
-    alloc: Global,
-    changes: Changes<'_>,
-) -> Result<Option<Flaw>, AllocError>
+pub fn flaw_in(alloc: Global, changes: Changes<'_>) -> Result<Option<Flaw>, AllocError>
     ensures none { IfOk result (λ found. IfNone found (CanBeMade changes.entry)) }
     ensures some { IfOk result (λ found. IfSome found (IsFlawOf changes.entry)) }
 {

@@ -51,11 +51,7 @@ fn ward_given(number: u32, command: &Command) -> Option<u32>
 }
 
 /// Appends the wards of which orders give out a batch.
-fn put_wards_given(
-    wards: &mut Vec<u32>,
-    orders: &[Request],
-    batch: u32,
-) -> Result<(), AllocError>
+fn put_wards_given(wards: &mut Vec<u32>, orders: &[Request], batch: u32) -> Result<(), AllocError>
     ensures { IfOk result (λ _. wards.new.items ≡ wards.old.items ++ wards_given orders.now batch) }
 {
     for order in orders {

@@ -61,11 +61,7 @@ fn order_words(alloc: Global, order: &Request) -> Result<String, AllocError>
 
 #[tactic(auto, unfolding(crate::specs::Reports::left_line))]
 /// Returns the line of an order that is left out.
-pub(crate) fn left_line(
-    alloc: Global,
-    order: &Request,
-    cause: &Cause,
-) -> Result<String, AllocError>
+pub(crate) fn left_line(alloc: Global, order: &Request, cause: &Cause) -> Result<String, AllocError>
     ensures { IfOk result (λ text. string_bytes text ≡ left_line order.now cause.now) }
 {
     let (words, why) = (order_words(alloc, order)?, cause_words(alloc, cause)?);
@@ -100,12 +96,7 @@ pub(crate) fn end_line(
 
 #[tactic(auto, unfolding(crate::specs::Reports::count_text))]
 /// Returns a number of orders, and what is wrong with it.
-fn count_text(
-    alloc: Global,
-    count: usize,
-    words: &str,
-    subject: &str,
-) -> Result<String, AllocError>
+fn count_text(alloc: Global, count: usize, words: &str, subject: &str) -> Result<String, AllocError>
     ensures { IfOk result (λ text. string_bytes text ≡ count_text count words.now subject.now) }
 {
     format!(in alloc; "not mended: {count} orders {words}{subject}\n")

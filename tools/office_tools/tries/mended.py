@@ -11,7 +11,7 @@ import shlex
 
 from office_tools.office import Office, Wrong, temporary_folder
 from office_tools.tables import Table
-from office_tools.tries.journalled import REFUSED, SECONDS, Evening, journal, replayed, typed
+from office_tools.tries.journalled import REFUSED, SECONDS, Evening, journal, typed
 from office_tools.trials import side_by_side
 
 NEW = "mended.db"

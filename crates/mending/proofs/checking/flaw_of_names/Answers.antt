@@ -10,8 +10,7 @@ returns-then-not-branch-clause-some c =
     let names = c.args.changes.without.now in
     let i = c.loop-name.name-index in
     let same = c.in_ok-clone.ensures.cases in
-    let denied : c.in_ok-is_name_of_one.field-0 ≡ false = search rules in
-    (
+    let denied : c.in_ok-is_name_of_one.field-0 ≡ false = search rules in (
       (
         i,
         omega (arith, length-map names string_bytes),
