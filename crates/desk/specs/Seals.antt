@@ -1,6 +1,5 @@
 -- The seal of a ward of which a number of papers is expected.
-use Rattle.std.specs.Prelude.{◌≡◌, ◌≢◌, ℕ, [], ◌∷◌, List, Result, Ok, Err, codes, map}
-use Rattle.std.specs.Fmt.{decimal}
+use Rattle.std.specs.Prelude.{◌≡◌, ◌≢◌, ℕ, [], ◌∷◌, List, Result, Ok, Err, map}
 use Rattle.std.specs.List.{sum}
 use Rattle.register.specs.Offices.{OfficeState}
 use Rattle.register.specs.declared.command.Request.{Request}
