@@ -11,6 +11,7 @@ use Rattle.register.specs.declared.polls.Judgement.TheVariants.{Valid, Rejected,
 use Rattle.store.specs.Overviews.{BatchView, DifferencesView, DoubtfulPapersView, DoubtfulView, PaperView, PapersView, WardView}
 use Rattle.store.specs.declared.overviews.batches.BatchStanding.{BatchStanding}
 use Rattle.store.specs.declared.overviews.batches.BatchStanding.TheVariants.{Taken, Differing, Waiting}
+use Rattle.office.specs.Reads.{next_told}
 use Rattle.office.specs.Overviews.{batches_told, differences_told, doubtful_told, papers_told, receipts_told, wards_told}
 use Rattle.desk.specs.CandidateNames.{name_in, names_of}
 use Rattle.desk.specs.Forms.{adjudication_form, covers_form, declaration_form, lots_form}

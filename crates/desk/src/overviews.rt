@@ -257,7 +257,7 @@ fn lines_of<T: Lined>(alloc: Global, found: &[T]) -> Result<String, AllocError>
 }
 
 /// Returns what is printed if nothing was found.
-fn stopped(stop: Stop) -> LineOutcome
+pub(crate) fn stopped(stop: Stop) -> LineOutcome
     ensures { page_of result ≡ page_stopped stop }
 {
     match stop {
