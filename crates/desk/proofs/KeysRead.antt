@@ -24,10 +24,10 @@ up_to_a_refusal : meaning (subcommand_of office_words (codes "DB" ∷ codes "rep
 unfolding office_words orders clap_on_literals
 up_to_a_refusal = refl
 
-without_a_limit : meaning (subcommand_of office_words (codes "DB" ∷ codes "serve" ∷ codes "8080" ∷ [])) ≡ Some (serve 8080 None None None)
+without_a_limit : meaning (subcommand_of office_words (codes "DB" ∷ codes "serve" ∷ codes "8080" ∷ [])) ≡ Some (serve 8080 None None None None)
 unfolding office_words orders clap_on_literals
 without_a_limit = refl
 
-with_a_limit : meaning (subcommand_of office_words (codes "DB" ∷ codes "serve" ∷ codes "8080" ∷ codes "1000000" ∷ [])) ≡ Some (serve 8080 (Some 1000000) None None)
+with_a_limit : meaning (subcommand_of office_words (codes "DB" ∷ codes "serve" ∷ codes "8080" ∷ codes "1000000" ∷ [])) ≡ Some (serve 8080 (Some 1000000) None None None)
 unfolding office_words orders clap_on_literals
 with_a_limit = refl
