@@ -83,7 +83,7 @@ everything() {
     ask /wards/7/page
     ask /wards/7/sheet
 
-    (umask 077 && printf '4 kf7m-2wxt\n9 w3hd-4psn\n' >"$folder/codes.txt")
+    (umask 077 && printf '4 kf7m-2wxt-h4dn\n9 w3hd-4psn-p3cs\n' >"$folder/codes.txt")
     serve --public --title "$title" --codes codes.txt
     ask /screen/wards
     ask /wards/7/page
@@ -109,17 +109,17 @@ everything() {
     play town.db close 7 --id n1
     ask /screen/wards
     everything >"$folder/before"
-    play town.db batch 12 7 3 4 9 --id b1
-    play town.db key 4 12 1 1,2, ,1, D --id k1
-    play town.db key 9 12 1 1,2, ,1, D --id k2
-    play town.db judge 12 3 reject:5 --id j1
+    play town.db batch 12 7 4 4 9 --id b1
+    play town.db key 4 12 1 1,2, 1,, ,1, D --id k1
+    play town.db key 9 12 1 1,2, 1,, ,1, D --id k2
+    play town.db judge 12 4 accept:,1, --id j1
     everything | cmp - "$folder/before"
 
     # then it shows each stage
     play town.db seal 7 --id s1
     ask /screen/wards
     same /wards/7/page page 7 --title "$title"
-    play town.db count 7 --id a
+    play town.db advance 7 --id a1
     ask /screen/wards
     same /wards/7/page page 7 --title "$title"
     play town.db declare 7 --id d1
