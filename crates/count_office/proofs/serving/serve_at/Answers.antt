@@ -14,7 +14,8 @@ returns-in-Ok g c =
     let known = g.H.Host.known in
     let found = c.in_ok-network in
     let through = c.serve_through-ended in
-    served_on c.args.serving c.args.gate_files.now (option_map public_entry c.public_of.result) (g.H.Host.file c.args.host.now) found.field-0.file (g.H.Side.ServedFile.whole found.field-0.served_file) line
+    served_on c.args.serving c.args.gate_files.now (option_map public_entry c.public_of.result)
+    (g.H.Host.file c.args.host.now) found.field-0.file (g.H.Side.ServedFile.whole found.field-0.served_file) line
     (state g.S.Store) (known c.args.host.now) (known c.open.new.self) (known c.close.new.self)
     (g.H.Sockets.Network.known found.field-0.network) (g.H.Sockets.Network.known through.new.network) c.args.office.now through.new.office (Ok c.in-Ok.field-0)
     found.ensures.same found.ensures.known c.close.ensures.known c.close.ensures.others found.ensures.file (c.public_of.ensures ∙ c.in_ok-texts.ensures) c.in-Ok.ensures
@@ -27,7 +28,8 @@ returns-in-Err g c =
     let through = c.serve_through-ended in
     subst (λ (why : Failure). MayServe (IsGivenBy c.args.serving c.args.gate_files.now (g.H.Host.file c.args.host.now)) line (state g.S.Store) c.args.serving.port
     (known c.args.host.now) (known c.close.new.self) c.args.serving.connections c.args.office.now through.new.office (Err why)) (sym c.failure_of.ensures)
-    (served_on c.args.serving c.args.gate_files.now (option_map public_entry c.public_of.result) (g.H.Host.file c.args.host.now) found.field-0.file (g.H.Side.ServedFile.whole found.field-0.served_file) line
+    (served_on c.args.serving c.args.gate_files.now (option_map public_entry c.public_of.result)
+    (g.H.Host.file c.args.host.now) found.field-0.file (g.H.Side.ServedFile.whole found.field-0.served_file) line
     (state g.S.Store) (known c.args.host.now) (known c.open.new.self) (known c.close.new.self)
     (g.H.Sockets.Network.known found.field-0.network) (g.H.Sockets.Network.known through.new.network) c.args.office.now through.new.office (Err c.in-Err.ended)
     found.ensures.same found.ensures.known c.close.ensures.known c.close.ensures.others found.ensures.file (c.public_of.ensures ∙ c.in_ok-texts.ensures) c.in-Err.ensures)
