@@ -1,16 +1,16 @@
 //! The order to serve: opens an office and serves it on a host, with the settings of the order and the codes that were read.
 
-ghost use Rattle.std.specs.Prelude.{◌≡◌, ◌-◌, ◌^◌, ◌<◌, IfSome, option_map};
+ghost use Rattle.std.specs.Prelude.{◌≡◌, ◌-◌, ◌^◌, ◌<◌, IfOk, IfSome, option_map};
 ghost use Rattle.sqlite.specs.Held.{state};
 ghost use Rattle.desk.specs.Pages.{IsErrorTold};
 ghost use Rattle.connections.specs.Streams.{stream_of};
 ghost use Rattle.wire.specs.Origins.{given_by};
-ghost use Rattle.count_office.specs.Serving.{MayServe, ServesAtNetwork, ServesOrder, TellsOutcome, failure_by, gate_at, public_in, server_settings_of, settings_with};
+ghost use Rattle.count_office.specs.Serving.{MayServe, ServesAtNetwork, ServesOrder, TellsOutcome, failure_by, gate_at, public_at, public_in, public_with, server_settings_of, settings_with};
 
 use crate::codes_file::tell_untaken;
 use crate::gate::{GateFiles, gate_of, read_gate_files};
 use crate::host::{Host, Opened};
-use crate::public::{make_public_texts, public_of};
+use crate::public::{PublicTexts, make_public_texts, public_of};
 use connections::Network;
 use desk::{Failure, tell_failure};
 use office::Office;
@@ -86,6 +86,19 @@ fn serve_through<D: Network, A: ServedFile, S: Alter>(
     serve_connections(alloc, network, server_settings, most, office)
 }
 
+/// Makes the texts that are shown in public, if there is a title. The only failure is that an allocation failed.
+fn public_texts<'a>(
+    alloc: Global,
+    title: Option<&'a str>,
+) -> Result<Option<PublicTexts<'a>>, Failure>
+    ensures { IfOk result (λ texts. option_map public_at texts ≡ option_map (λ its. public_with its.now) title.entry) }
+{
+    match make_public_texts(alloc, title) {
+        Ok(texts) => Ok(texts),
+        Err(_) => Err(Failure::Office(Fault::Memory)),
+    }
+}
+
 /// Opens the network of a host, serves an open office there, and closes it. The error is that it can't be opened or that an
 /// allocation failed before it is, or why serving ended early.
 fn serve_at<H: Host, S: Alter>(
@@ -100,10 +113,7 @@ fn serve_at<H: Host, S: Alter>(
         (stream_of H.Sockets.Stream.held H.Sockets.Stream.taken H.Sockets.Stream.failed) (state S.Store)
         serving.entry.port (H.known host.old) (H.known host.new) serving.entry.connections office.old office.new result }
 {
-    let texts = match make_public_texts(alloc, serving.public) {
-        Ok(texts) => texts,
-        Err(_) => return Err(Failure::Office(Fault::Memory)),
-    };
+    let texts = public_texts(alloc, serving.public)?;
     let Opened {
         mut network,
         served_file,

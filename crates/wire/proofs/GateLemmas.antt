@@ -1,6 +1,6 @@
 -- Whose code a request has that asks under a clerk's number, or of the console, at a gate.
-use Rattle.std.proofs.Common.{◌≡◌, ◌∙◌, ◌&&◌, ◌==◌, Bool, true, false, List, [], ◌∷◌, ◌++◌, Option, Some, None, Result, Ok, Err, ap, arith, codes, inr, length, map, not, refl, subst, sym, ℕ}
-use Rattle.std.specs.Prelude.{bytes_eq, if◌then◌else◌, is_some, nat_le, option_and_then, option_map, slice_index}
+use Rattle.std.proofs.Common.{◌≡◌, ◌∙◌, ◌&&◌, Bool, true, false, List, [], ◌∷◌, ◌++◌, Option, Some, None, Result, Ok, Err, ap, arith, codes, inr, length, map, not, refl, subst, sym, ℕ}
+use Rattle.std.specs.Prelude.{bytes_eq, if◌then◌else◌, is_some, option_and_then, option_map, slice_index}
 use Rattle.std.specs.Char.{is_ascii_digit}
 use Rattle.std.specs.List.{list_all, prefix_len}
 use Rattle.std.proofs.lemmas.Bool.{and_parts}

@@ -8,7 +8,7 @@ use Rattle.std.proofs.lemmas.List.Elements.{All-cons, All-head, All-nil, All-tai
 use Rattle.register.specs.Elections.{ElectionEntry, elected_of, election_of, is_counted, is_counted_right, is_declared, is_uncounted}
 use Rattle.register.specs.Offices.{CandidateEntry, OfficeState, WardEntry, ward_at, ward_compared}
 use Rattle.register.specs.Ranges.{is_ward_number}
-use Rattle.register.specs.StateConditions.{IsState, all_counted}
+use Rattle.register.specs.StateConditions.{all_counted}
 use Rattle.register.specs.Status.{status_of}
 use Rattle.register.specs.declared.phase.Phase.{Phase}
 use Rattle.register.specs.declared.phase.Phase.TheVariants.{Nominations, Keying, Sealed, Declared}
@@ -17,12 +17,10 @@ use Rattle.register.specs.declared.refusal.Reason.TheVariants.{WrongPhase}
 use Rattle.store.specs.Overviews.{ward_view_of, ward_views}
 use Rattle.office.specs.Index.{listed_shown}
 use Rattle.office.specs.Sheets.{result_page_of}
-use Rattle.wire.specs.Gates.{PublicEntry}
 use Rattle.wire.specs.PublicLaws.{AlikeShowAlike, AreAlikeInPublic, ListsUnsealed, RestsOnWards}
-use Rattle.wire.specs.PublicReplies.{page_found, page_told, screen_data, screen_of, screen_ward_data}
+use Rattle.wire.specs.PublicReplies.{page_found, page_told, screen_data, screen_ward_data}
 use Rattle.wire.specs.Responses.{printed_response}
-use Rattle.wire.specs.Serving.{data_response, public_response, read_response}
-use Rattle.wire.specs.declared.public_target.PublicTarget.{PublicTarget}
+use Rattle.wire.specs.Serving.{data_response, read_response}
 use Rattle.wire.specs.declared.public_target.PublicTarget.TheVariants.{Index, Screen, Wards, Page}
 
 -- ---- the list of wards

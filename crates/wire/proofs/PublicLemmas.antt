@@ -1,5 +1,5 @@
 -- What is shown in public: the list of wards has no fractions, and the page of a ward is the one that an order prints.
-use Rattle.std.proofs.Common.{◌≡◌, ◌∙◌, Bool, true, false, ℕ, List, [], ◌∷◌, Option, Some, None, Result, Ok, Err, ap, inl, inr, map, refl, subst, sym}
+use Rattle.std.proofs.Common.{◌≡◌, ◌∙◌, Bool, true, false, ℕ, List, Option, Some, None, Result, Ok, Err, ap, inl, inr, map, refl, sym}
 use Rattle.std.specs.Borrow.{Bor}
 use Rattle.serde_json.specs.Written.{has_float}
 use Rattle.sqlite.specs.State.{State}

@@ -1,8 +1,8 @@
 -- What may change what is shown in public: before the seal of a ward, nothing that is nominated, given out, keyed or judged in it.
-use Rattle.std.specs.Prelude.{◌≡◌, Bool, List, false, true, ℕ}
+use Rattle.std.specs.Prelude.{◌≡◌, List, false, true, ℕ}
 use Rattle.std.specs.List.{All}
 use Rattle.register.specs.Elections.{election_of, is_counted}
-use Rattle.register.specs.Offices.{OfficeState, WardEntry}
+use Rattle.register.specs.Offices.{OfficeState}
 use Rattle.register.specs.StateConditions.{IsState}
 use Rattle.store.specs.Overviews.{ward_views}
 use Rattle.wire.specs.Gates.{PublicEntry}

@@ -1,5 +1,5 @@
 -- What is shown in public: the list of wards for the screen in the hall, and the pages that orders print.
-use Rattle.std.specs.Prelude.{◌≡◌, List, Option, Some, None, Result, Ok, Err, codes, if◌then◌else◌, map, ℕ}
+use Rattle.std.specs.Prelude.{List, Option, Some, None, Result, Ok, Err, codes, if◌then◌else◌, map, ℕ}
 use Rattle.serde_json.specs.Data.{Data, member, no_members, object, string}
 use Rattle.register.specs.Elections.{election_of, is_counted}
 use Rattle.register.specs.Offices.{OfficeState, WardEntry, ward_at}

@@ -1,5 +1,5 @@
 -- Which requests are for something that is shown in public.
-use Rattle.std.specs.Prelude.{◌≡◌, List, None, Option, Some, codes, false, map, ℕ}
+use Rattle.std.specs.Prelude.{◌≡◌, List, None, Some, codes, false, map, ℕ}
 use Rattle.httparse.specs.Grammar.{RequestHead}
 use Rattle.httparse.specs.Spans.{name_and_value}
 use Rattle.wire.specs.Gates.{HttpSettingsEntry, PublicEntry}

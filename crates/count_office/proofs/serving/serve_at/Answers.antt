@@ -8,8 +8,8 @@ use Rattle.count_office.specs.Serving.{MayServe}
 use Rattle.count_office.proofs.ServingLemmas.{IsGivenBy, served_on}
 use Rattle.count_office.proofs.serving.serve_at.Goals as goal
 
-pub returns-in-Ok-serve_through : goal.returns-in-Ok-serve_through
-returns-in-Ok-serve_through g c =
+pub returns-in-Ok : goal.returns-in-Ok
+returns-in-Ok g c =
     let line = stream_of g.H.Sockets.Stream.Stream.held g.H.Sockets.Stream.Stream.taken g.H.Sockets.Stream.Stream.failed in
     let known = g.H.Host.known in
     let found = c.in_ok-network in
@@ -17,11 +17,11 @@ returns-in-Ok-serve_through g c =
     served_on c.args.serving c.args.gate_files.now (option_map public_entry c.public_of.result)
     (g.H.Host.file c.args.host.now) found.field-0.file (g.H.Side.ServedFile.whole found.field-0.served_file) line
     (state g.S.Store) (known c.args.host.now) (known c.open.new.self) (known c.close.new.self)
-    (g.H.Sockets.Network.known found.field-0.network) (g.H.Sockets.Network.known through.new.network) c.args.office.now through.new.office (Ok c.in-Ok-serve_through.field-0)
-    found.ensures.same found.ensures.known c.close.ensures.known c.close.ensures.others found.ensures.file (c.public_of.ensures ∙ c.in-Ok.ensures) c.in-Ok-serve_through.ensures
+    (g.H.Sockets.Network.known found.field-0.network) (g.H.Sockets.Network.known through.new.network) c.args.office.now through.new.office (Ok c.in-Ok.field-0)
+    found.ensures.same found.ensures.known c.close.ensures.known c.close.ensures.others found.ensures.file (c.public_of.ensures ∙ c.in_ok-texts.ensures) c.in-Ok.ensures
 
-pub returns-in-Err-serve_through : goal.returns-in-Err-serve_through
-returns-in-Err-serve_through g c =
+pub returns-in-Err : goal.returns-in-Err
+returns-in-Err g c =
     let line = stream_of g.H.Sockets.Stream.Stream.held g.H.Sockets.Stream.Stream.taken g.H.Sockets.Stream.Stream.failed in
     let known = g.H.Host.known in
     let found = c.in_ok-network in
@@ -31,5 +31,5 @@ returns-in-Err-serve_through g c =
     (served_on c.args.serving c.args.gate_files.now (option_map public_entry c.public_of.result)
     (g.H.Host.file c.args.host.now) found.field-0.file (g.H.Side.ServedFile.whole found.field-0.served_file) line
     (state g.S.Store) (known c.args.host.now) (known c.open.new.self) (known c.close.new.self)
-    (g.H.Sockets.Network.known found.field-0.network) (g.H.Sockets.Network.known through.new.network) c.args.office.now through.new.office (Err c.in-Err-serve_through.ended)
-    found.ensures.same found.ensures.known c.close.ensures.known c.close.ensures.others found.ensures.file (c.public_of.ensures ∙ c.in-Ok.ensures) c.in-Err-serve_through.ensures)
+    (g.H.Sockets.Network.known found.field-0.network) (g.H.Sockets.Network.known through.new.network) c.args.office.now through.new.office (Err c.in-Err.ended)
+    found.ensures.same found.ensures.known c.close.ensures.known c.close.ensures.others found.ensures.file (c.public_of.ensures ∙ c.in_ok-texts.ensures) c.in-Err.ensures)
