@@ -15,7 +15,7 @@ use Rattle.connections.specs.declared.removed.Removed.{Removed}
 use Rattle.connections.specs.declared.removed.CloseReason.{CloseReason}
 use Rattle.connections.specs.declared.removed.CloseReason.TheVariants.{Closing}
 use Rattle.connections.specs.declared.connection_table.ConnectionTable.{ConnectionTable}
-use Rattle.connections.specs.Closing.{MayBeClosed, AreFull, AreClosedByRule, IsClosed, IsClosedAt, IsClosedByRule, IsClosedForBytes, IsClosedForRoom}
+use Rattle.connections.specs.Closing.{MayBeClosed, AreFull, AreClosedByRule, IsClosed, IsClosedAt, IsClosedByRule, IsClosedForBytes, IsEvicted}
 use Rattle.connections.specs.Closing.{IsOut, ClosesOne, OneIsClosed, byte_limit_rule, eviction_rule, timeout_rule, timeout, with_all_removed}
 use Rattle.connections.specs.declared.closing.Rule.{Rule}
 
@@ -72,10 +72,10 @@ module _ {L : Type 0} (Goes : List (Client L) → Removed L → List (Client L) 
 
 -- one is let go from a full room, or none
 pub let_go_full : {L : Type 0} (now : ℕ) (one : Bool) (before later : NetworkEntry L) (old new : ConnectionTable L) → AreFull old.clients.items
-    → ClosesOne (IsClosedByRule (eviction_rule now)) one before later old new → AreClosedByRule (IsClosedForRoom now) before later old new
-let_go_full {L} now true before later old new full goes = let_go_one (IsClosedForRoom now) before later old new
+    → ClosesOne (IsClosedByRule (eviction_rule now)) one before later old new → AreClosedByRule (IsEvicted now) before later old new
+let_go_full {L} now true before later old new full goes = let_go_one (IsEvicted now) before later old new
     (record { came = goes.came; counted = goes.counted; removed = goes.removed; goes = (full, goes.goes); back = goes.back })
-let_go_full {L} now false before later old new full goes = let_go_maybe (IsClosedForRoom now) false before later old new goes
+let_go_full {L} now false before later old new full goes = let_go_maybe (IsEvicted now) false before later old new goes
 
 -- ---- who is out
 
@@ -96,7 +96,7 @@ module _ {L : Type 0} where
   pub room_outs : (now : ℕ) → Outs {L = L} (IsClosedByRule (eviction_rule now))
   room_outs now old removed new it = record { why = (eviction_rule now).why; place = it.place; out = it.out; may = λ stream client. tt }
 
-  pub crowd_outs : (now : ℕ) → Outs {L = L} (IsClosedForRoom now)
+  pub crowd_outs : (now : ℕ) → Outs {L = L} (IsEvicted now)
   crowd_outs now old removed new (full, it) = room_outs now old removed new it
 
   pub bytes_outs : Outs {L = L} IsClosedForBytes

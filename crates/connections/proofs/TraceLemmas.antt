@@ -6,8 +6,8 @@ use Rattle.std.specs.List.{All, FoldsTo, flat_map}
 use Rattle.std.proofs.lemmas.List.Concat.{flat_map-append}
 use Rattle.streams.specs.declared.streams.Broken.{Broken}
 use Rattle.connections.specs.Clients.{IsNew, IsOf}
-use Rattle.connections.specs.Closing.{AreClosedByRule, IsClosedByRule, IsClosedForBytes, IsClosedForRoom, ClosesOne, eviction_rule, timeout_rule, timeout}
-use Rattle.connections.specs.Traces.{Changes, IsServiceOutcome, Trace, EndsService, ServiceStep, HadResponses, IsForRoom, Leads, ServiceEnd, TraceStep, ResponseAt, anew, closes, enters, events_of}
+use Rattle.connections.specs.Closing.{AreClosedByRule, IsClosedByRule, IsClosedForBytes, IsEvicted, ClosesOne, eviction_rule, timeout_rule, timeout}
+use Rattle.connections.specs.Traces.{Changes, IsServiceOutcome, Trace, EndsService, ServiceStep, HadResponses, IsEviction, Leads, ServiceEnd, TraceStep, ResponseAt, anew, closes, enters, events_of}
 use Rattle.connections.specs.Traces.{fails, gate_events, goes_on, keeps_out, leaves, looks, makes_way, misses, service_end_events, scene, shown_after, stops, responses_at, waits, with_gate}
 use Rattle.connections.specs.Removals.{removed_of}
 use Rattle.connections.specs.Streams.{Stream}
@@ -100,7 +100,7 @@ module _ {L : Type 0} (gated : Bool) (stream : Stream L) where
 
   -- some were closed that were due
   module _ (Goes : List (Client L) → Removed L → List (Client L) → Type 0) (shown : Option ℕ) (due : (old : List (Client L)) (removed : Removed L) (new : List (Client L))
-      → Goes old removed new → IsForRoom shown old removed new) where
+      → Goes old removed new → IsEviction shown old removed new) where
     closed_events : (gone : List (Removed L)) → map handed_back gone ≡ flat_map events_of (map closes gone)
     closed_events [] = refl
     closed_events (removed ∷ gone) = ap (λ (es : List (Event L)). handed_back removed ∷ es) (closed_events gone)
@@ -123,10 +123,10 @@ module _ {L : Type 0} (gated : Bool) (stream : Stream L) where
     }
 
   -- those for whom a full room is made emptier, and those that go for bytes
-  pub room_due : (now : ℕ) (old : List (Client L)) (removed : Removed L) (new : List (Client L)) → IsClosedForRoom now old removed new → IsForRoom (Some now) old removed new
-  room_due now old removed new it = inl (now, refl, it)
+  pub eviction_due : (now : ℕ) (old : List (Client L)) (removed : Removed L) (new : List (Client L)) → IsEvicted now old removed new → IsEviction (Some now) old removed new
+  eviction_due now old removed new it = inl (now, refl, it)
 
-  pub bytes_due : (shown : Option ℕ) (old : List (Client L)) (removed : Removed L) (new : List (Client L)) → IsClosedForBytes old removed new → IsForRoom shown old removed new
+  pub bytes_due : (shown : Option ℕ) (old : List (Client L)) (removed : Removed L) (new : List (Client L)) → IsClosedForBytes old removed new → IsEviction shown old removed new
   bytes_due shown old removed new it = inr it
 
   -- ---- one went on

@@ -93,8 +93,8 @@ IsClosedForBytes old removed new = (most_bytes < bytes_held old) × (IsClosedByR
     × IsClosedByRule (byte_limit_rule true) old removed new))
 
 -- a connection was closed because the table was full
-abbrev pub IsClosedForRoom : {L : Type 0} → ℕ → List (Client L) → Removed L → List (Client L) → Type 0
-IsClosedForRoom now old removed new = AreFull old × IsClosedByRule (eviction_rule now) old removed new
+abbrev pub IsEvicted : {L : Type 0} → ℕ → List (Client L) → Removed L → List (Client L) → Type 0
+IsEvicted now old removed new = AreFull old × IsClosedByRule (eviction_rule now) old removed new
 
 -- serving ends, and the first connection is closed
 abbrev pub IsClosed : {L : Type 0} → List (Client L) → Removed L → List (Client L) → Type 0

@@ -67,11 +67,11 @@ abbrev pub clients_among : {L : Type 0} → List (Accepted L) → ℕ
 clients_among all_accepted = sum_by (λ accepted. count_at accepted.listener) all_accepted
 
 -- nothing was sent yet on an accepted connection, as far as that is known
-abbrev pub IsFresh : {L : Type 0} → (L → Option (List ℕ)) → AcceptOutcome L → Type 0
-IsFresh taken (One accepted) = HasTaken (taken accepted.stream) []
-IsFresh taken Nobody = ⊤
-IsFresh taken NotNow = ⊤
-IsFresh taken Full = ⊤
+abbrev pub IsUnsent : {L : Type 0} → (L → Option (List ℕ)) → AcceptOutcome L → Type 0
+IsUnsent taken (One accepted) = HasTaken (taken accepted.stream) []
+IsUnsent taken Nobody = ⊤
+IsUnsent taken NotNow = ⊤
+IsUnsent taken Full = ⊤
 
 -- a connection of this listener may be accepted: an order always, and a client if clients are wanted
 abbrev pub MayCome : Bool → Listener → Type 0

@@ -3,7 +3,7 @@ use Rattle.std.specs.Prelude.{◌≡◌, ◌<◌, ◌-◌, ◌⊎◌, Bool, true
 use Rattle.std.specs.List.{All, FoldsTo, flat_map, remove}
 use Rattle.streams.specs.declared.streams.Broken.{Broken}
 use Rattle.connections.specs.Clients.{IsNew, IsOf}
-use Rattle.connections.specs.Closing.{EndsFor, IsClosedByRule, IsClosedForBytes, IsClosedForRoom, eviction_rule, timeout_rule, timeout}
+use Rattle.connections.specs.Closing.{EndsFor, IsClosedByRule, IsClosedForBytes, IsEvicted, eviction_rule, timeout_rule, timeout}
 use Rattle.connections.specs.Removals.{removed_of}
 use Rattle.connections.specs.Streams.{Stream}
 use Rattle.connections.specs.Tables.{NetworkEntry, Event, broke, handed_back, let_in, named, ran_out, showed, with_failure, with_moment}
@@ -170,8 +170,8 @@ pub record ClosesLate {L : Type 0} (now : ℕ) (clients : List (Client L)) (gone
   pub all : All (λ client. now - client.since < timeout) later
 
 -- a connection is closed because the table is full at the moment that the clock showed last, or because too many bytes are held
-abbrev pub IsForRoom : {L : Type 0} → Option ℕ → List (Client L) → Removed L → List (Client L) → Type 0
-IsForRoom shown clients removed later = ((now : ℕ) × (shown ≡ Some now) × IsClosedForRoom now clients removed later) ⊎ IsClosedForBytes clients removed later
+abbrev pub IsEviction : {L : Type 0} → Option ℕ → List (Client L) → Removed L → List (Client L) → Type 0
+IsEviction shown clients removed later = ((now : ℕ) × (shown ≡ Some now) × IsEvicted now clients removed later) ⊎ IsClosedForBytes clients removed later
 
 -- the open connections before and after a step
 abbrev pub Changes : {L : Type 0} → Bool → Stream L → TraceStep L → Option ℕ → List (Client L) → List (Client L) → Type 0
@@ -179,7 +179,7 @@ Changes gated stream (looks now gone) shown clients later = ClosesLate now clien
 Changes gated stream (enters accepted) shown clients later = IsAccepted stream shown accepted clients later
 Changes gated stream (goes_on service_step) shown clients later = IsServicedSo gated stream service_step clients later
 Changes gated stream (misses number) shown clients later = later ≡ clients
-Changes gated stream (closes removed) shown clients later = IsForRoom shown clients removed later
+Changes gated stream (closes removed) shown clients later = IsEviction shown clients removed later
 Changes gated stream (makes_way removed) shown clients later = (now : ℕ) × (shown ≡ Some now) × IsClosedByRule (eviction_rule now) clients removed later
 Changes gated stream keeps_out shown clients later = later ≡ clients
 Changes gated stream fails shown clients later = later ≡ clients

@@ -4,7 +4,7 @@
 ghost use Rattle.std.specs.Prelude.{◌≡◌, ◌⊎◌, ◌≤◌, ◌<◌, ◌-◌, [], false, length, true};
 ghost use Rattle.std.specs.List.{All};
 ghost use Rattle.connections.specs.Tables.{bytes_held, is_among, most_bytes, most_clients};
-ghost use Rattle.connections.specs.Closing.{AreClosedByRule, IsClosed, IsClosedAt, IsFull, IsClosedByRule, IsClosedForBytes, IsClosedForRoom};
+ghost use Rattle.connections.specs.Closing.{AreClosedByRule, IsClosed, IsClosedAt, IsFull, IsClosedByRule, IsClosedForBytes, IsEvicted};
 ghost use Rattle.connections.specs.Closing.{IsWithin, ClosesOne, byte_limit_rule, eviction_rule, grace, timeout_rule, timeout};
 
 use crate::connection_table::{
@@ -167,7 +167,7 @@ pub fn evict_if_full<D: Network>(
     lets_go: bool,
     now: u64,
 ) -> bool
-    ensures go { AreClosedByRule (IsClosedForRoom now) (D.known network.old) (D.known network.new) table.old table.new }
+    ensures go { AreClosedByRule (IsEvicted now) (D.known network.old) (D.known network.new) table.old table.new }
     ensures table { result ≡ true → length table.new.clients.items < most_clients }
     ensures only { (table.new ≡ table.old) ⊎ IsFull table.old }
     ensures denied { result ≡ false → IsFull table.old }

@@ -1,7 +1,7 @@
 //! What accepts connections, reports which are ready, and closes them.
 
 ghost use Rattle.std.specs.Prelude.{◌≡◌, Bool};
-ghost use Rattle.connections.specs.Tables.{NetworkEntry, IsFresh, IsWanted, after_accept, after_look, after_ready, after_wait, with_removed};
+ghost use Rattle.connections.specs.Tables.{NetworkEntry, IsUnsent, IsWanted, after_accept, after_look, after_ready, after_wait, with_removed};
 
 use crate::client::Accepted;
 use crate::removed::Removed;
@@ -49,7 +49,7 @@ pub trait Network {
     /// Accepts the next pending connection, which has this number from then on. Orders come first, and clients are accepted only
     /// if they are wanted.
     fn accept(&mut self, number: u64, clients_too: bool) -> AcceptOutcome<Self::Stream>
-        ensures fresh { IsFresh Self.Stream.taken result }
+        ensures fresh { IsUnsent Self.Stream.taken result }
         ensures wanted { IsWanted clients_too result }
         ensures known { known self.new ≡ after_accept result (known self.old) };
 

@@ -7,7 +7,7 @@ use Rattle.connections.specs.Streams.{Stream}
 use Rattle.connections.specs.Tables.{NetworkEntry}
 use Rattle.office.specs.Values.{OfficeValue}
 use Rattle.wire.specs.Gates.{PublicEntry}
-use Rattle.wire.specs.Origins.{given_by}
+use Rattle.wire.specs.Origins.{origin_setting}
 use Rattle.desk.specs.declared.lines.Failure.{Failure}
 use Rattle.server.specs.Settings.{ServerSettingsEntry}
 use Rattle.server.specs.declared.serve_error.ServeError.{ServeError}
@@ -21,7 +21,7 @@ use Rattle.count_office.specs.declared.serving.Serving.{Serving}
 -- the settings have the origin, the gate, what is shown in public, and a file
 abbrev pub IsGivenBy : Serving → Option GateFiles → Option FileNumbers → ServerSettingsEntry → Type 0
 IsGivenBy serving gate_files numbers settings =
-    (settings ≡ settings_with (given_by serving.origin) (option_map gate_at gate_files) (public_in serving) settings.file settings.whole) × IfSome numbers (λ known. settings.file ≡ known)
+    (settings ≡ settings_with (origin_setting serving.origin) (option_map gate_at gate_files) (public_in serving) settings.file settings.whole) × IfSome numbers (λ known. settings.file ≡ known)
 
 given_for : (serving : Serving) (codes_at : CodeFiles) (gate_files : Option GateFiles) (numbers : Option FileNumbers) (settings : ServerSettingsEntry)
     → IsGateFor codes_at (path_in serving) (option_map gate_at gate_files) → IsGivenBy serving gate_files numbers settings → AreSettingsFor serving codes_at numbers settings
@@ -38,11 +38,11 @@ pub served_on : {L S : Type 0} (serving : Serving) (gate_files : Option GateFile
     (before opened later : ℕ → NetworkEntry L) (first last : NetworkEntry L) (old new : OfficeValue S) (ends : Result (Unit {0}) ServeError)
     → opened ≡ before → first ≡ before serving.port → later serving.port ≡ last → IsElsewhereSame serving.port opened later → IfSome numbers (λ known. file ≡ known)
     → public ≡ public_in serving
-    → ServesAtNetwork (settings_with (given_by serving.origin) (option_map gate_at gate_files) public file whole) stream state_of first last serving.connections old new ends
+    → ServesAtNetwork (settings_with (origin_setting serving.origin) (option_map gate_at gate_files) public file whole) stream state_of first last serving.connections old new ends
     → MayServe (IsGivenBy serving gate_files numbers) stream state_of serving.port before later serving.connections old new (outcome_by ends)
 served_on serving gate_files public numbers file whole stream state_of before opened later first last old new ends same began closed elsewhere is_file shown given =
-    let settings = settings_with (given_by serving.origin) (option_map gate_at gate_files) (public_in serving) file whole in
-    let by = λ (its : Option PublicEntry). ServesAtNetwork (settings_with (given_by serving.origin) (option_map gate_at gate_files) its file whole) stream state_of first last serving.connections
+    let settings = settings_with (origin_setting serving.origin) (option_map gate_at gate_files) (public_in serving) file whole in
+    let by = λ (its : Option PublicEntry). ServesAtNetwork (settings_with (origin_setting serving.origin) (option_map gate_at gate_files) its file whole) stream state_of first last serving.connections
     old new ends in
     let served = subst by shown given in
     let at = λ (one other : NetworkEntry _). ServesAtNetwork settings stream state_of one other serving.connections old new ends in

@@ -24,7 +24,7 @@ use Rattle.store.specs.Openings.{IsLeftAt, IsToldBy}
 use Rattle.office.specs.Answers.{IsOpenAt}
 use Rattle.office.specs.Values.{OfficeValue}
 use Rattle.wire.specs.Gates.{GateEntry, PageEntry, PublicEntry, public_entry}
-use Rattle.wire.specs.Origins.{given_by}
+use Rattle.wire.specs.Origins.{origin_setting}
 use Rattle.desk.specs.Pages.{Page, codes_page, failed}
 use Rattle.desk.specs.declared.lines.Failure.{Failure}
 use Rattle.desk.specs.declared.lines.Failure.TheVariants.{Office, Output}
@@ -90,11 +90,11 @@ settings_with origin gate public file whole = record { clients = record { origin
 -- the settings of the server
 abbrev pub server_settings_of : ServeSettings → Option Bool → ServerSettingsEntry
 server_settings_of settings whole =
-    settings_with (given_by settings.serving.origin) (option_map gate_at settings.gate_files.now) (option_map public_entry settings.public) settings.file whole
+    settings_with (origin_setting settings.serving.origin) (option_map gate_at settings.gate_files.now) (option_map public_entry settings.public) settings.file whole
 
 -- The settings for the order to serve: the origin that it names, the gate for the file of codes that it names, what it shows in public, and the file of the office.
 pub record AreSettingsFor (serving : Serving) (codes_at : CodeFiles) (numbers : Option FileNumbers) (settings : ServerSettingsEntry) : Type 0 where
-  pub origin : settings.clients.origin ≡ given_by serving.origin
+  pub origin : settings.clients.origin ≡ origin_setting serving.origin
   pub gate : IsGateFor codes_at (path_in serving) settings.clients.gate
   pub public : settings.clients.public ≡ public_in serving
   pub file : IfSome numbers (λ known. settings.file ≡ known)

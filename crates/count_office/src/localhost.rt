@@ -124,7 +124,7 @@ impl<'a> Localhost<'a> {
 
     /// Creates the order socket next to the database. If that fails, prints a line to the error output; no order can then be sent
     /// to the server.
-    fn listen_beside(&mut self) -> Option<UnixListener> {
+    fn listen_for_orders(&mut self) -> Option<UnixListener> {
         let rt = self.place.rt;
         match OrderSocket::listen(rt, self.place.found.database()) {
             Ok((beside, orders)) => {
@@ -172,7 +172,7 @@ impl<'a> Host for Localhost<'a> {
             Ok(streams) => self.streams = Some(streams),
             Err(error) => return Err(listening_failure(&error)),
         }
-        let orders = self.listen_beside();
+        let orders = self.listen_for_orders();
         let opened = open_at(self.place, port, orders);
         if opened.is_err() {
             self.clear();

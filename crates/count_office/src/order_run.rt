@@ -161,7 +161,7 @@ fn hand_over<O: Sink, E: Sink>(
 }
 
 /// Returns whether this error means that another order has locked the database, or has just made it.
-fn is_held(rt: &HostRuntime, database: &str, error: &io::Error) -> bool {
+fn is_locked_by_other(rt: &HostRuntime, database: &str, error: &io::Error) -> bool {
     match error.kind() {
         ErrorKind::WouldBlock => true,
         ErrorKind::AlreadyExists => {
@@ -214,7 +214,7 @@ fn lock_and_perform<O: Sink, E: Sink>(
             drop(held);
             done
         }
-        Err(error) if is_held(rt, found.database(), &error) => {
+        Err(error) if is_locked_by_other(rt, found.database(), &error) => {
             hand_over(request, found.database(), brought, out, err)
         }
         Err(error) if error.kind() == ErrorKind::OutOfMemory => {

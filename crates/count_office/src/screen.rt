@@ -10,7 +10,7 @@ ghost use Rattle.count_office.specs.Screens.{controls, ends_steering, last_two, 
 use streams::{Broken, Sink};
 
 /// The maximum number of bytes that are written at once.
-const ROOM: usize = 512;
+const MAX_PIECE: usize = 512;
 
 /// What is shown on a terminal in place of a control byte.
 const MASK: u8 = b'?';
@@ -59,11 +59,11 @@ fn shown_byte(first: u8, second: u8, byte: u8) -> u8
 }
 
 /// Returns bytes as they are shown on a terminal, given the two bytes before them, at the beginning of an array.
-fn mask(first: u8, second: u8, bytes: &[u8]) -> [u8; ROOM]
+fn mask(first: u8, second: u8, bytes: &[u8]) -> [u8; MAX_PIECE]
     requires { length bytes.now ≤ 512 }
     ensures { take (length bytes.now) result ≡ masked first second bytes.now }
 {
-    let mut room = [0; ROOM];
+    let mut room = [0; MAX_PIECE];
     let mut before = first;
     let mut last = second;
     for i in 0..bytes.len() {
@@ -111,7 +111,7 @@ impl<S: Sink> Screen<S> {
         ensures ok { OnOk result (S.failed self.new.stream ≡ S.failed self.old.stream) }
         ensures err { OnErr result (S.failed self.new.stream ≡ S.failed self.old.stream + 1) }
     {
-        let bytes = &bytes[..bytes.len().min(ROOM)];
+        let bytes = &bytes[..bytes.len().min(MAX_PIECE)];
         let room = mask(self.first, self.second, bytes);
         let count = self.stream.put(&room[..bytes.len()])?;
         let (first, second) = last_two(self.first, self.second, &bytes[..count]);

@@ -4,7 +4,7 @@ ghost use Rattle.std.specs.Prelude.{◌≡◌, ◌-◌, ◌^◌, ◌<◌, IfOk, 
 ghost use Rattle.sqlite.specs.Held.{state};
 ghost use Rattle.desk.specs.Pages.{IsErrorTold};
 ghost use Rattle.connections.specs.Streams.{stream_of};
-ghost use Rattle.wire.specs.Origins.{given_by};
+ghost use Rattle.wire.specs.Origins.{origin_setting};
 ghost use Rattle.count_office.specs.Serving.{MayServe, ServesAtNetwork, ServesOrder, TellsOutcome, failure_by, gate_at, public_at, public_in, public_with, server_settings_of, settings_with};
 
 use crate::codes_file::tell_untaken;
@@ -108,7 +108,7 @@ fn serve_at<H: Host, S: Alter>(
     gate_files: &Option<GateFiles>,
     office: &mut Office<S>,
 ) -> Result<(), Failure>
-    ensures { MayServe (λ given. (given ≡ settings_with (given_by serving.entry.origin) (option_map gate_at gate_files.now) (public_in serving.entry) given.file given.whole)
+    ensures { MayServe (λ given. (given ≡ settings_with (origin_setting serving.entry.origin) (option_map gate_at gate_files.now) (public_in serving.entry) given.file given.whole)
         × IfSome (H.file host.old) (λ numbers. given.file ≡ numbers))
         (stream_of H.Sockets.Stream.held H.Sockets.Stream.taken H.Sockets.Stream.failed) (state S.Store)
         serving.entry.port (H.known host.old) (H.known host.new) serving.entry.connections office.old office.new result }

@@ -107,7 +107,7 @@ fn run<S: Alter, F: Folder, O: Sink, E: Sink>(
 /// Runs steps in turn, and prints each reply. A refusal or a fault is printed after its line's number. The first fault ends it; so
 /// does the first output that fails, and, without `keep_going`, the first refusal. A file is opened when its step is run. The status
 /// is the last one other than 0.
-fn send_turns<S: Alter, F: Folder, O: Sink, E: Sink>(
+fn send_parsed<S: Alter, F: Folder, O: Sink, E: Sink>(
     alloc: Global,
     office: &mut Office<S>,
     keep_going: bool,
@@ -164,7 +164,7 @@ fn send_lines<S: Alter, F: Folder, O: Sink, E: Sink>(
     ensures clean { HasCleanDisk (state S.Store office.new.held) → HasCleanDisk (state S.Store office.old.held) }
 {
     match turns_in(alloc, lines) {
-        Ok(turns) => send_turns(alloc, office, keep_going, &turns, folder, out, err),
+        Ok(turns) => send_parsed(alloc, office, keep_going, &turns, folder, out, err),
         Err(fault) => tell_script_fault(&fault, err),
     }
 }

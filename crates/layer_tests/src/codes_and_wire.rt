@@ -138,7 +138,7 @@ const SENT: [(&str, &str, &str); 19] = [
 ];
 
 /// Requests for no clerk's number, with two codes, and from a page from elsewhere.
-const BESIDE: [(&str, &str, &str); 5] = [
+const OTHER_REQUESTS: [(&str, &str, &str); 5] = [
     ("GET /wards/7/sheet", "", "Sheet { ward: 7 }"),
     ("GET /clerks//work", "", "NotFound"),
     ("GET /clerks/04/work", "", "NotFound"),
@@ -155,7 +155,7 @@ const BESIDE: [(&str, &str, &str); 5] = [
 ];
 
 /// Codes sent under clerk 4's number, how often, and when; and whether the limit is then reached.
-const KNOCKS: [(&str, u32, u64, bool); 9] = [
+const CODES_SENT: [(&str, u32, u64, bool); 9] = [
     (FOUR, 6_001, 0, false),
     (NINE, 5_999, 100_000, false),
     (NINE, 1, 159_999, true),
@@ -307,8 +307,8 @@ fn asks_all(rt: &(impl Abort + AllocGlobal), given: HttpSettings<'_>) -> Result<
 }
 
 /// Asserts that one code is required, of a clerk only, and that a page from elsewhere is rejected first.
-fn asks_beside(rt: &(impl Abort + AllocGlobal), given: HttpSettings<'_>) -> Result<(), Fail> {
-    for (line, headers, asked) in &BESIDE {
+fn asks_other(rt: &(impl Abort + AllocGlobal), given: HttpSettings<'_>) -> Result<(), Fail> {
+    for (line, headers, asked) in &OTHER_REQUESTS {
         asks_at(rt, given, *line, *headers, *asked)?;
     }
     Ok(())
@@ -379,7 +379,7 @@ fn limits_wrong_codes(
 ) -> Result<(), Fail> {
     let alloc = rt.alloc();
     let mut limit = RateLimit::new();
-    for (value, times, now, is_reached) in &KNOCKS {
+    for (value, times, now, is_reached) in &CODES_SENT {
         assert!(rt;
             is_reached_after(alloc, given, &mut limit, *value, *times, *now)? == *is_reached
         );
@@ -413,7 +413,7 @@ fn codes_of_clerks(rt: HostRuntime) -> Result<(), Fail> {
     faults_are_told(&rt)?;
     let held = codes_of(rt.alloc(), FILE)?;
     asks_all(&rt, gate_of(&held))?;
-    asks_beside(&rt, gate_of(&held))?;
+    asks_other(&rt, gate_of(&held))?;
     assert_eq!(rt; held.weak_clerks(), [4, 9].as_slice());
     limits_wrong_codes(&rt, gate_of(&held))?;
     // without a line of the office nothing is the office's

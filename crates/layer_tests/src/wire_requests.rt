@@ -54,7 +54,7 @@ fn keying_words(alloc: Global, keying: &Keying) -> Result<String, AllocError> {
 }
 
 /// Why a request is denied, in short.
-fn denial_words(alloc: Global, why: &RequestError) -> Result<String, AllocError> {
+fn rejection_words(alloc: Global, why: &RequestError) -> Result<String, AllocError> {
     match why {
         RequestError::MethodNotAllowed { allowed } => format!(in alloc; "only {allowed:?}"),
         _ => format!(in alloc; "{why:?}"),
@@ -95,7 +95,7 @@ fn words_of(alloc: Global, came: &Result<HttpRequest, ReadFailure>) -> Result<St
         Ok(HttpRequest::Order(order)) => order_words(alloc, order),
         Ok(HttpRequest::Resource(what)) => format!(in alloc; "{what:?}"),
         Ok(HttpRequest::Public(_, what)) => format!(in alloc; "{what:?}"),
-        Ok(HttpRequest::Denied(why)) => denial_words(alloc, why),
+        Ok(HttpRequest::Denied(why)) => rejection_words(alloc, why),
         Err(ReadFailure::Broken) => String::from_str(alloc, "broken"),
         Err(ReadFailure::Memory) => String::from_str(alloc, "memory"),
     }

@@ -44,7 +44,7 @@ abbrev pub Keeps : List Request → List Request → ℕ → State → Type 0
 Keeps earlier requests answered st = LeavesState st (IsAfterBeginning earlier requests answered)
 
 -- the answers could not be allocated: nothing was handled, and the office stays open at the state before
-pub record HadNoRoom (s : OfficeState) (answered : ℕ) (f : Fault) (closed : Bool) (st : State) : Type 0 where
+pub record FailedToAllocate (s : OfficeState) (answered : ℕ) (f : Fault) (closed : Bool) (st : State) : Type 0 where
   pub none : answered ≡ 0
   pub memory : f ≡ Memory
   pub open_at : IsOpenAt s closed st
@@ -57,4 +57,4 @@ pub record MetFault (s : OfficeState) (requests : List Request) (answered : ℕ)
 
 -- why a fault ended the list after this number of answers, and what it leaves
 abbrev pub StopsAfter : OfficeState → List Request → ℕ → Bool → State → Fault → Type 0
-StopsAfter s requests answered closed st f = HadNoRoom s answered f closed st ⊎ MetFault s requests answered f closed st
+StopsAfter s requests answered closed st f = FailedToAllocate s answered f closed st ⊎ MetFault s requests answered f closed st

@@ -9,7 +9,7 @@ use Rattle.std.proofs.lemmas.List.{length-take, length-map, take_more, map-appen
 use Rattle.std.proofs.lemmas.List.Splits.{slice_split_none, slice_split_at, join_with_byte-slice_split}
 use Rattle.paper.specs.Columns.{IsCandidateSet}
 use Rattle.paper.specs.Marking.{Marking, IsMarking, candidates_of, marks_of}
-use Rattle.paper.specs.MarksText.{fields, is_digit, number_in, mark_in, marks_in, and_marks, beside, reading, mark_text, field_text, spelling, ReadsBack}
+use Rattle.paper.specs.MarksText.{fields, is_digit, number_in, mark_in, marks_in, and_marks, with_columns, reading, mark_text, field_text, spelling, ReadsBack}
 use Rattle.paper.specs.Padded.{padded}
 use Rattle.paper.specs.declared.marks.MarkFault.{MarkFault}
 use Rattle.paper.specs.declared.marks.MarkFault.TheVariants.{NotANumber, TooLarge}
@@ -179,7 +179,7 @@ text_read columns text marks set plain count read behind =
         some = omega (arith, ap length cs, count, fields-some text, length-map (zip columns marks) (λ (m : ℕ × ℕ). m.0));
       };
       reads =
-          cond-false _ _ _ plain ∙ cond-true _ _ _ (eq-eqb (length (fields text)) (length columns) count) ∙ ap (beside columns) read
+          cond-false _ _ _ plain ∙ cond-true _ _ _ (eq-eqb (length (fields text)) (length columns) count) ∙ ap (with_columns columns) read
           ∙ ap (λ l. Ok (Marked l)) (sym (zip-take columns marks));
       spells = ap (λ l. join_with_byte 44 (map mark_text l)) ms ∙ ap (join_with_byte 44) are.texts ∙ join_with_byte-slice_split 44 text;
     }
@@ -221,7 +221,7 @@ marked_reads_back (m ∷ ms) is columns same =
     let count : length (fields (join_with_byte 44 (map mark_text (marks_of (m ∷ ms))))) ≡ length columns =
     ap length parted ∙ length-map (marks_of (m ∷ ms)) mark_text ∙ length-map (m ∷ ms) (λ (k : ℕ × ℕ). k.1) ∙ sym (length-map (m ∷ ms) (λ (k : ℕ × ℕ). k.0)) ∙ ap length same in
     cond-false _ _ _ (not_doubtful (mark_text m.1) (map mark_text (marks_of ms)) (mark_text-digits m.1 is.small.0))
-    ∙ cond-true _ _ _ (eq-eqb _ _ count) ∙ ap (beside columns) (ap marks_in parted ∙ marks_written (marks_of (m ∷ ms)) is.small)
+    ∙ cond-true _ _ _ (eq-eqb _ _ count) ∙ ap (with_columns columns) (ap marks_in parted ∙ marks_written (marks_of (m ∷ ms)) is.small)
     ∙ ap (λ l. Ok (Marked l)) (ap (λ cs. zip cs (marks_of (m ∷ ms))) (sym same) ∙ zip-parts (m ∷ ms))
 
 join-more : (g : List ℕ) (fs : List (List ℕ)) (f : List ℕ) → join_with_byte 44 ((g ∷ fs) ++ f ∷ []) ≡ join_with_byte 44 (g ∷ fs) ++ 44 ∷ f

@@ -38,16 +38,16 @@ marks_in [] = Ok []
 marks_in (field ∷ fields) = and_marks (mark_in field) (marks_in fields)
 
 -- the marks of the candidates in these columns, or the fault
-abbrev pub beside : List ℕ → Result (List ℕ) MarkFault → Result Keyed MarkFault
-beside columns (Err fault) = Err fault
-beside columns (Ok marks) = Ok (Marked (zip columns marks))
+abbrev pub with_columns : List ℕ → Result (List ℕ) MarkFault → Result Keyed MarkFault
+with_columns columns (Err fault) = Err fault
+with_columns columns (Ok marks) = Ok (Marked (zip columns marks))
 
 -- the paper that a text denotes, given the columns: doubtful if the text is the letter D, otherwise one field for each column;
 -- the number of fields is checked first
 abbrev pub reading : List ℕ → List ℕ → Result Keyed MarkFault
 reading columns text =
     if bytes_eq text (codes "D") then Ok Doubtful else (
-    if length (fields text) == length columns then beside columns (marks_in (fields text)) else Err FieldCount)
+    if length (fields text) == length columns then with_columns columns (marks_in (fields text)) else Err FieldCount)
 
 -- the text of a mark
 abbrev pub mark_text : ℕ → List ℕ

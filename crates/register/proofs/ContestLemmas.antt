@@ -13,7 +13,7 @@ use Rattle.paper.specs.Columns.{IsCandidateSet, with_column}
 use Rattle.paper.specs.Ranking.{IsRanking}
 use Rattle.paper.specs.Marking.{Marking, marked_with}
 use Rattle.paper.specs.Marking as marking
-use Rattle.paper.specs.MarksText.{reading, fields, beside, marks_in}
+use Rattle.paper.specs.MarksText.{reading, fields, with_columns, marks_in}
 use Rattle.paper.specs.Preferences.{if_alone, preferences_from, preferences, rejection_by, rejection_of}
 use Rattle.paper.specs.declared.marked.Keyed.TheVariants.{Doubtful}
 use Rattle.paper.specs.declared.marks.MarkFault.TheVariants.{FieldCount}
@@ -104,15 +104,15 @@ module _ (columns : List ℕ) (P : List ℕ → Type 0) (each : (marks : List �
   given_reading : (marks : List ℕ) (doubtful : Judgement) → Gives doubtful → Gives (by_reading doubtful (reading columns marks))
   given_reading marks doubtful fair = by_letter (bytes_eq marks (codes "D"))
     where
-      by_marks : (r : Result (List ℕ) MarkFault) → Gives (by_reading doubtful (beside columns r))
+      by_marks : (r : Result (List ℕ) MarkFault) → Gives (by_reading doubtful (with_columns columns r))
       by_marks (Err fault) = tt
       by_marks (Ok numbers) = by_marking numbers (rejection_of (zip columns numbers)) refl
 
-      by_count : (b : Bool) → Gives (by_reading doubtful (cond b (beside columns (marks_in (fields marks))) (Err FieldCount)))
+      by_count : (b : Bool) → Gives (by_reading doubtful (cond b (with_columns columns (marks_in (fields marks))) (Err FieldCount)))
       by_count true = by_marks (marks_in (fields marks))
       by_count false = tt
 
-      by_letter : (b : Bool) → Gives (by_reading doubtful (cond b (Ok Doubtful) (cond (length (fields marks) == length columns) (beside columns (marks_in (fields marks))) (Err FieldCount))))
+      by_letter : (b : Bool) → Gives (by_reading doubtful (cond b (Ok Doubtful) (cond (length (fields marks) == length columns) (with_columns columns (marks_in (fields marks))) (Err FieldCount))))
       by_letter true = fair
       by_letter false = by_count (length (fields marks) == length columns)
 

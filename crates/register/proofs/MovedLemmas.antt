@@ -39,11 +39,11 @@ moved-append (m ∷ ms) xs ys =
     ∙ moved-append ms (moved_to m xs) (moved_to m ys)
 
 -- a bundle that isn't among those moved stays
-beside : (x : PlacedEntry) (ms xs : List PlacedEntry) → list_all (λ m. not (is_eq (placed_cmp m x))) ms ≡ true → all_moved (x ∷ xs) ms ≡ x ∷ all_moved xs ms
-beside x [] xs apart = refl
-beside x (m ∷ ms) xs apart =
+keeps_others : (x : PlacedEntry) (ms xs : List PlacedEntry) → list_all (λ m. not (is_eq (placed_cmp m x))) ms ≡ true → all_moved (x ∷ xs) ms ≡ x ∷ all_moved xs ms
+keeps_others x [] xs apart = refl
+keeps_others x (m ∷ ms) xs apart =
     let parts = and_parts (not (is_eq (placed_cmp m x))) (list_all (λ m. not (is_eq (placed_cmp m x))) ms) apart in
-    rw (not-true (is_eq (placed_cmp m x)) parts.0) (beside x ms (moved_to m xs) parts.1)
+    rw (not-true (is_eq (placed_cmp m x)) parts.0) (keeps_others x ms (moved_to m xs) parts.1)
 
 -- two orders in sequence distinguish entries if the first does
 first_apart : (o p : Ordering) → is_eq o ≡ false → is_eq (ordering_then o p) ≡ false
@@ -143,7 +143,7 @@ module _ (n : ℕ) where
             (map (λ (b : Bundle). placed_at n b (after b.0)) (cond (not s) (b ∷ filter (λ (b : Bundle). not (stays b)) bs) (filter (λ (b : Bundle). not (stays b)) bs)))
             ≡ placed_at n b (after b.0) ∷ map (λ (b : Bundle). placed_at n b (after b.0)) bs
         go true is later =
-            beside (placed_at n b (before b.0)) _ (map (λ (b : Bundle). placed_at n b (before b.0)) bs) (apart_before b (before b.0) bs up.0)
+            keeps_others (placed_at n b (before b.0)) _ (map (λ (b : Bundle). placed_at n b (before b.0)) bs) (apart_before b (before b.0) bs up.0)
             ∙ ap (λ (ys : List PlacedEntry). placed_at n b (before b.0) ∷ ys) later
             ∙ ap (λ (y : PlacedEntry). y ∷ map (λ (b : Bundle). placed_at n b (after b.0)) bs) (same_bundle b is)
         go false is later =
@@ -154,7 +154,7 @@ module _ (n : ℕ) where
             ap (λ (s : Bool). all_moved (cond s (placed_at n b (after b.0)) (placed_at n b (before b.0))
             ∷ moved_to (placed_at n b (after b.0)) (map (λ (b : Bundle). placed_at n b (before b.0)) bs)) ms) own
             ∙ ap (λ (ys : List PlacedEntry). all_moved (placed_at n b (after b.0) ∷ ys) ms) (apart_behind b bs up.0)
-            ∙ beside (placed_at n b (after b.0)) ms (map (λ (b : Bundle). placed_at n b (before b.0)) bs) (apart_before b (after b.0) bs up.0)
+            ∙ keeps_others (placed_at n b (after b.0)) ms (map (λ (b : Bundle). placed_at n b (before b.0)) bs) (apart_before b (after b.0) bs up.0)
             ∙ ap (λ (ys : List PlacedEntry). placed_at n b (after b.0) ∷ ys) later
 
     -- a walk through the old and the new places finds those that have changed

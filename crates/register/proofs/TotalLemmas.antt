@@ -13,7 +13,7 @@ use Rattle.std.proofs.lemmas.Cmp.{ranked}
 use Rattle.std.proofs.lemmas.List.Folds.{list_all-append}
 use Rattle.std.proofs.lemmas.List.Sums.{sum_by-cons}
 use Rattle.paper.specs.Marking.{Marking, marked_with}
-use Rattle.paper.specs.MarksText.{reading, fields, beside, marks_in}
+use Rattle.paper.specs.MarksText.{reading, fields, with_columns, marks_in}
 use Rattle.paper.specs.Preferences.{rejection_by, rejection_of}
 use Rattle.paper.specs.declared.marked.Keyed.{Keyed}
 use Rattle.paper.specs.declared.marked.Keyed.TheVariants.{Doubtful, Marked}
@@ -114,15 +114,15 @@ by_valid (Ok (Marked marking)) valid = by_marking marking
 read_doubtful : (columns marks : List ℕ) → reading columns marks ≡ Ok Doubtful → bytes_eq marks (codes "D") ≡ true
 read_doubtful columns marks is = go (bytes_eq marks (codes "D")) refl is
   where
-    by_marks : (r : Result (List ℕ) MarkFault) → beside columns r ≡ Ok Doubtful → ⊥
+    by_marks : (r : Result (List ℕ) MarkFault) → with_columns columns r ≡ Ok Doubtful → ⊥
     by_marks (Err fault) same = cc
     by_marks (Ok numbers) same = cc
 
-    by_count : (b : Bool) → cond b (beside columns (marks_in (fields marks))) (Err FieldCount) ≡ Ok Doubtful → ⊥
+    by_count : (b : Bool) → cond b (with_columns columns (marks_in (fields marks))) (Err FieldCount) ≡ Ok Doubtful → ⊥
     by_count true same = by_marks (marks_in (fields marks)) same
     by_count false same = cc
 
-    go : (b : Bool) → bytes_eq marks (codes "D") ≡ b → cond b (Ok Doubtful) (cond (length (fields marks) == length columns) (beside columns (marks_in (fields marks))) (Err FieldCount))
+    go : (b : Bool) → bytes_eq marks (codes "D") ≡ b → cond b (Ok Doubtful) (cond (length (fields marks) == length columns) (with_columns columns (marks_in (fields marks))) (Err FieldCount))
         ≡ Ok Doubtful → b ≡ true
     go true letter same = refl
     go false letter same = absurd (by_count (length (fields marks) == length columns) same)

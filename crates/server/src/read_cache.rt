@@ -106,7 +106,7 @@ impl ReadCache {
     }
 
     /// Removes the oldest responses until `more` bytes fit.
-    fn make_room(&mut self, more: usize)
+    fn evict_oldest(&mut self, more: usize)
         ensures { (gone : List ReadEntry) × (reads_in self.old ≡ gone ++ reads_in self.new) }
     {
         for _ in 0..MAX_ANSWERS {
@@ -131,7 +131,7 @@ impl ReadCache {
         if answer.len() > MAX_KEPT {
             return;
         }
-        self.make_room(answer.len());
+        self.evict_oldest(answer.len());
         let Ok(answer) = Vec::from_slice(alloc, answer) else {
             return;
         };

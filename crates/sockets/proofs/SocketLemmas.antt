@@ -7,7 +7,7 @@ use Rattle.connections.specs.declared.stream.Received.TheVariants.{Bytes, Nothin
 use Rattle.connections.specs.declared.network.AcceptOutcome.{AcceptOutcome}
 use Rattle.connections.specs.declared.network.AcceptOutcome.TheVariants.{One, Nobody, NotNow, Full}
 use Rattle.connections.specs.Streams.{Gives, Takes, failed_after, idle_after_read, idle_after_write}
-use Rattle.connections.specs.Tables.{IsFresh, IsWanted, MayCome, after_accept, after_look, after_ready, after_wait}
+use Rattle.connections.specs.Tables.{IsUnsent, IsWanted, MayCome, after_accept, after_look, after_ready, after_wait}
 use Rattle.connections.specs.declared.client.Listener.{Listener}
 use Rattle.connections.specs.declared.client.Listener.TheVariants.{Clients, Orders}
 use Rattle.sockets.specs.Pollers.{ComesByListener, FitsListener, IsAtListener, unknown}
@@ -31,7 +31,7 @@ takes_untold written bytes (Ok n) within (inr is) = (subst (λ x. IfOk x (λ m. 
 takes_untold written bytes (Err broken) within told = refl
 
 -- whoever comes in over a line that tells nothing was told nothing
-pub fresh_untold : {L : Type 0} (a : AcceptOutcome L) → IsFresh (λ (l : L). None) a
+pub fresh_untold : {L : Type 0} (a : AcceptOutcome L) → IsUnsent (λ (l : L). None) a
 fresh_untold (One accepted) = tt
 fresh_untold Nobody = tt
 fresh_untold NotNow = tt

@@ -41,7 +41,7 @@ use Rattle.store.specs.StateTables.{no_tabulation, tables_of, tables_with, Holds
 use Rattle.store.specs.Openings.{HasNoOffice, IsNewer, HoldsNoState, IsToldBy, HasVersion, has_entries, IsTabulatedAs}
 use Rattle.store.specs.Listings.{TellsStrange, ListsFirst}
 use Rattle.store.specs.Migrations.{tables_in, name_of, tabulation_in, older_tables, is_about_third, IsOlderState, HoldsOlder, RestsOlder, HoldsNoOlder, StoresOlder}
-use Rattle.store.specs.Migrations.{LeavesOldOrNew, WasAt, IsToldInMigration, FailsToMigrate, IsBare, IsOlderOf, Lacks, TellsOlder, LeavesOlderOr}
+use Rattle.store.specs.Migrations.{LeavesOldOrNew, WasAt, IsToldInMigration, FailsToMigrate, IsBare, IsOlderOf, IsCompletedBy, TellsOlder, LeavesOlderOr}
 use Rattle.tables.proofs.HoldLemmas.{rows_held, held_listed}
 use Rattle.tables.proofs.OrderLemmas.{key_of_number}
 use Rattle.tables.proofs.ChangeLemmas.{rows_set}
@@ -198,10 +198,10 @@ older_once db form other s x first second =
 
 -- ---- what is reported when it is opened
 
-lacks_table : (form : OlderForm) (s : Schema) → s ≡ schema_from (tables_in form) [] [] [] → has_every_table s ≡ false
+misses_table : (form : OlderForm) (s : Schema) → s ≡ schema_from (tables_in form) [] [] [] → has_every_table s ≡ false
 unfolding same_name
-lacks_table WithCounts s is = subst (λ (x : Schema). has_every_table x ≡ false) (sym is) refl
-lacks_table WithoutCounts s is = subst (λ (x : Schema). has_every_table x ≡ false) (sym is) refl
+misses_table WithCounts s is = subst (λ (x : Schema). has_every_table x ≡ false) (sym is) refl
+misses_table WithoutCounts s is = subst (λ (x : Schema). has_every_table x ≡ false) (sym is) refl
 
 has_office : (form : OlderForm) (s : Schema) → s ≡ schema_from (tables_in form) [] [] [] → has_table Office s ≡ true
 unfolding same_name
@@ -209,7 +209,7 @@ has_office WithCounts s is = subst (λ (x : Schema). has_table Office x ≡ true
 has_office WithoutCounts s is = subst (λ (x : Schema). has_table Office x ≡ true) (sym is) refl
 
 pub older_ours : (form : OlderForm) (s : Schema) → s ≡ schema_from (tables_in form) [] [] [] → IsOurs s
-older_ours form s is = record { office = λ _. first_begins (tables_in form) s is Office (some_tables form); every = λ all. absurd (true≢false (sym all ∙ lacks_table form s is)) }
+older_ours form s is = record { office = λ _. first_begins (tables_in form) s is Office (some_tables form); every = λ all. absurd (true≢false (sym all ∙ misses_table form s is)) }
 
 -- a schema with such a name has the tables of the form
 pub form_schema : (form : OlderForm) (s : Schema) → IsOlderSchema s → tables_present s ≡ name_of form → s ≡ schema_from (tables_in form) [] [] []
@@ -386,9 +386,9 @@ pub figures_none : (s : OfficeState) → IsOlderState s → older_tables Without
 figures_none s is = older_none WithoutCounts s is Vote (omega arith)
 
 -- with what it lacked, an older office has the whole tabulation
-pub lacks_filled : (form : OlderForm) (s : OfficeState) (a : AdditionEntries) → Lacks form s a → tables_with s (with_addition a (tabulation_in form s)) ≡ tables_of s
+pub completed_filled : (form : OlderForm) (s : OfficeState) (a : AdditionEntries) → IsCompletedBy form s a → tables_with s (with_addition a (tabulation_in form s)) ≡ tables_of s
 unfolding tables_of
-lacks_filled form s a lacks = ap (tables_with s) lacks
+completed_filled form s a lacks = ap (tables_with s) lacks
 
 -- ---- at a connection
 
@@ -527,8 +527,8 @@ asked rows form hit is = true≢false (sym hit ∙ sym (asked_mapped rows.receip
 -- what an older office lacks of the tabulation that was counted
 pub if_lacking : (o : Option Addition) (rows : Rows) (form : OlderForm) (u : TabulationEntries) → list_any (λ (r : ReceiptValue). is_about_third (receipt_entry r).subject) rows.receipts.items ≡ false
     → IsBare form (state_of rows) (tabulated rows) → IsTabulatedAs (state_of rows) u
-    → IfSome o (λ a. IsTabulatedAs (state_of rows) u → (tabulated rows ≡ tabulation_in form (state_of rows)) × Lacks form (state_of rows) (addition_entries a))
-    → IfSome o (λ a. IsOlderOf form (state_of rows) (tabulated rows) × Lacks form (state_of rows) (addition_entries a))
+    → IfSome o (λ a. IsTabulatedAs (state_of rows) u → (tabulated rows ≡ tabulation_in form (state_of rows)) × IsCompletedBy form (state_of rows) (addition_entries a))
+    → IfSome o (λ a. IsOlderOf form (state_of rows) (tabulated rows) × IsCompletedBy form (state_of rows) (addition_entries a))
 if_lacking None rows form u unasked bare is lacks = tt
 if_lacking (Some a) rows form u unasked bare is lacks =
     let it = lacks is in

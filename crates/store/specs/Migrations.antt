@@ -126,12 +126,12 @@ pub record IsOlderOf (form : OlderForm) (s : OfficeState) (t : TabulationEntries
   pub tabulated : t ≡ tabulation_in form s
 
 -- this is what an older office lacks of the tabulation of its counts
-abbrev pub Lacks : OlderForm → OfficeState → AdditionEntries → Type 0
-Lacks form s a = with_addition a (tabulation_in form s) ≡ tabulation_of s
+abbrev pub IsCompletedBy : OlderForm → OfficeState → AdditionEntries → Type 0
+IsCompletedBy form s a = with_addition a (tabulation_in form s) ≡ tabulation_of s
 
 -- an older office was read, and this is what it lacks
 abbrev pub FoundOlder : Database → OlderForm → AdditionEntries → Type 0
-FoundOlder db form a = (s : OfficeState) × HoldsOlder form db s × Lacks form s a
+FoundOlder db form a = (s : OfficeState) × HoldsOlder form db s × IsCompletedBy form s a
 
 -- the fault reported for the rows of an older office
 abbrev pub TellsOlder : Database → Fault → Type 0

@@ -12,7 +12,7 @@ ghost use Rattle.tables.specs.Reading.{OnlyReads};
 ghost use Rattle.store.specs.declared.older.OlderForm.{OlderForm};
 ghost use Rattle.store.specs.StateTables.{tables_of, HoldsState, IsAt, Commits, KeepsConnection};
 ghost use Rattle.store.specs.Openings.{HasVersion};
-ghost use Rattle.store.specs.Migrations.{older_tables, IsOlderState, HoldsOlder, RestsOlder, StoresOlder, WasAt, IsToldInMigration, FailsToMigrate, Lacks, TellsOlder, LeavesOlderOr, Migrates};
+ghost use Rattle.store.specs.Migrations.{older_tables, IsOlderState, HoldsOlder, RestsOlder, StoresOlder, WasAt, IsToldInMigration, FailsToMigrate, IsCompletedBy, TellsOlder, LeavesOlderOr, Migrates};
 
 use crate::older::{Older, read_older};
 use crate::opening::check;
@@ -38,7 +38,7 @@ fn commit_migration<S: Alter>(
 ) -> Result<(), Fault>
     requires { conn.old.in_transaction ≡ false }
     ensures { Commits (state S.Store conn.old) (state S.Store conn.new) result
-        (λ (s : OfficeState) st. RestsOlder older.now.form s st × Lacks older.now.form s (addition_entries older.now.missing)) tables_of }
+        (λ (s : OfficeState) st. RestsOlder older.now.form s st × IsCompletedBy older.now.form s (addition_entries older.now.missing)) tables_of }
 {
     let mut tx = conn.transaction();
     write_migration(alloc, &mut tx, older)?;

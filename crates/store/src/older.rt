@@ -16,7 +16,7 @@ ghost use Rattle.register.specs.declared.receipt.Receipt.{Receipt as ReceiptValu
 ghost use Rattle.store.specs.declared.older.OlderForm.{OlderForm};
 ghost use Rattle.store.specs.Openings.{HasVersion, IsTabulatedAs};
 ghost use Rattle.store.specs.Listings.{Lists, BeginsFirst, TellsStrange, ListsFirst};
-ghost use Rattle.store.specs.Migrations.{tables_in, name_of, tabulation_in, is_about_third, IsBare, IsOlderOf, Lacks, FoundOlder, TellsOlder};
+ghost use Rattle.store.specs.Migrations.{tables_in, name_of, tabulation_in, is_about_third, IsBare, IsOlderOf, IsCompletedBy, FoundOlder, TellsOlder};
 
 use crate::listing::{counted_rows, first_rows};
 use crate::opening::tabulation_of_state;
@@ -96,7 +96,7 @@ fn are_about_thirds(receipts: &[Receipt]) -> bool
 fn lacking(alloc: Global, form: OlderForm, rows: &Rows, counted: Tabulation) -> Option<Addition>
     requires { IsBare form (state_of rows.now) (tabulated rows.now) }
     ensures some { IfSome result (λ a. IsTabulatedAs (state_of rows.now) (tabulation_entries counted)
-        → (tabulated rows.now ≡ tabulation_in form (state_of rows.now)) × Lacks form (state_of rows.now) (addition_entries a)) }
+        → (tabulated rows.now ≡ tabulation_in form (state_of rows.now)) × IsCompletedBy form (state_of rows.now) (addition_entries a)) }
     ensures none { IfNone result (IsTabulatedAs (state_of rows.now) (tabulation_entries counted) → ¬ (tabulated rows.now ≡ tabulation_in form (state_of rows.now))) }
 {
     match form {
@@ -120,7 +120,7 @@ fn lacking(alloc: Global, form: OlderForm, rows: &Rows, counted: Tabulation) -> 
 fn missing_of(alloc: Global, form: OlderForm, rows: &Rows) -> Result<Option<Addition>, Fault>
     requires rise { MapsAreSorted (state_of rows.now) }
     requires bare { IsBare form (state_of rows.now) (tabulated rows.now) }
-    ensures some { IfOk result (λ found. IfSome found (λ a. IsOlderOf form (state_of rows.now) (tabulated rows.now) × Lacks form (state_of rows.now) (addition_entries a))) }
+    ensures some { IfOk result (λ found. IfSome found (λ a. IsOlderOf form (state_of rows.now) (tabulated rows.now) × IsCompletedBy form (state_of rows.now) (addition_entries a))) }
     ensures none { IfOk result (λ found. IfNone found (¬ IsOlderOf form (state_of rows.now) (tabulated rows.now))) }
     ensures cause { IfErr result (λ f. f ≡ Fault.Memory) }
 {

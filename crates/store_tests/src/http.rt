@@ -306,7 +306,7 @@ const AT_THE_GATE: [(&[u8], &str); 18] = [
 ];
 
 /// The clients of an office with codes.
-fn knocking<'a>(alloc: Global) -> Result<Vec<Option<TestClient<'a>>>, AllocError> {
+fn clients_with_codes<'a>(alloc: Global) -> Result<Vec<Option<TestClient<'a>>>, AllocError> {
     let mut clients = Vec::new(alloc);
     for (sends, _) in &AT_THE_GATE {
         clients.push(Some(TestClient::whole(*sends)))?;
@@ -328,7 +328,7 @@ fn come_with_codes<M: TestHost + Drop>(
     rt: &(impl Abort + AllocGlobal),
     host: M,
 ) -> Result<M, Fail> {
-    let clients = knocking(rt.alloc())?;
+    let clients = clients_with_codes(rt.alloc())?;
     let texts = told_at_the_gate(rt.alloc())?;
     let evening = Evening {
         codes: Some(CODES),

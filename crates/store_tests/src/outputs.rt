@@ -2,7 +2,7 @@
 //! its whole output. (That this holds at every byte is proved; here is one case of each kind.)
 
 use super::disks::Disks;
-use super::steps::{Rooms, Step};
+use super::steps::{OutputLimits, Step};
 use super::test_host::{Act, TestHost, hear, play_acts};
 use std::process::Abort;
 use std::test::Fail;
@@ -11,8 +11,8 @@ use std::test::Fail;
 const BROKEN: &str = "fault 107: socket or output\n";
 
 /// Returns outputs that accept no more than so many bytes each.
-fn rooms(out: usize, err: usize) -> Rooms {
-    Rooms { out, err }
+fn limits(out: usize, err: usize) -> OutputLimits {
+    OutputLimits { out, err }
 }
 
 const WARD: &[&str] = &["DB", "ward", "7", "2", "Harbour", "--id", "w1"];
@@ -37,26 +37,29 @@ fn has_taken_a_beginning<M: TestHost + Drop>(rt: &(impl Abort + AllocGlobal)) ->
     let cases = [
         // A reply: the ward is added.
         (
-            Step::BreakingOrder(WARD, b"", rooms(5, every)),
+            Step::BreakingOrder(WARD, b"", limits(5, every)),
             (3, "ward ", BROKEN),
         ),
         (Step::Order(WARD), (0, "ward 7 added\n", "")),
         // A reply whose fault breaks too.
-        (Step::BreakingOrder(WARD, b"", rooms(0, 4)), (3, "", "faul")),
+        (
+            Step::BreakingOrder(WARD, b"", limits(0, 4)),
+            (3, "", "faul"),
+        ),
         // A refusal.
         (
-            Step::BreakingOrder(PIER, b"", rooms(every, 8)),
+            Step::BreakingOrder(PIER, b"", limits(every, 8)),
             (3, "", "refused "),
         ),
         (Step::Order(PIER), (1, "", "refused 6: ward exists\n")),
         // An import, within its first line: the second candidate isn't added; and within its second line.
         (
-            Step::BreakingOrder(IMPORT, NAMES, rooms(27, every)),
+            Step::BreakingOrder(IMPORT, NAMES, limits(27, every)),
             (3, "candidate 1 of ward 7 added", BROKEN),
         ),
         (Step::Order(STATUS), (0, ONE, "")),
         (
-            Step::BreakingOrder(IMPORT, NAMES, rooms(31, every)),
+            Step::BreakingOrder(IMPORT, NAMES, limits(31, every)),
             (3, "candidate 1 of ward 7 added\ncan", BROKEN),
         ),
         (Step::FileOrder(IMPORT, NAMES), (0, BOTH, "")),

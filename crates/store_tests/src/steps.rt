@@ -27,7 +27,7 @@ pub enum Step<'a> {
     /// A script; each file that it names has the bytes next to its path, and no other file exists.
     Script(&'a [u8], TestFiles<'a>),
     /// The same, and each of the two outputs accepts no more than so many bytes.
-    BreakingOrder(&'a [&'a str], &'a [u8], Rooms),
+    BreakingOrder(&'a [&'a str], &'a [u8], OutputLimits),
     /// A list of requests to a new office; their answers are the output.
     List(&'a [Request]),
     /// A request to the opened office for the work of a clerk; the answer is the output.
@@ -77,13 +77,13 @@ const REPLAY: &[&str] = &["DB", "replay", "FILE"];
 
 /// The number of bytes that the output accepts before it fails, and the same for the error output.
 #[derive(Clone, Copy, Debug)]
-pub struct Rooms {
+pub struct OutputLimits {
     pub out: usize,
     pub err: usize,
 }
 
 /// Outputs that don't fail.
-const AMPLE: Rooms = Rooms {
+const AMPLE: OutputLimits = OutputLimits {
     out: usize::MAX,
     err: usize::MAX,
 };
@@ -404,10 +404,10 @@ fn ordered<S: Alter + Drop>(
     words: &[&str],
     file: Option<&[u8]>,
     shelf: TestFiles<'_>,
-    rooms: Rooms,
+    limits: OutputLimits,
 ) -> Result<(StepPrinted, Connection<S>), Fail> {
-    let mut out = LimitedWriter::new(alloc, rooms.out);
-    let mut err = LimitedWriter::new(alloc, rooms.err);
+    let mut out = LimitedWriter::new(alloc, limits.out);
+    let mut err = LimitedWriter::new(alloc, limits.err);
     let (status, conn) = {
         let mut out = Counted::new(&mut out);
         let mut err = Counted::new(&mut err);
@@ -443,8 +443,8 @@ fn done<S: Alter + Drop>(
         Step::Order(words) => ordered(alloc, conn, words, None, &[], AMPLE),
         Step::FileOrder(words, file) => ordered(alloc, conn, words, Some(file), &[], AMPLE),
         Step::Script(script, shelf) => ordered(alloc, conn, REPLAY, Some(script), shelf, AMPLE),
-        Step::BreakingOrder(words, file, rooms) => {
-            ordered(alloc, conn, words, Some(file), &[], rooms)
+        Step::BreakingOrder(words, file, limits) => {
+            ordered(alloc, conn, words, Some(file), &[], limits)
         }
         Step::List(requests) => list(alloc, conn, requests),
         Step::Work(clerk) => work(alloc, conn, clerk),

@@ -48,7 +48,7 @@ fn taken(answer: io::Result<usize>, len: usize) -> Option<usize>
 }
 
 /// Returns how many bytes a reader supplied, by the result of a read. `None` for an error, which is a failure.
-fn given(answer: io::Result<usize>) -> Option<usize>
+fn count_read(answer: io::Result<usize>) -> Option<usize>
     ensures { result ≡ given_of answer }
 {
     match answer {
@@ -80,7 +80,7 @@ impl<T: Read> Source for Counted<T> {
     ghost failed = { λ s. s.failed };
 
     fn fetch(&mut self, room: &mut [u8]) -> Result<usize, Broken> {
-        match given(self.stream.read(room)) {
+        match count_read(self.stream.read(room)) {
             Some(n) => Ok(n),
             None => Err(self.broken()),
         }

@@ -112,31 +112,31 @@ whole_behind settings got head behind begun enough more asked asks =
 -- ---- what it lacks
 
 -- fewer bytes than are needed don't say what is asked
-lacks_few : (t : Result Target RequestError) (body : Result ℕ RequestError) (behind : List ℕ) → length behind < needed t body → MissesBytes t body behind
-lacks_few (Ok (target.Keying clerk batch)) (Ok n) behind few = few
-lacks_few (Ok (target.Keying clerk batch)) (Err why) behind few = absurd (omega (arith, few))
-lacks_few (Ok (target.Page clerk)) body behind few = absurd (omega (arith, few))
-lacks_few (Ok (target.Leave clerk)) body behind few = absurd (omega (arith, few))
-lacks_few (Ok (target.Resource what)) body behind few = absurd (omega (arith, few))
-lacks_few (Ok (target.Office office.ConsolePage)) body behind few = absurd (omega (arith, few))
-lacks_few (Ok (target.Office office.Leave)) body behind few = absurd (omega (arith, few))
-lacks_few (Ok (target.Office office.Orders)) (Ok n) behind few = few
-lacks_few (Ok (target.Office office.Orders)) (Err why) behind few = absurd (omega (arith, few))
-lacks_few (Ok (target.Public what)) body behind few = absurd (omega (arith, few))
-lacks_few (Err why) body behind few = absurd (omega (arith, few))
+few_incomplete : (t : Result Target RequestError) (body : Result ℕ RequestError) (behind : List ℕ) → length behind < needed t body → MissesBytes t body behind
+few_incomplete (Ok (target.Keying clerk batch)) (Ok n) behind few = few
+few_incomplete (Ok (target.Keying clerk batch)) (Err why) behind few = absurd (omega (arith, few))
+few_incomplete (Ok (target.Page clerk)) body behind few = absurd (omega (arith, few))
+few_incomplete (Ok (target.Leave clerk)) body behind few = absurd (omega (arith, few))
+few_incomplete (Ok (target.Resource what)) body behind few = absurd (omega (arith, few))
+few_incomplete (Ok (target.Office office.ConsolePage)) body behind few = absurd (omega (arith, few))
+few_incomplete (Ok (target.Office office.Leave)) body behind few = absurd (omega (arith, few))
+few_incomplete (Ok (target.Office office.Orders)) (Ok n) behind few = few
+few_incomplete (Ok (target.Office office.Orders)) (Err why) behind few = absurd (omega (arith, few))
+few_incomplete (Ok (target.Public what)) body behind few = absurd (omega (arith, few))
+few_incomplete (Err why) body behind few = absurd (omega (arith, few))
 
-lacks_none : (t : Result Target RequestError) (body : Result ℕ RequestError) (behind : List ℕ) → needed t body ≤ length behind → MissesBytes t body behind → ⊥
-lacks_none (Ok (target.Keying clerk batch)) (Ok n) behind enough completeness_of = omega (arith, enough, completeness_of)
-lacks_none (Ok (target.Keying clerk batch)) (Err why) behind enough completeness_of = completeness_of
-lacks_none (Ok (target.Page clerk)) body behind enough completeness_of = completeness_of
-lacks_none (Ok (target.Leave clerk)) body behind enough completeness_of = completeness_of
-lacks_none (Ok (target.Resource what)) body behind enough completeness_of = completeness_of
-lacks_none (Ok (target.Office office.ConsolePage)) body behind enough completeness_of = completeness_of
-lacks_none (Ok (target.Office office.Leave)) body behind enough completeness_of = completeness_of
-lacks_none (Ok (target.Office office.Orders)) (Ok n) behind enough completeness_of = omega (arith, enough, completeness_of)
-lacks_none (Ok (target.Office office.Orders)) (Err why) behind enough completeness_of = completeness_of
-lacks_none (Ok (target.Public what)) body behind enough completeness_of = completeness_of
-lacks_none (Err why) body behind enough completeness_of = completeness_of
+enough_complete : (t : Result Target RequestError) (body : Result ℕ RequestError) (behind : List ℕ) → needed t body ≤ length behind → MissesBytes t body behind → ⊥
+enough_complete (Ok (target.Keying clerk batch)) (Ok n) behind enough completeness_of = omega (arith, enough, completeness_of)
+enough_complete (Ok (target.Keying clerk batch)) (Err why) behind enough completeness_of = completeness_of
+enough_complete (Ok (target.Page clerk)) body behind enough completeness_of = completeness_of
+enough_complete (Ok (target.Leave clerk)) body behind enough completeness_of = completeness_of
+enough_complete (Ok (target.Resource what)) body behind enough completeness_of = completeness_of
+enough_complete (Ok (target.Office office.ConsolePage)) body behind enough completeness_of = completeness_of
+enough_complete (Ok (target.Office office.Leave)) body behind enough completeness_of = completeness_of
+enough_complete (Ok (target.Office office.Orders)) (Ok n) behind enough completeness_of = omega (arith, enough, completeness_of)
+enough_complete (Ok (target.Office office.Orders)) (Err why) behind enough completeness_of = completeness_of
+enough_complete (Ok (target.Public what)) body behind enough completeness_of = completeness_of
+enough_complete (Err why) body behind enough completeness_of = completeness_of
 
 -- what a head that was parsed lacks, its head lacks
 MissesBehind-parsed : (settings : HttpSettingsEntry) (got : List ℕ) (head : Head) (is : IsHeadOf settings got head) (behind : List ℕ)
@@ -162,7 +162,7 @@ wanting_parsed settings got more head is few =
       is.behind ++ more,
       grown got more is.found is.behind is.begins,
       MissesBehind-parsed settings got head is (is.behind ++ more)
-          (lacks_few head.wanted head.body (is.behind ++ more) short),
+          (few_incomplete head.wanted head.body (is.behind ++ more) short),
     )
 
 pub lacks_bytes : (settings : HttpSettingsEntry) (got : List ℕ) (head : Head) → IsHeadOf settings got head → length got < head.size + needed head.wanted head.body
@@ -198,7 +198,7 @@ body_fits settings got head n is own = subst (λ (b : Result ℕ RequestError). 
 pub whole_parsed : (settings : HttpSettingsEntry) (got : List ℕ) (head : Head) → IsHeadOf settings got head → head.size + needed head.wanted head.body ≤ length got → IsWhole settings got
 whole_parsed settings got head is enough =
     whole_behind settings got is.found is.behind is.begins
-    (λ completeness_of. lacks_none head.wanted head.body is.behind (omega (arith, enough, parts_of settings got head is)) (MissesBehind-back settings got head is is.behind completeness_of))
+    (λ completeness_of. enough_complete head.wanted head.body is.behind (omega (arith, enough, parts_of settings got head is)) (MissesBehind-back settings got head is is.behind completeness_of))
 
 -- no head has arrived yet, and one may
 pub lacks_head : (settings : HttpSettingsEntry) (got : List ℕ) → IsHeadWanting got → IsCompletenessOf settings got (AtLeast (length got + 1))

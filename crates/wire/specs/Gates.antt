@@ -7,7 +7,7 @@ use Rattle.httparse.specs.Spans.{name_and_value}
 use Rattle.codes.specs.Codes.{Holder, holders_of, is_of, is_office, office_of}
 use Rattle.wire.specs.Heads.{BeginsWith, HasNoHead}
 use Rattle.wire.specs.Lengths.{NamedValue, values_of}
-use Rattle.wire.specs.Origins.{given_by, is_foreign}
+use Rattle.wire.specs.Origins.{origin_setting, is_foreign}
 use Rattle.wire.specs.Numbers.{number_in}
 use Rattle.wire.specs.declared.request_error.RequestError.{RequestError}
 use Rattle.wire.specs.declared.request_error.RequestError.TheVariants.{Unauthorized, WrongCode}
@@ -59,11 +59,11 @@ pub record HttpSettingsEntry : Type 0 where
 
 abbrev pub settings_entry : HttpSettings → HttpSettingsEntry
 settings_entry settings =
-    record { origin = given_by settings.origin; gate = option_map gate_entry settings.gate; public = option_map public_entry settings.public }
+    record { origin = origin_setting settings.origin; gate = option_map gate_entry settings.gate; public = option_map public_entry settings.public }
 
 -- empty settings: none of them
-abbrev pub given_nothing : HttpSettingsEntry
-given_nothing = record { origin = None; gate = None; public = None }
+abbrev pub no_settings : HttpSettingsEntry
+no_settings = record { origin = None; gate = None; public = None }
 
 -- ---- the clerk of a target
 

@@ -7,7 +7,7 @@ ghost use Rattle.tables.specs.Contents.{Contents, Sees};
 ghost use Rattle.tables.specs.Making.{SeesMade};
 ghost use Rattle.tables.specs.Writing.{Alters};
 ghost use Rattle.store.specs.StateTables.{tables_of};
-ghost use Rattle.store.specs.Migrations.{older_tables, SeesOlder, Lacks};
+ghost use Rattle.store.specs.Migrations.{older_tables, SeesOlder, IsCompletedBy};
 
 use crate::older::{Older, OlderForm};
 use crate::writing::VERSION;
@@ -46,7 +46,7 @@ pub(crate) fn write_migration<S: Alter>(
     older: &Older,
 ) -> Result<(), Fault>
     ensures { Alters S.Store tx.old.conn tx.new.conn result
-        (λ (s : OfficeState) st. Lacks older.now.form s (addition_entries older.now.missing) × SeesOlder older.now.form s st) (λ s. Sees (tables_of s)) }
+        (λ (s : OfficeState) st. IsCompletedBy older.now.form s (addition_entries older.now.missing) × SeesOlder older.now.form s st) (λ s. Sees (tables_of s)) }
 {
     create_missing(tx, older.form)?;
     set_value(

@@ -66,8 +66,15 @@ returns-in-Ok-batch_requests-clause-ran g c =
       cut = told.cut;
       shown = told.shown;
       is = λ clean is_open s at.
-          let it = told.is clean is_open s at in
-          (it.0, it.1, (_, c.opened-file.ensures, rw c.in-ImportBatches.is (inl (c.in-Ok-batch_requests.requests.items, c.in-Ok-batch_requests.ensures.rows, rw c.deref-in-Ok-batch_requests.ensures.value at it.2))));
+          let it = told.is clean is_open s at in (
+            it.0,
+            it.1,
+            (
+              _,
+              c.opened-file.ensures,
+              rw c.in-ImportBatches.is (inl (c.in-Ok-batch_requests.requests.items, c.in-Ok-batch_requests.ensures.rows, rw c.deref-in-Ok-batch_requests.ensures.value at it.2)),
+            ),
+          );
     }
 
 pub returns-in-ImportBatches-clause-ran : goal.returns-in-ImportBatches-clause-ran

@@ -7,7 +7,7 @@ use Rattle.desk.proofs.order_running.send_lines.Goals as goal
 
 pub returns-in-Ok-clause-sent : goal.returns-in-Ok-clause-sent
 returns-in-Ok-clause-sent g c =
-    let told = c.send_turns.ensures.sent in
+    let told = c.send_parsed.ensures.sent in
     record {
       page = told.page;
       cut = told.cut;

@@ -1,4 +1,4 @@
--- Proof that `send_turns` meets its contract.
+-- Proof that `send_parsed` meets its contract.
 use Rattle.std.proofs.Common.{◌≡◌, ◌∙◌, ◌<◌, true, false, length, ap, refl, sym, arith}
 use Rattle.sqlite.specs.Held.{state}
 use Rattle.store.proofs.KeepLemmas.{connection_itself, connection_then}
@@ -8,7 +8,7 @@ use Rattle.desk.proofs.CauseLemmas.{since}
 use Rattle.desk.proofs.CourseLemmas.{made, none_taken, nothing_more, turn_last, turn_more, turns_all}
 use Rattle.desk.proofs.PageLemmas.{shown_last, whole_more}
 use Rattle.desk.proofs.TellingLemmas.{nothing_told, shown_goes, shown_stops, shown_whole, stops_by, told_all}
-use Rattle.desk.proofs.order_running.send_turns.Goals as goal
+use Rattle.desk.proofs.order_running.send_parsed.Goals as goal
 
 pub loop-turn-init : goal.loop-turn-init
 loop-turn-init g c = record {
