@@ -7,6 +7,7 @@ pub mod FindLemmas
 pub mod KeyingLemmas
 pub mod RunLemmas
 pub mod ClerkLemmas
+pub mod EarlierLemmas
 pub mod WriteLemmas
 pub mod KeepLemmas
 pub mod TellLemmas

@@ -18,9 +18,11 @@ use Rattle.tables.specs.Faults.{fault_number}
 use Rattle.tables.specs.declared.fault.Fault.{Fault}
 use Rattle.tables.specs.declared.fault.Fault.TheVariants.{Closed, Store}
 use Rattle.office.specs.Answers.{IsClosedIn, IsKeptOpen, IsOpenAt, Told, again, done, no, told_of}
+use Rattle.store.specs.EarlierKeyings.{KeyedRoundEntry}
 use Rattle.store.specs.Overviews.{WardView}
 use Rattle.office.specs.Index.{index_told}
 use Rattle.office.specs.Overviews.{batches_told, differences_told, doubtful_told, papers_told, receipts_told, wards_told}
+use Rattle.office.specs.EarlierKeyings.{earlier_told}
 use Rattle.office.specs.Reads.{IsClosedReading, paper_told, work_told}
 use Rattle.office.specs.Sheets.{text_told}
 use Rattle.office.specs.declared.answers.Stop.{Stop}
@@ -32,7 +34,7 @@ use Rattle.wire.specs.Gates.{HttpSettingsEntry, PublicEntry}
 use Rattle.wire.specs.OfficeReads.{WardReadView, ward_read_told, wards_read_told}
 use Rattle.wire.specs.OfficeReplies.{batches_data, differences_data, doubtful_papers_data, papers_data, receipts_data, ward_read_data, wards_data}
 use Rattle.wire.specs.PublicReplies.{page_told, screen_of}
-use Rattle.wire.specs.Replies.{paper_body, work_body}
+use Rattle.wire.specs.Replies.{keyed_data, paper_body, work_body}
 use Rattle.wire.specs.Responses.{ResponseEntry, denied_response, fault_response, json_response, printed_response, refusal_response, reply_response, shown_response, text_response}
 use Rattle.wire.specs.Told.{IsTold, IsWritten, told_bytes}
 use Rattle.wire.specs.declared.office_read.OfficeRead.{OfficeRead}
@@ -45,7 +47,7 @@ use Rattle.wire.specs.declared.response.Response.{Response}
 use Rattle.wire.specs.declared.serving.Served.{Served}
 use Rattle.wire.specs.declared.serving.Served.TheVariants.{Answered, ReadFailed, WriteFailed}
 use Rattle.wire.specs.declared.target.Resource.{Resource}
-use Rattle.wire.specs.declared.target.Resource.TheVariants.{Candidates, Declaration, Office, Sheet, Work}
+use Rattle.wire.specs.declared.target.Resource.TheVariants.{Candidates, Declaration, Keyed, Office, Sheet, Work}
 
 -- the refusal for a reason
 abbrev pub refused_for : Reason → ResponseEntry
@@ -74,6 +76,11 @@ paper_response batch paper = json_response 200 (paper_body batch paper)
 abbrev pub data_response : Data → ResponseEntry
 data_response value = json_response 200 (compact_text value)
 
+-- what a clerk keyed of a batch in an earlier round; if there is no such round, nothing is found
+abbrev pub earlier_response : ℕ → Option KeyedRoundEntry → ResponseEntry
+earlier_response batch (Some keyed) = data_response (keyed_data batch keyed)
+earlier_response batch None = denied_response NotFound
+
 -- a ward with its next step and its papers, if it is among the wards that were read
 abbrev pub found_response : WardReadView → Option WardView → ResponseEntry
 found_response v (Some ward) = data_response (ward_read_data ward v.progress.next v.papers)
@@ -96,6 +103,7 @@ office_response s (read.Receipts actor) = read_response (λ receipts. data_respo
 abbrev pub reading_response : OfficeState → Resource → ResponseEntry
 reading_response s (Work clerk) = read_response (work_response clerk) (work_told s clerk)
 reading_response s (Candidates clerk batch) = read_response (paper_response batch) (paper_told s clerk batch)
+reading_response s (Keyed clerk batch) = read_response (earlier_response batch) (earlier_told s clerk batch)
 reading_response s (Sheet ward) = read_response text_response (text_told text.Sheet s ward)
 reading_response s (Declaration ward) = read_response text_response (text_told text.Declaration s ward)
 reading_response s (Office its) = office_response s its

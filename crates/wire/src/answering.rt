@@ -14,6 +14,7 @@ ghost use Rattle.wire.specs.Serving.{IsReadTold, Readies, closed_response, paper
 ghost use Rattle.wire.specs.Told.{IsTold};
 
 use crate::candidates::paper_body;
+use crate::earlier_keying::answer_earlier;
 use crate::office_responses::{faulted, refused, replied};
 use crate::public::answer_public;
 use crate::read_responses::answer_office;
@@ -117,6 +118,9 @@ fn answer_reading<S: Alter>(alloc: Global, office: &mut Office<S>, what: Resourc
         Resource::Work { clerk } => answer_work(alloc, clerk, office.work(clerk)),
         Resource::Candidates { clerk, batch } => {
             answer_paper(alloc, batch, office.paper(clerk, batch))
+        }
+        Resource::Keyed { clerk, batch } => {
+            answer_earlier(alloc, batch, office.earlier_keying(clerk, batch))
         }
         Resource::Sheet { ward } => answer_text(alloc, office.sheet(ward)),
         Resource::Declaration { ward } => answer_text(alloc, office.result(ward)),

@@ -10,11 +10,13 @@ ghost use Rattle.register.specs.Status.{columns_at, paper_at, paper_entry, statu
 ghost use Rattle.register.specs.NextSteps.{next_at, step_entry};
 ghost use Rattle.register.specs.Repeats.{is_kept_otherwise};
 ghost use Rattle.tables.specs.Reading.{OnlyReads, FailsBy};
+ghost use Rattle.store.specs.EarlierKeyings.{earlier_at, keyed_round_entry};
 ghost use Rattle.store.specs.Elections.{IsCountedInFor, IsSheetFor};
 ghost use Rattle.store.specs.Loads.{Loads};
 ghost use Rattle.store.specs.StateTables.{IsAt};
 ghost use Rattle.store.specs.Overviews.{batch_view, batch_views_at, differences_at, differences_view, doubtful_at, doubtful_papers_view, papers_at, papers_view, receipts_of, ward_view, ward_views};
 
+use crate::earlier_keyings::KeyedRound;
 use crate::keeper::Keeper;
 use crate::overviews::batches::BatchOverview;
 use crate::overviews::differences::Differences;
@@ -46,6 +48,17 @@ impl<S: Alter> Keeper<S> {
         ensures { Loads S.Store self.old self.new result (λ s found. option_map paper_entry found ≡ paper_at s clerk batch) }
     {
         self.store.load_paper(clerk, batch)
+    }
+
+    /// Returns what `Store::load_earlier_keying` does.
+    pub fn load_earlier_keying(
+        &mut self,
+        clerk: u32,
+        batch: u32,
+    ) -> Result<Option<Option<KeyedRound>>, Fault>
+        ensures { Loads S.Store self.old self.new result (λ s found. option_map (option_map keyed_round_entry) found ≡ earlier_at s clerk batch) }
+    {
+        self.store.load_earlier_keying(clerk, batch)
     }
 
     /// Returns what `Store::load_sheet` does.

@@ -1,13 +1,15 @@
 -- Why `answer_reading` keeps its promise.
 use Rattle.std.proofs.Common.{ap, sym}
 use Rattle.sqlite.specs.Held.{state}
-use Rattle.std.specs.Prelude.{string_bytes}
+use Rattle.std.specs.Prelude.{option_map, string_bytes}
 use Rattle.register.specs.Status.{paper_entry}
+use Rattle.store.specs.EarlierKeyings.{keyed_round_entry}
+use Rattle.office.specs.EarlierKeyings.{earlier_told}
 use Rattle.office.specs.Reads.{paper_told}
 use Rattle.office.specs.Sheets.{text_told}
 use Rattle.office.specs.declared.sheets.Text.TheVariants as text
 use Rattle.wire.specs.Responses.{text_response}
-use Rattle.wire.specs.Serving.{paper_response, reading_response}
+use Rattle.wire.specs.Serving.{earlier_response, paper_response, reading_response}
 use Rattle.wire.specs.Requests.{reading}
 use Rattle.wire.specs.declared.target.Resource.TheVariants.{Office}
 use Rattle.wire.proofs.AnswerLemmas.{Readies-read, Readies-same}
@@ -27,6 +29,11 @@ pub returns-in-Candidates-clause-answers : goal.returns-in-Candidates-clause-ans
 returns-in-Candidates-clause-answers g c = λ clean open_before s at.
     Readies-read s c.args.what (paper_response c.in-Candidates.batch) paper_entry (paper_told s c.in-Candidates.clerk c.in-Candidates.batch) c.paper.result c.answer_paper.result _ _
     (ap (reading_response s) c.in-Candidates.is) (c.paper.ensures.reads clean open_before s at) c.answer_paper.ensures
+
+pub returns-in-Keyed-clause-answers : goal.returns-in-Keyed-clause-answers
+returns-in-Keyed-clause-answers g c = λ clean open_before s at.
+    Readies-read s c.args.what (earlier_response c.in-Keyed.batch) (option_map keyed_round_entry) (earlier_told s c.in-Keyed.clerk c.in-Keyed.batch) c.earlier_keying.result c.answer_earlier.result _ _
+    (ap (reading_response s) c.in-Keyed.is) (c.earlier_keying.ensures.reads clean open_before s at) c.answer_earlier.ensures
 
 pub returns-in-Office-clause-answers : goal.returns-in-Office-clause-answers
 returns-in-Office-clause-answers g c = λ clean open_before s at.
