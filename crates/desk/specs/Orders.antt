@@ -19,6 +19,8 @@ use Rattle.desk.specs.declared.order_entry.Word.{Word}
 use Rattle.desk.specs.declared.order_entry.Entry.{Entry}
 use Rattle.desk.specs.declared.orders.Errand.{Errand}
 use Rattle.desk.specs.declared.orders.Errand.TheVariants as errand
+use Rattle.desk.specs.declared.orders.Form.{Form}
+use Rattle.desk.specs.declared.orders.Form.TheVariants as form
 use Rattle.desk.specs.declared.orders.Question.{Question}
 use Rattle.desk.specs.declared.orders.Question.TheVariants as question
 use Rattle.desk.specs.declared.orders.Order.{Order}
@@ -285,6 +287,14 @@ abbrev pub seal : ℕ → Text → Option ℕ → Meant
 seal ward id None = send (by_office id (ward_to_seal ward))
 seal ward id (Some papers) = seal_expected ward papers id
 
+-- the form of a name
+abbrev pub form_in : Text → Form
+form_in name =
+    if bytes_eq name (codes "covers") then form.Covers else (
+    if bytes_eq name (codes "adjudication") then form.Adjudication else (
+    if bytes_eq name (codes "lots") then form.Lots else (
+    if bytes_eq name (codes "declaration") then form.Declaration else form.Unknown)))
+
 -- the table of orders, in the sequence of an election
 unfoldable pub orders : List OrderEntry
 orders =
@@ -322,6 +332,7 @@ orders =
     ∷ takes (codes "replay") (text (codes "FILE") ∷ flag (codes "keep-going") ∷ []) replay
     ∷ takes (codes "copy") (text (codes "NEW") ∷ []) copy
     ∷ takes (codes "codes") (text (codes "FILE") ∷ text (codes "CLERKS") ∷ flag (codes "office") ∷ []) make_codes
+    ∷ takes (codes "forms") (text (codes "FORM") ∷ number (codes "WARD") ∷ []) (λ name ward. ask (question.Form (form_in name) ward))
     ∷ takes (codes "ballots") (number (codes "WARD") ∷ []) (λ ward. print ward ward_text.Ballots)
     ∷ takes (codes "page") (number (codes "WARD") ∷ title ∷ []) print_page
     ∷ takes (codes "table") (number (codes "WARD") ∷ []) (λ ward. print ward ward_text.Table)

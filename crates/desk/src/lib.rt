@@ -50,6 +50,7 @@ pub mod progress;
 mod sealing;
 mod sending;
 mod steps;
+mod ward_forms;
 mod ward_status;
 
 pub use copying::{CopyState, copy_office, copy_open};
@@ -60,7 +61,7 @@ pub use lines::{
     tell_words,
 };
 pub use order_running::follow;
-pub use orders::{Errand, ExpectedSeal, Job, KeyingFile, Order, Question, Task};
+pub use orders::{Errand, ExpectedSeal, Form, Job, KeyingFile, Order, Question, Task};
 pub use progress::ProgressSink;
 pub use script_files::files_named_in;
 pub use words::{WordsFault, order};

@@ -6,7 +6,7 @@ ghost use Rattle.keyfile.specs.Faults.{flaw_batch, flaw_between, flaw_clerk};
 ghost use Rattle.desk.specs.Pages.{IsErrorTold, IsPut, Shows, fronted, line_front, migrated_text, note_line, noted, numbered_line, outputs_of, printed, status_of_file};
 ghost use Rattle.codes.specs.Faults.{fault_line, fault_text as codes_text};
 ghost use Rattle.desk.specs.Pages.{codes_and_office_made_page, codes_made_page, codes_page, codes_place};
-ghost use Rattle.desk.specs.Pages.{failed, failure_number, failure_of, failure_text, page_of, refused, script_page, unjournalled, unread, unsealed, words_page};
+ghost use Rattle.desk.specs.Pages.{failed, failure_number, failure_of, failure_text, no_form_text, page_of, refused, script_page, unformed, unjournalled, unread, unsealed, words_page};
 
 use crate::scripts::ScriptFault;
 use crate::words::{BAD_DIGEST, BAD_ORIGIN, BAD_TITLE, WordsFault};
@@ -21,6 +21,17 @@ use thiserror::Error;
 /// What is printed if the journal that was written doesn't make its office, for example if its receipts and its other tables don't
 /// match.
 const NO_JOURNAL: &str = "no journal: what was written does not make this office";
+
+/// Why there is no form.
+#[derive(Clone, Copy)]
+pub(crate) enum NoForm {
+    /// No form has this name.
+    Unknown,
+    /// No lot is due in the ward.
+    NoLot,
+    /// The ward isn't declared, or there is none.
+    Undeclared,
+}
 
 /// The outcome of an order.
 #[derive(Drop)]
@@ -51,6 +62,8 @@ pub(crate) enum LineOutcome {
     Unjournalled,
     /// A ward isn't sealed, since another number of papers was given out than expected.
     Unsealed { given_out: u128, expected: u32 },
+    /// There is no form.
+    Unformed(NoForm),
 }
 
 /// Why the program fails. 101 to 106 and 108 are faults of the office. 107 is an output that fails. 109 is a copy that exists already,
@@ -331,6 +344,25 @@ fn tell_unsealed<E: Sink>(line: Option<usize>, given_out: u128, expected: u32, e
     tell_error(line, &pieces, 1, err)
 }
 
+/// Returns why there is no form, in words.
+fn no_form_text(why: NoForm) -> &'static str
+    ensures { result.now ≡ no_form_text why }
+{
+    match why {
+        NoForm::Unknown => "the forms are covers, adjudication, lots and declaration",
+        NoForm::NoLot => "no lot is due",
+        NoForm::Undeclared => "the ward is not declared",
+    }
+}
+
+/// Prints that there is no form, and returns the status: 1, or 3 if the error output fails.
+fn tell_unformed<E: Sink>(line: Option<usize>, why: NoForm, err: &mut E) -> u8
+    requires { E.failed err.old < 2 ^ 64 - 1 }
+    ensures { IsErrorTold E.taken E.failed err.old err.new (line_front line ++ (unformed why).err) 1 result }
+{
+    tell_error(line, &["no form: ", no_form_text(why), "\n"], 1, err)
+}
+
 /// Prints a failure, and returns its status, 3.
 fn tell_failure_at<E: Sink>(line: Option<usize>, failure: Failure, err: &mut E) -> u8
     requires { E.failed err.old < 2 ^ 64 - 1 }
@@ -457,6 +489,7 @@ pub(crate) fn tell<O: Sink, E: Sink>(
             given_out,
             expected,
         } => { tell_unsealed(line, *given_out, *expected, err) }
+        LineOutcome::Unformed(why) => tell_unformed(line, *why, err),
     }
 }
 

@@ -117,6 +117,9 @@ pub(crate) const STAGE: Word =
 pub(crate) const FILE: Word =
     word!(Text "FILE", "The path of an import file; docs/IMPORTS.md has its form");
 
+pub(crate) const FORM: Word =
+    word!(Text "FORM", "Which form: covers, adjudication, lots or declaration");
+
 pub(crate) const NEW: Word =
     word!(Text "NEW", "The path of the copy; there must be nothing at it yet");
 

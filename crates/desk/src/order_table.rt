@@ -7,7 +7,7 @@
 
 ghost use Rattle.std.specs.Prelude.{◌≡◌, ◌⊎◌, false, Err, None, Some, codes, drop, map, take, IfErr, IfOk, option_map, string_bytes};
 ghost use Rattle.clap.specs.Words.{all_of, first_of, found_of, rows_of, subcommand_rows_of};
-ghost use Rattle.desk.specs.Orders.{ask, no_digest, no_origin, no_verdict, orders, print, title_alone, told, told_errand, told_text, words_of};
+ghost use Rattle.desk.specs.Orders.{ask, no_digest, no_origin, no_verdict, orders, print, title_alone, told, told_errand, told_text, words_of, form_in};
 ghost use Rattle.keyfile.specs.Digests.{digest_bytes};
 ghost use Rattle.origins.specs.Origins.{origin_text};
 ghost use Rattle.desk.specs.Words.{digest_at, is_command_name, is_order_name, meaning, meaning_of, names_order, number_at, number_found, origin_at, sent, text_at};
@@ -15,10 +15,11 @@ ghost use Rattle.desk.specs.Words.{flag_at, public_at, texts_at};
 
 use crate::order_entry::{
     ACTOR, BATCH, CANDIDATE, CLERK, CLERKS, CODES, CODES_FILE, CONNECTIONS, DIGEST, Entry, FILE,
-    FIRST_CLERK, Heading, ID, KEEP_GOING, MARKS, NAME, NEW, ORIGIN, PAPER, PAPERS, PORT, PUBLIC,
-    ROUND, SCRIPT, SEATS, SECOND_CLERK, SIZE, STAGE, TITLE, VERDICT, WARD, WITH_OFFICE, Word,
+    FIRST_CLERK, FORM, Heading, ID, KEEP_GOING, MARKS, NAME, NEW, ORIGIN, PAPER, PAPERS, PORT,
+    PUBLIC, ROUND, SCRIPT, SEATS, SECOND_CLERK, SIZE, STAGE, TITLE, VERDICT, WARD, WITH_OFFICE,
+    Word,
 };
-use crate::orders::{Errand, ExpectedSeal, Job, KeyingFile, Order, Question, Task};
+use crate::orders::{Errand, ExpectedSeal, Form, Job, KeyingFile, Order, Question, Task};
 use crate::requests::{by_clerk, by_office};
 use crate::verdicts::verdict_in;
 use clap::ArgMatches;
@@ -67,7 +68,7 @@ const ORDERS_TO_SEAL: [Entry; 13] = [
 
 /// The other orders: those from the seal on in the same sequence, then `migrate`, those for the office alone, and those for everyone.
 #[rattlefmt::skip]
-const ORDERS_FROM_SEAL: [Entry; 25] = [
+const ORDERS_FROM_SEAL: [Entry; 26] = [
     order!(Election "seal" [WARD, ID, PAPERS], "Seals a ward whose papers are all agreed and judged:\ncount-office town.db seal 7 --id s1"),
     order!(Election "advance" [WARD, ID], "Counts the one stage that is due in a sealed ward:\ncount-office town.db advance 7 --id a1"),
     order!(Election "count" [WARD, ID], "Counts a sealed ward up to a lot or the end, its first stage under ID-1:\ncount-office town.db count 7 --id a"),
@@ -89,6 +90,7 @@ const ORDERS_FROM_SEAL: [Entry; 25] = [
     order!(Office "replay" [SCRIPT, KEEP_GOING], "Sends the orders of a text file, a line each, up to a refusal:\ncount-office town.db replay evening.txt"),
     order!(Office "copy" [NEW], "Makes a copy of the office, in a file that isn't there yet:\ncount-office town.db copy evening.db"),
     order!(Office "codes" [CODES_FILE, CLERKS, WITH_OFFICE], "Writes a new file of codes, one for each of these clerks:\ncount-office town.db codes codes.txt 1-40"),
+    order!(Office "forms" [FORM, WARD], "Prints a form of a ward as a page for a browser, to print and fill in:\ncount-office town.db forms covers 7"),
     order!(Everyone "ballots" [WARD], "Prints the ballots of a sealed ward, in a form that counting programs read:\ncount-office town.db ballots 7"),
     order!(Everyone "page" [WARD, TITLE], "Prints the result of a sealed ward as a page for a browser, to print and sign:\ncount-office town.db page 7"),
     order!(Everyone "table" [WARD], "Prints the stages of a sealed ward as a table for a spreadsheet:\ncount-office town.db table 7"),
@@ -469,6 +471,28 @@ fn asking<'a>(question: Question) -> Order<'a>
     in_office(Errand::Ask(question))
 }
 
+/// Returns the form of a name.
+fn form_in(name: &str) -> Form
+    ensures { result ≡ form_in name.now }
+{
+    match name {
+        "covers" => Form::Covers,
+        "adjudication" => Form::Adjudication,
+        "lots" => Form::Lots,
+        "declaration" => Form::Declaration,
+        _ => Form::Unknown,
+    }
+}
+
+fn forms<'a>(matches: &ArgMatches<'a>) -> Order<'a>
+    ensures { meaning_of (codes "forms") (rows_of (found_of matches.now)) ≡ Some (told result) }
+{
+    asking(Question::Form {
+        form: form_in(text_in(matches, FORM)),
+        ward: number_in(matches, WARD),
+    })
+}
+
 /// Returns the order of this name, with the values that were matched.
 fn order_named<'a>(
     alloc: Global,
@@ -509,6 +533,7 @@ fn order_named<'a>(
         "differences" => Ok(asking(Question::Differences { batch })),
         "papers" => Ok(asking(Question::Papers { batch })),
         "receipts" => Ok(asking(Question::Receipts { actor })),
+        "forms" => Ok(forms(matches)),
         "journal" => Ok(Order::Journal),
         "replay" => Ok(replay(matches)),
         "copy" => Ok(Order::Copy {

@@ -29,6 +29,21 @@ pub struct ExpectedSeal<'a> {
     pub id: &'a str,
 }
 
+/// A form of a ward, to be printed and filled in.
+#[derive(Clone, Copy, Debug)]
+pub enum Form {
+    /// A cover for each batch.
+    Covers,
+    /// The doubtful papers, with room for the verdicts.
+    Adjudication,
+    /// The lot that the count waits for.
+    Lots,
+    /// The words of the declaration.
+    Declaration,
+    /// There is no form of the name that was given.
+    Unknown,
+}
+
 /// A question that only the office asks.
 #[derive(Clone, Copy, Debug)]
 pub enum Question {
@@ -44,6 +59,8 @@ pub enum Question {
     Papers { batch: u32 },
     /// The receipts of an actor, or of all.
     Receipts { actor: Option<u32> },
+    /// A form of a ward.
+    Form { form: Form, ward: u32 },
 }
 
 /// A task in an existing office. The numbers are as given, in range or not.

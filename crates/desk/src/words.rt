@@ -40,6 +40,8 @@ const END_OF_HELP: &str =
   replay FILE        Sends the orders of a text file, a line each, up to a refusal
   copy NEW           Makes a copy of the office, in a file that isn't there yet
   codes FILE CLERKS  Writes a new file of codes for clerks, as 1-40, to be cut into slips
+  forms FORM WARD    A form of a ward as a page to print (HTML): the covers of its batches, the
+                     adjudication, the lots or the declaration
 
 For everyone who wants to see or check a count, once the ward is sealed:
   ballots WARD       Its ballots, in a form that counting programs read (BLT)
