@@ -1,6 +1,7 @@
 -- The forms of a ward, by what the office has of it.
 use Rattle.std.specs.Prelude.{ℕ, ◌==◌, ◌-◌, List, [], ◌∷◌, codes, find, length, map, Option, Some, None}
 use Rattle.clap.specs.Words.{Text}
+use Rattle.codes.specs.Files.{CodeEntry}
 use Rattle.count.specs.declared.stages.Due.{Due}
 use Rattle.count.specs.declared.stages.Due.TheVariants.{Act, Lot, Finished}
 use Rattle.count.specs.declared.stages.TiedFor.{TiedFor}
@@ -11,6 +12,7 @@ use Rattle.store.specs.Overviews.{BatchView, DoubtfulPapersView, DoubtfulView, W
 use Rattle.forms.specs.Covers.{CoverEntry, covers_page}
 use Rattle.forms.specs.Declarations.{declaration_page}
 use Rattle.forms.specs.Lots.{CandidateShown, lot_page}
+use Rattle.forms.specs.Slips.{SlipEntry, slips_page}
 use Rattle.forms.specs.Verdicts.{DoubtfulEntry, verdicts_page}
 use Rattle.forms.specs.declared.lots.LotPurpose.{LotPurpose}
 use Rattle.forms.specs.declared.lots.LotPurpose.TheVariants as purpose
@@ -36,12 +38,20 @@ cover_of v = record { batch = v.batch.number; ward = v.batch.ward; size = v.batc
 abbrev pub doubtful_of : DoubtfulView → DoubtfulEntry
 doubtful_of v = record { batch = v.counted.batch; paper = v.counted.paper }
 
+-- the slip of a clerk, with the origin of the pages
+abbrev pub slip_of : Text → CodeEntry → SlipEntry
+slip_of origin entry = record { clerk = entry.clerk; code = entry.code; origin = origin }
+
 -- what a lot decides
 abbrev pub purpose_of : TiedFor → LotPurpose
 purpose_of tied_for.Surplus = purpose.Surplus
 purpose_of tied_for.Exclusion = purpose.Exclusion
 
 -- ---- the forms
+
+-- the slips of clerks, with the origin of the pages
+abbrev pub slips_form : Text → List CodeEntry → Text
+slips_form origin entries = slips_page (map (slip_of origin) entries)
 
 -- the covers of a ward's batches
 abbrev pub covers_form : List BatchView → Page

@@ -15,9 +15,8 @@ use Rattle.office.specs.Reads.{next_told}
 use Rattle.office.specs.Overviews.{batches_told, differences_told, doubtful_told, papers_told, receipts_told, wards_told}
 use Rattle.desk.specs.CandidateNames.{name_in, names_of}
 use Rattle.desk.specs.Forms.{adjudication_form, covers_form, declaration_form, lots_form}
-use Rattle.desk.specs.Pages.{Page, line, page_found, printed, replied, unformed}
+use Rattle.desk.specs.Pages.{Page, line, page_found, printed, replied}
 use Rattle.desk.specs.WardStatus.{phase_word}
-use Rattle.desk.specs.declared.lines.NoForm.TheVariants.{Unknown}
 use Rattle.desk.specs.declared.orders.Form.{Form}
 use Rattle.desk.specs.declared.orders.Form.TheVariants as form
 use Rattle.desk.specs.declared.orders.Question.{Question}
@@ -152,7 +151,6 @@ page_formed s form.Covers ward = page_found covers_form (batches_told s ward)
 page_formed s form.Adjudication ward = page_found (adjudication_form ward) (doubtful_told s ward)
 page_formed s form.Lots ward = page_found (lots_form ward) (next_told s ward)
 page_formed s form.Declaration ward = page_found (declaration_form ward) (wards_told s)
-page_formed s form.Unknown ward = unformed Unknown
 
 -- the page that answers a question, or why there is no answer
 abbrev pub page_asked : OfficeState → Question → Page

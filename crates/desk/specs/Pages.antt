@@ -25,7 +25,7 @@ use Rattle.store.specs.declared.copying.CopyFault.TheVariants as uncopied
 use Rattle.store.specs.declared.migration.Migrated.{Migrated}
 use Rattle.store.specs.declared.migration.Migrated.TheVariants.{Done, Already}
 use Rattle.desk.specs.Scripts.{line_flaw_text}
-use Rattle.desk.specs.Words.{bad_digest, bad_origin, bad_title}
+use Rattle.desk.specs.Words.{bad_digest, bad_form, bad_origin, bad_title}
 use Rattle.desk.specs.declared.scripts.ScriptFault.{ScriptFault}
 use Rattle.desk.specs.declared.scripts.ScriptFault.TheVariants as script
 use Rattle.desk.specs.declared.lines.Failure.{Failure}
@@ -155,7 +155,6 @@ unsealed given_out expected = record {
 
 -- why there is no form, in words
 abbrev pub no_form_text : NoForm → Text
-no_form_text no_form.Unknown = codes "the forms are covers, adjudication, lots and declaration"
 no_form_text no_form.NoLot = codes "no lot is due"
 no_form_text no_form.Undeclared = codes "the ward is not declared"
 
@@ -232,6 +231,7 @@ words_page words.Memory = failed (Office fault.Memory)
 words_page words.Origin = record { out = []; err = bad_origin; status = 2 }
 words_page words.Digest = record { out = []; err = bad_digest; status = 2 }
 words_page words.TitleAlone = record { out = []; err = bad_title; status = 2 }
+words_page words.Form = record { out = []; err = bad_form; status = 2 }
 words_page words.Verdict = record { out = []; err = codes "bad verdict word\n"; status = 2 }
 words_page (words.Words text status) = if status == 0 then printed (string_bytes text) else record { out = []; err = string_bytes text; status = status }
 

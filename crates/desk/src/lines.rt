@@ -9,7 +9,7 @@ ghost use Rattle.desk.specs.Pages.{codes_and_office_made_page, codes_made_page, 
 ghost use Rattle.desk.specs.Pages.{failed, failure_number, failure_of, failure_text, no_form_text, page_of, refused, script_page, unformed, unjournalled, unread, unsealed, words_page};
 
 use crate::scripts::ScriptFault;
-use crate::words::{BAD_DIGEST, BAD_ORIGIN, BAD_TITLE, WordsFault};
+use crate::words::{BAD_DIGEST, BAD_FORM, BAD_ORIGIN, BAD_TITLE, WordsFault};
 use codes::CodesFault;
 use itoa::Buffer;
 use keyfile::{FileFault, Flaw};
@@ -25,8 +25,6 @@ const NO_JOURNAL: &str = "no journal: what was written does not make this office
 /// Why there is no form.
 #[derive(Clone, Copy)]
 pub(crate) enum NoForm {
-    /// No form has this name.
-    Unknown,
     /// No lot is due in the ward.
     NoLot,
     /// The ward isn't declared, or there is none.
@@ -305,6 +303,15 @@ pub fn tell_codes_made<O: Sink, E: Sink>(count: u32, out: &mut O, err: &mut E) -
     tell_text(&pieces, out, err)
 }
 
+/// Prints the page of clerks' slips, and returns the status: 0, or 3 if the output fails.
+pub fn tell_slips<O: Sink, E: Sink>(page: &str, out: &mut O, err: &mut E) -> u8
+    requires out { O.failed out.old < 2 ^ 64 - 1 }
+    requires err { E.failed err.old < 2 ^ 64 - 1 }
+    ensures { let outputs = outputs_of O.taken O.failed E.taken E.failed in Shows (outputs out.old err.old) (outputs out.new err.new) (printed page.now) result }
+{
+    tell_text(&[page], out, err)
+}
+
 /// Prints that codes were made for so many clerks, and one for the office, and returns the status: 0, or 3 if the output fails.
 pub fn tell_codes_and_office_made<O: Sink, E: Sink>(count: u32, out: &mut O, err: &mut E) -> u8
     requires out { O.failed out.old < 2 ^ 64 - 1 }
@@ -349,7 +356,6 @@ fn no_form_text(why: NoForm) -> &'static str
     ensures { result.now ≡ no_form_text why }
 {
     match why {
-        NoForm::Unknown => "the forms are covers, adjudication, lots and declaration",
         NoForm::NoLot => "no lot is due",
         NoForm::Undeclared => "the ward is not declared",
     }
@@ -518,6 +524,7 @@ pub fn tell_words<O: Sink, E: Sink>(fault: &WordsFault, out: &mut O, err: &mut E
         WordsFault::Origin => tell_error(None, &[BAD_ORIGIN], 2, err),
         WordsFault::Digest => tell_error(None, &[BAD_DIGEST], 2, err),
         WordsFault::TitleAlone => tell_error(None, &[BAD_TITLE], 2, err),
+        WordsFault::Form => tell_error(None, &[BAD_FORM], 2, err),
         WordsFault::Words { text, status: 0 } => tell_text(&[text.as_str()], out, err),
         WordsFault::Words { text, status } => tell_error(None, &[text.as_str()], *status, err),
     }

@@ -40,8 +40,6 @@ pub enum Form {
     Lots,
     /// The words of the declaration.
     Declaration,
-    /// There is no form of the name that was given.
-    Unknown,
 }
 
 /// A question that only the office asks.
@@ -191,6 +189,11 @@ pub enum Order<'a> {
         path: &'a str,
         clerks: &'a str,
         with_office: bool,
+    },
+    /// Print a slip for each clerk of a file of codes, with the address at which the clerk reaches the office.
+    Slips {
+        path: &'a str,
+        address: Origin<'a>,
     },
     /// Serve connections on a port of this machine, and pages of an origin through a proxy, if one is given. It ends after this many
     /// connections, or never if no number is given. Clerks need codes if the path of a file of codes is given. If a title is given,

@@ -237,6 +237,5 @@ pub(crate) fn form_of<S: Alter>(
             Ok(found) => made(declaration_form(alloc, ward, &found)),
             Err(stop) => stopped(stop),
         },
-        Form::Unknown => LineOutcome::Unformed(NoForm::Unknown),
     }
 }

@@ -22,6 +22,10 @@ escaped_character c =
 abbrev pub escaped : Text → Text
 escaped text = flat_map escaped_character (chars text)
 
+-- a text of ASCII on a page, likewise
+abbrev pub escaped_ascii : Text → Text
+escaped_ascii text = flat_map escaped_character text
+
 -- `7 <bdi>Harbour</bdi>`: a number and a name; the name's own writing direction doesn't affect the text around it
 unfoldable pub named : ℕ → Text → Text
 named number name = decimal number ++ (codes " <bdi>" ++ (escaped name ++ codes "</bdi>"))
@@ -30,7 +34,7 @@ named number name = decimal number ++ (codes " <bdi>" ++ (escaped name ++ codes 
 unfoldable pub style : Text
 style =
     codes "@page { size: A4; margin: 15mm; }\n" ++ (
-    codes "body { color: #000; background: #fff; font: 12pt/1.4 sans-serif; margin: 0; }\n" ++ (
+    codes "body { color: #000; background: #fff; font: 12pt/1.4 sans-serif; margin: 0 1pt; }\n" ++ (
     codes "h1 { font-size: 26pt; line-height: 1.2; margin: 0 0 4mm; }\n" ++ (
     codes "h1, p, li, td { overflow-wrap: anywhere; }\n" ++ (
     codes ".sheet { break-after: page; }\n" ++ (

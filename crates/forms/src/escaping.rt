@@ -1,7 +1,7 @@
 //! Texts on a page, escaped so that they are never markup.
 
 ghost use Rattle.std.specs.Prelude.{◌≡◌, ◌++◌, IfOk, OnOk, string_bytes};
-ghost use Rattle.forms.specs.Pages.{escaped, escaped_character, named};
+ghost use Rattle.forms.specs.Pages.{escaped, escaped_ascii, escaped_character, named};
 
 use std::alloc::{AllocError, Global};
 
@@ -26,6 +26,17 @@ pub(crate) fn escaped(alloc: Global, text: &str) -> Result<String, AllocError>
     let mut escaped_text = String::new(alloc);
     for character in text.chars() {
         put_escaped(character, &mut escaped_text)?;
+    }
+    Ok(escaped_text)
+}
+
+/// Returns a text of ASCII as it is put on a page.
+pub(crate) fn escaped_ascii(alloc: Global, text: &[u8]) -> Result<String, AllocError>
+    ensures { IfOk result (λ escaped_text. string_bytes escaped_text ≡ escaped_ascii text.now) }
+{
+    let mut escaped_text = String::new(alloc);
+    for byte in text {
+        put_escaped(char::from(*byte), &mut escaped_text)?;
     }
     Ok(escaped_text)
 }

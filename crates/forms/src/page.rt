@@ -11,7 +11,7 @@ fn style() -> &'static str
 {
     "\
 @page { size: A4; margin: 15mm; }
-body { color: #000; background: #fff; font: 12pt/1.4 sans-serif; margin: 0; }
+body { color: #000; background: #fff; font: 12pt/1.4 sans-serif; margin: 0 1pt; }
 h1 { font-size: 26pt; line-height: 1.2; margin: 0 0 4mm; }
 h1, p, li, td { overflow-wrap: anywhere; }
 .sheet { break-after: page; }

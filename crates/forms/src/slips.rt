@@ -1,19 +1,41 @@
 //! The slips of clerks.
 
 ghost use Rattle.std.specs.Prelude.{◌≡◌, IfOk, map, string_bytes};
-ghost use Rattle.forms.specs.Slips.{all_slips, slip, slip_entry, slips_body, slips_page};
+ghost use Rattle.forms.specs.Slips.{all_slips, slip, slip_address, slip_entry, slip_head, slips_body, slips_page};
 
 use crate::blocks::{Block, blocks};
-use crate::escaping::escaped;
+use crate::escaping::{escaped, escaped_ascii};
 use crate::page::page;
 use std::alloc::{AllocError, Global};
 
-/// A clerk's slip: the number, the code, and the address at which to key.
+/// A clerk's slip: the number, the code, which is ASCII, and the origin of the pages on which clerks key.
 #[derive(Clone, Copy)]
 pub struct Slip<'a> {
     pub clerk: u32,
-    pub code: &'a str,
-    pub address: &'a str,
+    pub code: &'a [u8],
+    pub origin: &'a str,
+}
+
+#[tactic(auto, unfolding(crate::specs::Slips::slip_head))]
+/// Returns the clerk's number and code.
+fn slip_head(alloc: Global, slip: &Slip<'_>) -> Result<String, AllocError>
+    ensures { IfOk result (λ text. string_bytes text ≡ slip_head (slip_entry slip.now)) }
+{
+    let clerk = slip.clerk;
+    let code = escaped_ascii(alloc, slip.code)?;
+    format!(in alloc;
+        "<div class=\"slip\">\n<p class=\"large\">Clerk {clerk}</p>\n<p>Code <span class=\"code\">{code}</span></p>\n"
+    )
+}
+
+#[tactic(auto, unfolding(crate::specs::Slips::slip_address))]
+/// Returns the address of the clerk's page.
+fn slip_address(alloc: Global, slip: &Slip<'_>) -> Result<String, AllocError>
+    ensures { IfOk result (λ text. string_bytes text ≡ slip_address (slip_entry slip.now)) }
+{
+    let clerk = slip.clerk;
+    let origin = escaped(alloc, slip.origin)?;
+    format!(in alloc; "<p>Address <bdi>{origin}/clerks/{clerk}/</bdi></p>\n")
 }
 
 impl Block for Slip<'_> {
@@ -22,11 +44,10 @@ impl Block for Slip<'_> {
     #[tactic(auto, unfolding(crate::specs::Slips::slip))]
     /// Returns the slip.
     fn block(&self, alloc: Global) -> Result<String, AllocError> {
-        let clerk = self.clerk;
-        let code = escaped(alloc, self.code)?;
-        let address = escaped(alloc, self.address)?;
+        let head = slip_head(alloc, self)?;
+        let address = slip_address(alloc, self)?;
         format!(in alloc;
-            "<div class=\"slip\">\n<p class=\"large\">Clerk {clerk}</p>\n<p>Code <span class=\"code\">{code}</span></p>\n<p>Address <bdi>{address}</bdi></p>\n<p>Show this slip to nobody, and give it back when you leave.</p>\n</div>\n"
+            "{head}{address}<p>Sign in: the name is your number, the password your code. Show this slip to nobody, and give it back when you leave.</p>\n</div>\n"
         )
     }
 }
