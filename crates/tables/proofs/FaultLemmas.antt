@@ -18,6 +18,10 @@ cause_of : (e : Error) → (fault_of e ≡ Memory) ⊎ (fault_of e ≡ Store)
 cause_of (SqliteFailure OutOfMemory) = inl refl
 cause_of _ = inr refl
 
+-- an error of `sqlite` is one of two faults
+pub error_cause : (e : Error) (f : Fault) → f ≡ fault_of e → (f ≡ Memory) ⊎ (f ≡ Store)
+error_cause e f is = subst (λ (x : Fault). (x ≡ Memory) ⊎ (x ≡ Store)) (sym is) (cause_of e)
+
 pub query_cause : (sql : List ℕ) (params : Row) (old new : State) (f : Fault) → TellsQuery sql params old new f → (f ≡ Memory) ⊎ (f ≡ Store)
 query_cause sql params old new f tells = subst (λ (x : Fault). (x ≡ Memory) ⊎ (x ≡ Store)) (sym tells.1) (cause_of tells.0)
 
