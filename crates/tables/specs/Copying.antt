@@ -2,7 +2,7 @@
 use Rattle.std.specs.Prelude.{◌≡◌, ◌⊎◌, ℕ, List, [], ◌∷◌, ◌++◌, Bool, true, false, Some, None, IsTrue}
 use Rattle.sqlite.specs.declared.error.Error.{Error}
 use Rattle.sqlite.specs.Order.{Row}
-use Rattle.sqlite.specs.State.{State, HasCleanDisk, Shown}
+use Rattle.sqlite.specs.State.{HasCleanDisk, Shown}
 use Rattle.sqlite.specs.Held.{Held, state}
 use Rattle.sqlite.specs.Given.{Advances, FailsToAdvance}
 use Rattle.sqlite_trees.specs.declared.store.Store.{Ghosts}
@@ -21,10 +21,12 @@ module _ {S : Type 0} (g : Ghosts S) where
   abbrev pub FailsToCopy : Held S → Held S → Fault → Type 0
   FailsToCopy old new f = ((e : Error) × (f ≡ fault_of e) × FailsToAdvance g old new e) ⊎ (f ≡ Memory)
 
--- after a read that left the connection open, these rows were shown to be the answer
-abbrev pub IsShownAfter : List ℕ → Row → State → State → List Row → Type 0
-IsShownAfter sql params old new rows = (mid : State) × OnlyReads old mid × HasCleanDisk mid × IsTrue mid.is_open × Shown sql params mid new rows
+  -- after a read that left the connection open, these rows were shown to be the answer
+  abbrev pub IsShownAfter : List ℕ → Row → Held S → Held S → List Row → Type 0
+  IsShownAfter sql params old new rows =
+      (mid : Held S) × OnlyReads (state g old) (state g mid) × HasCleanDisk (state g mid) × IsTrue (state g mid).is_open × Shown sql params (state g mid) (state g new) rows
 
--- after a read, an allocation or the query failed
-abbrev pub FailsAfter : List ℕ → Row → State → State → Fault → Type 0
-FailsAfter sql params old new f = (f ≡ Memory) ⊎ ((mid : State) × OnlyReads old mid × OnlyReads mid new × TellsQuery sql params mid new f)
+  -- after a read, an allocation or the query failed
+  abbrev pub FailsAfter : List ℕ → Row → Held S → Held S → Fault → Type 0
+  FailsAfter sql params old new f =
+      (f ≡ Memory) ⊎ ((mid : Held S) × OnlyReads (state g old) (state g mid) × OnlyReads (state g mid) (state g new) × TellsQuery sql params (state g mid) (state g new) f)

@@ -72,9 +72,9 @@ fn copy_next<S: Alter>(rows: &mut Rows<'_, S>, found: &mut Vec<Row>) -> Result<b
 fn copy_rest<S: Alter>(rows: &mut Rows<'_, S>, found: &mut Vec<Row>) -> Result<(), Fault>
     ensures same_reference { rows.new.conn.ghost_name ≡ rows.old.conn.ghost_name }
     ensures shows { HasCleanDisk (state S.Store rows.new.conn.now) → (sql : List ℕ) → (params : Entry) → HasGiven S.Store sql params rows.old.conn.now found.old.items
-        → OnOk result (IsShownAfter sql params (state S.Store rows.old.conn.now) (state S.Store rows.new.conn.now) found.new.items) }
+        → OnOk result (IsShownAfter S.Store sql params rows.old.conn.now rows.new.conn.now found.new.items) }
     ensures fails { HasCleanDisk (state S.Store rows.new.conn.now) → (sql : List ℕ) → (params : Entry) → HasGiven S.Store sql params rows.old.conn.now found.old.items
-        → IfErr result (FailsAfter sql params (state S.Store rows.old.conn.now) (state S.Store rows.new.conn.now)) }
+        → IfErr result (FailsAfter S.Store sql params rows.old.conn.now rows.new.conn.now) }
     ensures cause { IfErr result (λ f. (f ≡ Fault.Memory) ⊎ (f ≡ Fault.Store)) }
     ensures opens { HasCleanDisk (state S.Store rows.new.conn.now) → OnOk result (IsTrue (state S.Store rows.new.conn.now).is_open) }
     ensures reads { OnlyReads (state S.Store rows.old.conn.now) (state S.Store rows.new.conn.now) }

@@ -54,7 +54,7 @@ returns-in_err-copy_rest-clause-fails g c clean db begins rests =
     let p = err_from_is_err_and c.from_residual-in_err-copy_rest.result c.from_residual-in_err-copy_rest.ensures.1 in
     let told : FailsBy (state g.S.Store c.args.conn.now) (state g.S.Store last) f =
     scan_fails g.S.Store c.args.table c.args.conn.now c.in_ok-rows.rows.conn.now last (rw c.scan_text.ensures at c.in_ok-rows.ensures.begun)
-    (rw c.scan_text.ensures at c.in_ok-rows.ensures.survives) c.copy_rest.ensures.reads honest db begins rests f (c.in_err-copy_rest.ensures.fails honest) in
+    (rw c.scan_text.ensures at c.in_ok-rows.ensures.survives) c.copy_rest.ensures.reads honest db begins rests f (rw c.new-found.ensures.items at (c.in_err-copy_rest.ensures.fails honest)) in
     rw (p.1, p.2) (search rules)
 
 pub returns-clause-scans : goal.returns-clause-scans
@@ -62,7 +62,7 @@ returns-clause-scans g c clean db begins rests =
     let last = c.copy_rest.new.rows.conn.now in
     let honest : HasCleanDisk (state g.S.Store last) = search rules in
     all_scanned g.S.Store c.args.table c.args.conn.now c.in_ok-rows.rows.conn.now last (rw c.scan_text.ensures at c.in_ok-rows.ensures.begun)
-    (rw c.scan_text.ensures at c.in_ok-rows.ensures.survives) c.copy_rest.ensures.reads honest db begins rests c.copy_rest.new.found.items (c.in_ok-copy_rest.ensures.shows honest)
+    (rw c.scan_text.ensures at c.in_ok-rows.ensures.survives) c.copy_rest.ensures.reads honest db begins rests c.copy_rest.new.found.items (rw c.new-found.ensures.items at (c.in_ok-copy_rest.ensures.shows honest))
 
 pub returns-clause-reads : goal.returns-clause-reads
 returns-clause-reads g c =
