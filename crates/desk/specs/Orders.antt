@@ -8,8 +8,8 @@ use Rattle.register.specs.declared.wards.WardCommand.TheVariants as ward_command
 use Rattle.register.specs.declared.candidates.CandidateCommand.TheVariants as candidate_command
 use Rattle.register.specs.declared.batches.BatchCommand.TheVariants as batch_command
 use Rattle.register.specs.declared.counts.CountCommand.TheVariants as count_command
-use Rattle.office.specs.declared.sheets.Text.{Text as WardText}
-use Rattle.office.specs.declared.sheets.Text.TheVariants as ward_text
+use Rattle.office.specs.declared.sheets.WardText.{WardText}
+use Rattle.office.specs.declared.sheets.WardText.TheVariants as ward_text
 use Rattle.origins.specs.Origins.{origin_text}
 use Rattle.keyfile.specs.Digests.{asked_digest}
 use Rattle.desk.specs.Numbers.{number_in}

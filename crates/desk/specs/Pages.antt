@@ -18,8 +18,8 @@ use Rattle.codes.specs.declared.fault.CodesFault.{CodesFault}
 use Rattle.keyfile.specs.Faults.{flaw_number, flaw_text, is_stop}
 use Rattle.keyfile.specs.declared.fault.FileFault.{FileFault}
 use Rattle.office.specs.Answers.{Told, again, done, no}
-use Rattle.office.specs.declared.answers.Stop.{Stop}
-use Rattle.office.specs.declared.answers.Stop.TheVariants.{Refused, Fault}
+use Rattle.office.specs.declared.answers.ReadError.{ReadError}
+use Rattle.office.specs.declared.answers.ReadError.TheVariants.{Refused, Fault}
 use Rattle.store.specs.declared.copying.CopyFault.{CopyFault}
 use Rattle.store.specs.declared.copying.CopyFault.TheVariants as uncopied
 use Rattle.store.specs.declared.migration.Migrated.{Migrated}
@@ -199,7 +199,7 @@ page_found page (Ok x) = page x
 page_found page (Err why) = refused why
 
 -- why nothing was found: a refusal, or a fault
-abbrev pub page_stopped : Stop → Page
+abbrev pub page_stopped : ReadError → Page
 page_stopped (Refused why) = refused why
 page_stopped (Fault fault) = failed (Office fault)
 

@@ -25,7 +25,7 @@ use crate::requests::{by_clerk, by_office};
 use crate::verdicts::verdict_in;
 use clap::ArgMatches;
 use keyfile::FileDigest;
-use office::Text;
+use office::WardText;
 use origins::Origin;
 use register::{
     BatchCommand, CandidateCommand, Command, CountCommand, KeyingCommand, VerdictCommand,
@@ -446,7 +446,7 @@ fn serve<'a>(matches: &ArgMatches<'a>) -> Result<Order<'a>, NoOrder>
 }
 
 /// Returns the order that prints a text of the ward that was matched.
-fn printing<'a>(matches: &ArgMatches<'a>, text: Text<'a>) -> Order<'a>
+fn printing<'a>(matches: &ArgMatches<'a>, text: WardText<'a>) -> Order<'a>
     ensures { told result ≡ told_text (number_at (codes "WARD") (rows_of (found_of matches.now))) text.entry }
 {
     in_office(Errand::Print {
@@ -458,7 +458,7 @@ fn printing<'a>(matches: &ArgMatches<'a>, text: Text<'a>) -> Order<'a>
 fn page<'a>(matches: &ArgMatches<'a>) -> Order<'a>
     ensures { meaning_of (codes "page") (rows_of (found_of matches.now)) ≡ Some (told result) }
 {
-    printing(matches, Text::Page(text_in(matches, TITLE)))
+    printing(matches, WardText::Page(text_in(matches, TITLE)))
 }
 
 fn index<'a>(matches: &ArgMatches<'a>) -> Order<'a>
@@ -572,11 +572,11 @@ fn order_named<'a>(
         "count" => Ok(counting(matches)),
         "next" => Ok(in_office(Errand::TellNext { ward })),
         "status" => Ok(in_office(Errand::TellStatus { ward })),
-        "sheet" => Ok(printing(matches, Text::Sheet)),
-        "result" => Ok(printing(matches, Text::Declaration)),
-        "ballots" => Ok(printing(matches, Text::Ballots)),
+        "sheet" => Ok(printing(matches, WardText::Sheet)),
+        "result" => Ok(printing(matches, WardText::Declaration)),
+        "ballots" => Ok(printing(matches, WardText::Ballots)),
         "page" => Ok(page(matches)),
-        "table" => Ok(printing(matches, Text::Table)),
+        "table" => Ok(printing(matches, WardText::Table)),
         "index" => Ok(index(matches)),
         "serve" => serve(matches),
         "wards" => Ok(asking(Question::Wards)),

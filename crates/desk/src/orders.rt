@@ -5,7 +5,7 @@ ghost use Rattle.desk.specs.Requests.{file_of, file_of_task};
 ghost use Rattle.desk.specs.Scripts.{sends_requests};
 
 use keyfile::FileDigest;
-use office::Text;
+use office::WardText;
 use origins::Origin;
 use register::Request;
 
@@ -100,7 +100,7 @@ pub enum Errand<'a> {
     /// Print a text of a ward.
     Print {
         ward: u32,
-        text: Text<'a>,
+        text: WardText<'a>,
     },
     /// Print the page of all wards, under this title.
     PrintIndex {

@@ -19,7 +19,7 @@ use crate::orders::Question;
 use crate::papers::{doubtful_lines, paper_lines};
 use crate::ward_forms::form_of;
 use crate::ward_status::phase_word;
-use office::{Office, Stop};
+use office::{Office, ReadError};
 use paper::Columns;
 use register::Receipt;
 use sqlite::Alter;
@@ -257,17 +257,17 @@ fn lines_of<T: Lined>(alloc: Global, found: &[T]) -> Result<String, AllocError>
 }
 
 /// Returns what is printed if nothing was found.
-pub(crate) fn stopped(stop: Stop) -> LineOutcome
+pub(crate) fn stopped(stop: ReadError) -> LineOutcome
     ensures { page_of result ≡ page_stopped stop }
 {
     match stop {
-        Stop::Refused(refusal) => LineOutcome::Refused(refusal),
-        Stop::Fault(fault) => LineOutcome::Failed(fault),
+        ReadError::Refused(refusal) => LineOutcome::Refused(refusal),
+        ReadError::Fault(fault) => LineOutcome::Failed(fault),
     }
 }
 
 /// Returns what is printed for the values found, or why there are none; or that an allocation failed.
-fn outcome_of<T: Lined + Drop>(alloc: Global, found: Result<Vec<T>, Stop>) -> LineOutcome
+fn outcome_of<T: Lined + Drop>(alloc: Global, found: Result<Vec<T>, ReadError>) -> LineOutcome
     ensures lines { IfOk found (λ all. (page_of result ≡ printed (flat_map (λ t. line (T.text t)) all.items)) ⊎ (page_of result ≡ failed (Failure.Office Fault.Memory))) }
     ensures stop { IfErr found (λ stop. page_of result ≡ page_stopped stop) }
 {
