@@ -209,7 +209,7 @@ fn made(form: Result<LineOutcome, AllocError>) -> LineOutcome
     }
 }
 
-/// Returns the covers of a ward's batches, or why there is none.
+/// Returns the covers of a ward's batches, or why there are none.
 fn covers_asked<S: Alter>(alloc: Global, office: &mut Office<S>, ward: u32) -> LineOutcome
     ensures found { WhenOpenAt (state S.Store) office.old office.new
         (λ s. IsAskedOf s (Question.Form Form.Covers ward) (page_of result) office.new.closed (state S.Store office.old.held) (state S.Store office.new.held)) }
