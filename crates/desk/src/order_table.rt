@@ -504,8 +504,8 @@ fn form_of_ward<'a>(
     ward: Option<u32>,
     address: Option<Origin<'a>>,
 ) -> Result<Order<'a>, NoOrder>
-    ensures ok { IfOk result (λ o. told o ≡ form_of_ward form ward (option_map origin_text address)) }
-    ensures err { IfErr result (λ why. (why ≡ NoOrder.BadForm) × (form_of_ward form ward (option_map origin_text address) ≡ no_form)) }
+    ensures ok { IfOk result (λ o. told o ≡ form_of_ward form ward (option_map origin_text address.entry)) }
+    ensures err { IfErr result (λ why. (why ≡ NoOrder.BadForm) × (form_of_ward form ward (option_map origin_text address.entry) ≡ no_form)) }
 {
     match (form, ward, address) {
         (Some(form), Some(ward), None) => Ok(asking(Question::Form { form, ward })),

@@ -35,7 +35,7 @@ fn slips_by<'a>(
 /// Returns the page with a slip for each clerk of a file of codes, with the origin of the pages on which they key. The errors are that
 /// an allocation failed, and the first line that is wrong.
 pub fn slips_of(alloc: Global, origin: Origin<'_>, text: &[u8]) -> Result<String, CodesError>
-    ensures ok { IfOk result (λ page. (entries : List CodeEntry) × (codes_in text.now ≡ Ok entries) × (string_bytes page ≡ slips_form (origin_text origin) entries)) }
+    ensures ok { IfOk result (λ page. (entries : List CodeEntry) × (codes_in text.now ≡ Ok entries) × (string_bytes page ≡ slips_form (origin_text origin.entry) entries)) }
     ensures err { IfErr result (λ why. (why ≡ Memory) ⊎ ((fault : CodesFault) × (why ≡ Fault fault) × (codes_in text.now ≡ Err fault))) }
 {
     let lines = lines_of(alloc, text)?;
