@@ -519,8 +519,8 @@ fn form_named<'a>(
     word: &'a str,
     address: Option<Origin<'a>>,
 ) -> Result<Order<'a>, NoOrder>
-    ensures ok { IfOk result (λ o. told o ≡ form_meant name.now word.now (option_map origin_text address)) }
-    ensures err { IfErr result (λ why. (why ≡ NoOrder.BadForm) × (form_meant name.now word.now (option_map origin_text address) ≡ no_form)) }
+    ensures ok { IfOk result (λ o. told o ≡ form_meant name.now word.now (option_map origin_text address.entry)) }
+    ensures err { IfErr result (λ why. (why ≡ NoOrder.BadForm) × (form_meant name.now word.now (option_map origin_text address.entry) ≡ no_form)) }
 {
     if name == "slips" {
         return match address {
