@@ -507,9 +507,15 @@ fn form_of_ward<'a>(
     ensures ok { IfOk result (λ o. told o ≡ form_of_ward form ward (option_map origin_text address.entry)) }
     ensures err { IfErr result (λ why. (why ≡ NoOrder.BadForm) × (form_of_ward form ward (option_map origin_text address.entry) ≡ no_form)) }
 {
-    match (form, ward, address) {
-        (Some(form), Some(ward), None) => Ok(asking(Question::Form { form, ward })),
-        _ => Err(NoOrder::BadForm),
+    let Some(form) = form else {
+        return Err(NoOrder::BadForm);
+    };
+    let Some(ward) = ward else {
+        return Err(NoOrder::BadForm);
+    };
+    match address {
+        Some(_) => Err(NoOrder::BadForm),
+        None => Ok(asking(Question::Form { form, ward })),
     }
 }
 
