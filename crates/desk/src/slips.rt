@@ -32,6 +32,14 @@ fn slips_by<'a>(
     Ok(slips)
 }
 
+/// Returns the page with the slips of the clerks of some lines.
+fn page_by<'a>(alloc: Global, origin: &'a str, lines: &[CodeLine<'a>]) -> Result<String, AllocError>
+    ensures { IfOk result (λ page. string_bytes page ≡ slips_form origin.now (map code_entry lines.now)) }
+{
+    let slips = slips_by(alloc, origin, lines)?;
+    slips_page(alloc, slips.as_slice())
+}
+
 /// Returns the page with a slip for each clerk of a file of codes, with the origin of the pages on which they key. The errors are that
 /// an allocation failed, and the first line that is wrong.
 pub fn slips_of(alloc: Global, origin: Origin<'_>, text: &[u8]) -> Result<String, CodesError>
@@ -40,7 +48,6 @@ pub fn slips_of(alloc: Global, origin: Origin<'_>, text: &[u8]) -> Result<String
 {
     let lines = lines_of(alloc, text)?;
     let found = entries_of(alloc, lines.as_slice())?;
-    let slips = slips_by(alloc, origin.text(), found.clerks.as_slice())?;
-    let page = slips_page(alloc, slips.as_slice())?;
+    let page = page_by(alloc, origin.text(), found.clerks.as_slice())?;
     Ok(page)
 }
