@@ -53,7 +53,7 @@ pub fn copy<S: Alter, O: Sink, E: Sink>(
 }
 
 /// Returns the failure that is printed if a copy can't be made; running out of memory is reported as usual.
-fn failure_of(error: sqlite::Error) -> Failure {
+pub fn failure_of(error: sqlite::Error) -> Failure {
     match fault_of(error) {
         Fault::Memory => Failure::Office(Fault::Memory),
         _ => Failure::CopyFailed,
@@ -62,7 +62,7 @@ fn failure_of(error: sqlite::Error) -> Failure {
 
 /// Returns why no copy is begun in files that were made for it, if none is: another program has meanwhile made an office in them,
 /// which is left there; or they can't be examined.
-fn why_not_begun(rt: &HostRuntime, fresh: &NewFile) -> Option<Failure> {
+pub fn why_not_begun(rt: &HostRuntime, fresh: &NewFile) -> Option<Failure> {
     match fresh.hold_none(rt) {
         Ok(true) => None,
         Ok(false) => Some(Failure::CopyTaken),
@@ -75,7 +75,7 @@ fn why_not_begun(rt: &HostRuntime, fresh: &NewFile) -> Option<Failure> {
 
 /// Closes the files that were made for a copy, according to what they are known to contain. If no copy is reported, they are removed
 /// while they are locked. With status 0 the database file alone is the copy.
-fn finish<D: Disk + Drop, E: Sink>(
+pub fn finish<D: Disk + Drop, E: Sink>(
     rt: &HostRuntime,
     fresh: &NewFile,
     made: Connection<FileStore<D>>,

@@ -151,6 +151,10 @@ unsealed given_out expected = record {
   status = 1;
 }
 
+-- that no new office is made from the journal, and why
+abbrev pub unmended : Text → Page
+unmended text = record { out = []; err = text; status = 1 }
+
 -- the note that a request was accepted before, and that its content now had no effect
 abbrev pub note_line : Text → Text
 note_line id = joined (codes "note: " ∷ id ∷ codes " was kept before with other words; nothing was changed\n" ∷ [])
@@ -212,6 +216,7 @@ page_of (outcome.Failed fault) = failed (Office fault)
 page_of (outcome.Uncopied why) = failed (failure_of why)
 page_of outcome.Unjournalled = unjournalled
 page_of (outcome.Unsealed given_out expected) = unsealed given_out expected
+page_of (outcome.Unmended text) = unmended (string_bytes text)
 
 -- why words aren't an order: help goes to the output, and what isn't understood to the error output
 abbrev pub words_page : WordsFault → Page

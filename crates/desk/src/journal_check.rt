@@ -26,9 +26,9 @@ use streams::Sink;
 
 /// The text of a journal that isn't tested yet, and the requests that it is parsed as; None if it is parsed as anything else.
 #[derive(Drop)]
-struct Draft {
-    text: String,
-    requests: Option<Vec<Request>>,
+pub(crate) struct Draft {
+    pub(crate) text: String,
+    pub(crate) requests: Option<Vec<Request>>,
 }
 
 /// Returns the requests that these steps send; None if one of them reads a file or asks for something.
@@ -50,7 +50,7 @@ fn requests_of(
 }
 
 /// Returns the requests of a script; None if the text isn't a script of requests alone.
-fn requests_in(alloc: Global, text: &str) -> Result<Option<Vec<Request>>, AllocError>
+pub(crate) fn requests_in(alloc: Global, text: &str) -> Result<Option<Vec<Request>>, AllocError>
     ensures { IfOk result (λ found. IfSome found (λ requests. IsScriptOf text.now requests.items)) }
 {
     let lines = lines_in(alloc, text.as_bytes())?;
@@ -63,7 +63,7 @@ fn requests_in(alloc: Global, text: &str) -> Result<Option<Vec<Request>>, AllocE
 }
 
 /// Returns the text of the journal of the office of these rows, and its requests as they are read back.
-fn draft_of(alloc: Global, rows: &Rows) -> Result<Draft, AllocError>
+pub(crate) fn draft_of(alloc: Global, rows: &Rows) -> Result<Draft, AllocError>
     requires { MapsAreSorted (state_of rows.now) }
     ensures { IfOk result (λ draft. IfSome draft.requests (λ requests. IsScriptOf (string_bytes draft.text) requests.items)) }
 {

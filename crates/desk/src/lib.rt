@@ -5,14 +5,15 @@
 //! its script names. [`lines`](lines) prints what is wrong with words that aren't an order, and other failures.
 //! [`copy_office`](copying) performs an order to copy, and [`journal_office`](journal_check) one for the journal, each on two
 //! connections; the crate `server` performs one to serve. In an office that is open already, such as a served one,
-//! [`follow`](order_running) does a job, and `copy_open` and `journal_open` copy it and print its journal.
+//! [`follow`](order_running) does a job, `copy_open` and `journal_open` copy it and print its journal, and
+//! [`mend_open`](mended_office) makes another office from that journal, without some orders or with others in their place.
 //! [`files_named_in`](script_files) returns which files a script names, for a client that sends it. The program decides which files,
 //! outputs and sockets these are.
 //!
 //! ```text
 //! match order(alloc, words) {
 //!     Ok(Order::Perform(task)) => perform(alloc, &task, conn, folder, out, err),    // the status and the connection
-//!     Ok(Order::Serve { .. } | Order::Copy { .. } | Order::Journal | Order::Codes { .. }) => ..,
+//!     Ok(Order::Serve { .. } | Order::Copy { .. } | Order::Journal | Order::Mend(_) | Order::Codes { .. }) => ..,
 //!     Err(fault) => tell_words(&fault, out, err),
 //! }
 //! ```
@@ -40,6 +41,7 @@ mod import;
 mod journal;
 pub mod journal_check;
 pub mod lines;
+pub mod mended_office;
 pub mod order_running;
 mod overviews;
 mod papers;
@@ -59,8 +61,9 @@ pub use lines::{
     Failure, tell_codes_and_office_made, tell_codes_fault, tell_codes_made, tell_failure,
     tell_words,
 };
+pub use mended_office::{MendTrial, mend_open};
 pub use order_running::follow;
-pub use orders::{Errand, ExpectedSeal, Job, KeyingFile, Order, Question, Task};
+pub use orders::{Errand, ExpectedSeal, Job, KeyingFile, MendOrder, Order, Question, Task};
 pub use progress::ProgressSink;
 pub use script_files::files_named_in;
 pub use words::{WordsFault, order};

@@ -51,6 +51,8 @@ pub(crate) enum LineOutcome {
     Unjournalled,
     /// A ward isn't sealed, since another number of papers was given out than expected.
     Unsealed { given_out: u128, expected: u32 },
+    /// No new office is made from the journal. This text, whose lines are terminated, says why.
+    Unmended(String),
 }
 
 /// Why the program fails. 101 to 106 and 108 are faults of the office. 107 is an output that fails. 109 is a copy that exists already,
@@ -427,7 +429,7 @@ fn tell_noted<O: Sink, E: Sink>(
 }
 
 /// Prints an outcome, and returns its status. The status is 0 if the outcome goes to the output. On the error output it is 1 for a
-/// refusal of a request or a file, and for an office without a journal, and 3 for a fault or a file that couldn't be read. It is 3 too
+/// refusal of a request, a file or a mending, and for an office without a journal, and 3 for a fault or a file that couldn't be read. It is 3 too
 /// if one of the two fails; a prefix was then written to that output. If the outcome is that of a script's line, what goes to the
 /// error output begins with that line's number.
 pub(crate) fn tell<O: Sink, E: Sink>(
@@ -457,6 +459,7 @@ pub(crate) fn tell<O: Sink, E: Sink>(
             given_out,
             expected,
         } => { tell_unsealed(line, *given_out, *expected, err) }
+        LineOutcome::Unmended(text) => tell_error(line, &[text.as_str()], 1, err),
     }
 }
 

@@ -39,6 +39,7 @@ const END_OF_HELP: &str =
   journal            What was kept, as a script of orders that makes the same office anew
   replay FILE        Sends the orders of a text file, a line each, up to a refusal
   copy NEW           Makes a copy of the office, in a file that isn't there yet
+  mend NEW           Makes a new office without some orders, or with others in their place
   codes FILE CLERKS  Writes a new file of codes for clerks, as 1-40, to be cut into slips
 
 For everyone who wants to see or check a count, once the ward is sealed:
@@ -117,6 +118,10 @@ fn arg_of<'a>(alloc: Global, word: Word) -> Arg<'a>
             arg.value_parser(value_parser!(u32))
         }
         Kind::Texts => arg.action(ArgAction::Append),
+        Kind::Options => {
+            let value = arg.long(word.name).value_name("TEXT");
+            value.action(ArgAction::Append)
+        }
         Kind::Flag => arg.long(word.name).action(ArgAction::SetTrue),
     }
 }

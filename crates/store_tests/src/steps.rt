@@ -6,7 +6,7 @@ use super::clients::{Evening, LimitedWriter, Port, TestNetwork, joined, pages_of
 use super::loads::loads;
 use codes::Codes;
 use desk::perform::perform;
-use desk::{Failure, Folder, Order, copy_office, order, tell_failure, tell_words};
+use desk::{Failure, Folder, MendOrder, Order, copy_office, order, tell_failure, tell_words};
 use office::{Answer, Office, Run, Stop, Work};
 use register::Request;
 use server::{Destination, FileNumbers, ServeError, ServedFile, ServerSettings, serve_connections};
@@ -155,9 +155,13 @@ fn give<S: Alter + Drop, O: Sink, E: Sink>(
             };
             perform(alloc, &task, conn, &folder, out, err)
         }
-        Ok(Order::Serve { .. } | Order::Copy { .. } | Order::Journal | Order::Codes { .. }) => {
-            (tell_failure(Failure::Output, err), conn)
-        }
+        Ok(
+            Order::Serve { .. }
+            | Order::Copy { .. }
+            | Order::Journal
+            | Order::Mend(_)
+            | Order::Codes { .. },
+        ) => (tell_failure(Failure::Output, err), conn),
         Err(fault) => (tell_words(&fault, out, err), conn),
     }
 }
@@ -281,7 +285,7 @@ fn terms_of(held: &Option<Codes>) -> ServerSettings<'_, Unaided> {
     }
 }
 
-/// A file next to which nothing can be made: no copy, and no journal.
+/// A file next to which nothing can be made: no copy, no journal, and no new office from it.
 #[derive(Clone, Copy)]
 pub struct Unaided;
 
@@ -309,6 +313,17 @@ impl ServedFile for Unaided {
         err: &mut E,
     ) -> u8 {
         tell_failure(Failure::Office(Fault::Memory), err)
+    }
+
+    fn mend<S: Alter, O: Sink, E: Sink>(
+        &self,
+        _office: &mut Office<S>,
+        _asked: &MendOrder<'_>,
+        _to: Destination<'_>,
+        _out: &mut O,
+        err: &mut E,
+    ) -> u8 {
+        tell_failure(Failure::CopyFailed, err)
     }
 }
 

@@ -1,0 +1,29 @@
+//! The orders that an office accepted, with some left out and others in the place of some.
+//!
+//! [`Changes`] says which; [`flaw_in`] says why they can't be made. [`mend`] sends the orders that result to an empty office. What
+//! is refused there, because it depended on an order that is gone, is left out too. So is each stage, lot and declaration of a ward
+//! of which an order was left out or replaced: a lot that was drawn over other papers isn't one of this count. The text of
+//! [`Mended`] names each order that was left out, with its reason, and each that was replaced; every other order is kept.
+//!
+//! ```text
+//! let mut office = Office::create(alloc, blank)?;
+//! match flaw_in(alloc, &orders, changes)? {
+//!     Some(flaw) => ..,                                            // flaw.text(alloc) says why
+//!     None => mend(alloc, &mut office, &orders, changes)?,         // what was kept, replaced and left out
+//! }
+//! ```
+#![tactic(auto)]
+
+// An order by its name and its subject, and what it is about.
+mod names;
+mod places;
+// The changes, and why they can't be made.
+pub mod changes;
+mod checking;
+// The orders in turn, and what is printed of them.
+pub mod mended;
+pub mod reports;
+
+pub use changes::{Changes, Flaw};
+pub use checking::flaw_in;
+pub use mended::{Mended, mend};
