@@ -11,7 +11,8 @@ use Rattle.store.specs.Overviews.{ward_views}
 use Rattle.store.specs.StateTables.{IsAt}
 use Rattle.office.specs.Runs.{LeadTo}
 use Rattle.mending.specs.Changes.{CanBeMade, IsFlawOf, names_of}
-use Rattle.mending.specs.Mending.{IsMended, MendPoint, mended}
+use Rattle.mending.specs.Accounts.{IsMended}
+use Rattle.mending.specs.Mending.{MendPoint, mended}
 use Rattle.mending.specs.Reports.{end_line, flaw_text}
 use Rattle.mending.specs.declared.changes.Changes.{Changes}
 use Rattle.mending.specs.declared.changes.Flaw.{Flaw}
@@ -66,7 +67,7 @@ unsent_text = codes "not mended: each --with is an order that is sent, as a line
 -- The new office was made: it is at the state that the list of orders leads to, the office of which these are the lines on wards.
 pub record IsMade (before : List Text) (changes : Changes) (page : Page) (left : CopyState) (new_old new_new : State) : Type 0 where
   pub can : CanBeMade changes
-  pub list : IsMended changes.orders.now (mended changes)
+  pub list : IsMended changes (mended changes)
   pub page : page ≡ printed (mended_text before (mended changes))
   pub left : left ≡ Whole
   pub at : HasCleanDisk new_new → IsBlank new_old → IsAt (mended changes).state new_new
@@ -90,7 +91,7 @@ IsMendedOpen s m page left new_old new_new =
 abbrev pub IsMendTold : OfficeState → MendOrder → Page → Type 0
 IsMendTold s m page =
     ((changes : Changes) × AreAsked s m changes
-    × ((CanBeMade changes × IsMended changes.orders.now (mended changes) × (page ≡ printed (mended_text (ward_lines s) (mended changes)))) ⊎ IsUnmade changes page))
+    × ((CanBeMade changes × IsMended changes (mended changes) × (page ≡ printed (mended_text (ward_lines s) (mended changes)))) ⊎ IsUnmade changes page))
     ⊎ ((page ≡ unmended unsent_text) ⊎ IsUnread page)
 
 -- and perhaps after it that the log of the new office couldn't be merged into its file

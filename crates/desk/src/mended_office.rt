@@ -17,7 +17,8 @@ ghost use Rattle.store.specs.StateTables.{IsAt, StoresState};
 ghost use Rattle.office.specs.Answers.{IsOpenAt, IsReadAt, WhenOpenAt};
 ghost use Rattle.office.specs.Runs.{LeadTo};
 ghost use Rattle.mending.specs.Changes.{CanBeMade};
-ghost use Rattle.mending.specs.Mending.{IsMended, mended};
+ghost use Rattle.mending.specs.Accounts.{IsMended};
+ghost use Rattle.mending.specs.Mending.{mended};
 ghost use Rattle.mending.specs.Reports.{end_line};
 ghost use Rattle.desk.specs.Journals.{IsScriptOf};
 ghost use Rattle.desk.specs.Mends.{IsMade, IsMendedOpen, IsUnmade, IsUnread, differing, mended_text, missing_from, script_of, unsent_text, ward_lines};
@@ -28,8 +29,8 @@ use crate::journal_check::{Draft, draft_of, requests_in};
 use crate::lines::{LineOutcome, tell};
 use crate::orders::MendOrder;
 use crate::overviews::lines_on_wards;
-use mending::{Changes, Mended, flaw_in, mend};
-use office::{Office, Stop};
+use mending::{Changes, MendFault, Mended, Recipient, Sent, flaw_in, mend};
+use office::{Answer, Office, Stop};
 use register::Request;
 use rowcheck::Rows;
 use sqlite::{Alter, Connection};
@@ -238,22 +239,57 @@ fn text_of(
 
 // ---- the new office
 
+/// The new office, before it is copied to its file.
+struct NewOffice<T: Alter> {
+    office: Office<T>,
+}
+
+impl<T: Alter> Recipient for NewOffice<T> {
+    ghost is_at = { λ new s. (new.office.closed ≡ false) × IsAt s (state T.Store new.office.held) };
+
+    ghost is_sound = { λ new. HasCleanDisk (state T.Store new.office.held) };
+
+    fn send(&mut self, order: &Request) -> Result<Sent, MendFault> {
+        match self
+            .office
+            .handle(order.actor, order.id.as_str(), &order.command)
+        {
+            Ok(Answer::Done(_)) => Ok(Sent::Accepted),
+            Ok(Answer::Kept(_)) => Ok(Sent::Known),
+            Ok(Answer::Refused(refusal)) => Ok(Sent::Denied(refusal)),
+            Err(Fault::Memory) => Err(MendFault::Memory),
+            Err(_) => Err(MendFault::Store),
+        }
+    }
+}
+
+/// Returns the fault that ends an order to mend.
+fn fault_of(fault: MendFault) -> Fault {
+    match fault {
+        MendFault::Memory => Fault::Memory,
+        MendFault::Store => Fault::Store,
+    }
+}
+
 /// Sends the orders with the changes to an empty office, and returns what is printed of it. These are the lines on wards of the office
 /// before.
 fn report<T: Alter>(
     alloc: Global,
-    office: &mut Office<T>,
+    new: &mut NewOffice<T>,
     changes: Changes<'_>,
     before: &[String],
 ) -> Result<String, Fault>
-    ensures mended { HasCleanDisk (state T.Store office.new.held) → office.old.closed ≡ false → IsAt empty_office (state T.Store office.old.held)
+    ensures mended { HasCleanDisk (state T.Store new.new.office.held) → new.old.office.closed ≡ false → IsAt empty_office (state T.Store new.old.office.held)
         → IfOk result (λ text. (string_bytes text ≡ mended_text (map string_bytes before.now) (mended changes.entry))
-        × IsOpenAt (mended changes.entry).state office.new.closed (state T.Store office.new.held)) }
-    ensures list { IsMended changes.entry.orders.now (mended changes.entry) }
-    ensures clean { HasCleanDisk (state T.Store office.new.held) → HasCleanDisk (state T.Store office.old.held) }
+        × IsOpenAt (mended changes.entry).state new.new.office.closed (state T.Store new.new.office.held)) }
+    ensures list { IsMended changes.entry (mended changes.entry) }
+    ensures clean { HasCleanDisk (state T.Store new.new.office.held) → HasCleanDisk (state T.Store new.old.office.held) }
 {
-    let mended = mend(alloc, office, changes)?;
-    let after = wards_of(alloc, office)?;
+    let mended = match mend(alloc, new, changes) {
+        Ok(mended) => mended,
+        Err(fault) => return Err(fault_of(fault)),
+    };
+    let after = wards_of(alloc, &mut new.office)?;
     match text_of(alloc, &mended, before, &after) {
         Ok(text) => Ok(text),
         Err(AllocError) => Err(Fault::Memory),
@@ -263,26 +299,26 @@ fn report<T: Alter>(
 /// Makes the office of the orders with the changes in an empty office, and copies it to the new database.
 fn copied<T: Alter, N: Alter>(
     alloc: Global,
-    office: &mut Office<T>,
+    made: &mut NewOffice<T>,
     changes: Changes<'_>,
     before: &[String],
     new: &mut Connection<N>,
 ) -> (LineOutcome, CopyState)
     requires { CanBeMade changes.entry }
-    ensures made { HasCleanDisk (state T.Store office.new.held) → office.old.closed ≡ false → IsAt empty_office (state T.Store office.old.held)
+    ensures made { HasCleanDisk (state T.Store made.new.office.held) → made.old.office.closed ≡ false → IsAt empty_office (state T.Store made.old.office.held)
         → IsMade (map string_bytes before.now) changes.entry (page_of result.0) result.1 (state N.Store new.old) (state N.Store new.new) ⊎ IsUnmade changes.entry (page_of result.0) }
     ensures whole { HasCleanDisk (state N.Store new.new) → IsBlank (state N.Store new.old)
         → (trees : Trees) → (state N.Store new.new).may_leave trees → (state N.Store new.old).may_leave trees ⊎ ((x : OfficeState) × StoresState x trees) }
     ensures copy { (page_of result.0).status ≡ 0 → (result.1 ≡ CopyState.Whole)
         × (HasCleanDisk (state N.Store new.new) → IsBlank (state N.Store new.old) → (x : OfficeState) × IsAt x (state N.Store new.new)) }
     ensures untouched { result.1 ≡ CopyState.Untouched → new.new ≡ new.old }
-    ensures clean { HasCleanDisk (state T.Store office.new.held) → HasCleanDisk (state T.Store office.old.held) }
+    ensures clean { HasCleanDisk (state T.Store made.new.office.held) → HasCleanDisk (state T.Store made.old.office.held) }
 {
-    let text = match report(alloc, office, changes, before) {
+    let text = match report(alloc, made, changes, before) {
         Ok(text) => text,
         Err(fault) => return (LineOutcome::Failed(fault), CopyState::Untouched),
     };
-    match office.copy_open(new) {
+    match made.office.copy_open(new) {
         Ok(_) => (LineOutcome::Printed(text), CopyState::Whole),
         Err(fault) => (LineOutcome::Uncopied(fault), state_behind(fault)),
     }
@@ -307,8 +343,10 @@ fn made<T: Alter, N: Alter>(
     ensures untouched { result.1 ≡ CopyState.Untouched → new.new ≡ new.old }
 {
     match Office::create(alloc, blank) {
-        Ok(mut office) => {
-            let (outcome, state) = copied(alloc, &mut office, changes, before, new);
+        Ok(office) => {
+            let mut made = NewOffice { office };
+            let (outcome, state) = copied(alloc, &mut made, changes, before, new);
+            let NewOffice { office } = made;
             (outcome, state, office.into_connection())
         }
         Err((fault, conn)) => (LineOutcome::Failed(fault), CopyState::Untouched, conn),

@@ -15,8 +15,8 @@ ghost use Rattle.desk.specs.Words.{flag_at, public_at, texts_at};
 
 use crate::order_entry::{
     ACTOR, BATCH, CANDIDATE, CLERK, CLERKS, CODES, CODES_FILE, CONNECTIONS, DIGEST, Entry, FILE,
-    FIRST_CLERK, Heading, ID, KEEP_GOING, MARKS, NAME, NEW, NEW_OFFICE, ORIGIN, PAPER, PAPERS, PORT,
-    PUBLIC, ROUND, SCRIPT, SEATS, SECOND_CLERK, SIZE, STAGE, TITLE, VERDICT, WARD, WITH,
+    FIRST_CLERK, Heading, ID, KEEP_GOING, MARKS, NAME, NEW, NEW_OFFICE, ORIGIN, PAPER, PAPERS,
+    PORT, PUBLIC, ROUND, SCRIPT, SEATS, SECOND_CLERK, SIZE, STAGE, TITLE, VERDICT, WARD, WITH,
     WITH_OFFICE, WITHOUT, Word,
 };
 use crate::orders::{Errand, ExpectedSeal, Job, KeyingFile, MendOrder, Order, Question, Task};

@@ -3,3 +3,4 @@ pub mod Names
 pub mod Changes
 pub mod Mending
 pub mod Reports
+pub mod Accounts

@@ -1,15 +1,14 @@
 -- The list of orders that results from leaving some out and replacing some, order by order, with the state that it leads to and what is printed of it.
-use Rattle.std.specs.Prelude.{◌≡◌, ◌+◌, ℕ, Bool, true, false, List, [], ◌∷◌, ◌++◌, Option, Some, None, fold, length, string_bytes}
+use Rattle.std.specs.Prelude.{◌≡◌, ◌+◌, ℕ, Bool, true, false, List, [], ◌∷◌, ◌++◌, Option, Some, None, fold, string_bytes}
 use Rattle.register.specs.Machine.{Outcome, accepted, kept, refused, state_after, step_of}
 use Rattle.register.specs.Offices.{OfficeState, empty_office}
 use Rattle.register.specs.declared.command.Request.{Request}
-use Rattle.office.specs.Runs.{LeadTo}
 use Rattle.mending.specs.Changes.{in_place_of, is_named, names_of, ward_changed, wards_about}
 use Rattle.mending.specs.Reports.{left_line, replaced_line}
 use Rattle.mending.specs.declared.changes.Changes.{Changes}
 use Rattle.mending.specs.declared.mended.Mended.{Mended}
-use Rattle.mending.specs.declared.mended.Sent.{Sent}
-use Rattle.mending.specs.declared.mended.Sent.TheVariants.{Accepted, Known, Denied}
+use Rattle.mending.specs.declared.recipients.Sent.{Sent}
+use Rattle.mending.specs.declared.recipients.Sent.TheVariants.{Accepted, Known, Denied}
 use Rattle.mending.specs.declared.reports.Cause.{Cause}
 use Rattle.mending.specs.declared.reports.Cause.TheVariants.{Asked, Changed, Refused, Unaccepted, Repeated}
 
@@ -96,9 +95,3 @@ pub record IsPoint (p : MendPoint) (m : Mended) : Type 0 where
 -- how many orders had their turn
 abbrev pub turns_of : Mended → ℕ
 turns_of m = m.kept + (m.replaced + m.left_out)
-
--- Where a list has come to: each of its orders was accepted in turn, and they lead to this state. Each order of the office was kept, replaced or left out.
-pub record IsMended (orders : List Request) (p : MendPoint) : Type 0 where
-  pub leads : LeadTo p.sent p.state
-  pub each : p.kept_orders + (p.replaced_orders + p.left_orders) ≡ length orders
-  pub sent : p.kept_orders + p.replaced_orders ≡ length p.sent

@@ -1,5 +1,5 @@
 -- How an order of an office is named.
-use Rattle.std.specs.Prelude.{ℕ, Bool, ◌==◌, ◌++◌, List, codes, if◌then◌else◌, string_bytes}
+use Rattle.std.specs.Prelude.{ℕ, ◌==◌, ◌++◌, List, codes, if◌then◌else◌, string_bytes}
 use Rattle.std.specs.Fmt.{decimal}
 use Rattle.register.specs.declared.command.Request.{Request}
 

@@ -6,10 +6,9 @@
 //! [`Mended`] names each order that was left out, with its reason, and each that was replaced; every other order is kept.
 //!
 //! ```text
-//! let mut office = Office::create(alloc, blank)?;
-//! match flaw_in(alloc, &orders, changes)? {
-//!     Some(flaw) => ..,                                            // flaw.text(alloc) says why
-//!     None => mend(alloc, &mut office, &orders, changes)?,         // what was kept, replaced and left out
+//! match flaw_in(alloc, changes)? {
+//!     Some(flaw) => ..,                                   // flaw.text(alloc) says why
+//!     None => mend(alloc, &mut empty, changes)?,          // what was kept, replaced and left out; `empty` is a Recipient
 //! }
 //! ```
 #![tactic(auto)]
@@ -20,10 +19,12 @@ mod places;
 // The changes, and why they can't be made.
 pub mod changes;
 mod checking;
-// The orders in turn, and what is printed of them.
+// The orders in turn, to whom they are sent, and what is printed of them.
 pub mod mended;
+pub mod recipients;
 pub mod reports;
 
 pub use changes::{Changes, Flaw};
 pub use checking::flaw_in;
 pub use mended::{Mended, mend};
+pub use recipients::{MendFault, Recipient, Sent};

@@ -1,26 +1,22 @@
 //! The orders of an office in turn, sent to an empty office, with some left out and some replaced.
 
-ghost use Rattle.std.specs.Prelude.{◌≡◌, ◌+◌, ◌-◌, ◌^◌, ◌<◌, false, find, map, option_map, string_bytes, IfErr, IfOk, OnOk};
-ghost use Rattle.sqlite.specs.Held.{state};
-ghost use Rattle.sqlite.specs.State.{HasCleanDisk};
-ghost use Rattle.register.specs.Machine.{state_after, step_of};
+ghost use Rattle.std.specs.Prelude.{◌≡◌, ◌+◌, ◌-◌, ◌^◌, ◌<◌, find, map, option_map, string_bytes, IfOk, OnOk};
+ghost use Rattle.std.specs.List.{list_any};
+ghost use Rattle.std.specs.Str.{bytes_eq};
 ghost use Rattle.register.specs.Offices.{empty_office};
 ghost use Rattle.register.specs.declared.command.Request.{Request};
-ghost use Rattle.store.specs.StateTables.{IsAt};
-ghost use Rattle.office.specs.Answers.{IsMemoryOrStore, IsOpenAt, WhenOpenAt};
 ghost use Rattle.mending.specs.Changes.{in_place_of, is_named};
-ghost use Rattle.mending.specs.Mending.{IsMended, IsPoint, MendPoint, after_other, after_sent, keeping, leaving, mend_one, mended, replacing, sent_of, start, turns_of};
+ghost use Rattle.mending.specs.Mending.{IsPoint, MendPoint, after_other, after_sent, keeping, leaving, mend_one, mended, replacing, start, turns_of};
+ghost use Rattle.mending.specs.Accounts.{IsMended};
 ghost use Rattle.mending.specs.Reports.{end_line};
 
 use crate::changes::Changes;
 use crate::names::{order_name, takes_place_of};
 use crate::places::{put_wards_about, ward_changed};
+use crate::recipients::{MendFault, Recipient, Sent};
 use crate::reports::{Cause, end_line, left_line, replaced_line};
-use office::{Answer, Office};
-use register::{Refusal, Request};
-use sqlite::Alter;
+use register::Request;
 use std::alloc::{AllocError, Global};
-use store::Fault;
 
 /// What became of the orders: a line for each that was replaced or left out, the wards that these were about, and how many orders
 /// were kept, replaced and left out.
@@ -31,61 +27,6 @@ pub struct Mended {
     pub kept: usize,
     pub replaced: usize,
     pub left_out: usize,
-}
-
-/// What came of an order that was sent.
-#[derive(Drop)]
-pub(crate) enum Sent {
-    /// It was accepted just now.
-    Accepted,
-    /// It had been accepted before, under the same id.
-    Known,
-    /// It was refused.
-    Denied(Refusal),
-}
-
-/// Why an order had no turn.
-#[derive(Clone, Copy)]
-enum TurnFault {
-    /// An allocation failed.
-    Memory,
-    /// The store of the office failed.
-    Store,
-}
-
-impl From<AllocError> for TurnFault {
-    ghost use Rattle.mending.specs.declared.mended.TurnFault.TheVariants.{Memory};
-
-    ghost from_gives = { λ _ why. why ≡ Memory };
-
-    fn from(_: AllocError) -> TurnFault {
-        TurnFault::Memory
-    }
-}
-
-/// Returns the fault for an order that had no turn.
-fn fault_of(fault: TurnFault) -> Fault
-    ensures { IsMemoryOrStore result }
-{
-    match fault {
-        TurnFault::Memory => Fault::Memory,
-        TurnFault::Store => Fault::Store,
-    }
-}
-
-/// Sends an order, and returns what came of it.
-fn send<S: Alter>(office: &mut Office<S>, order: &Request) -> Result<Sent, TurnFault>
-    ensures sent { WhenOpenAt (state S.Store) office.old office.new (λ s. IfOk result (λ sent. (sent ≡ sent_of (step_of s order.now))
-        × IsOpenAt (state_after s (step_of s order.now)) office.new.closed (state S.Store office.new.held))) }
-    ensures clean { HasCleanDisk (state S.Store office.new.held) → HasCleanDisk (state S.Store office.old.held) }
-{
-    match office.handle(order.actor, order.id.as_str(), &order.command) {
-        Ok(Answer::Done(_)) => Ok(Sent::Accepted),
-        Ok(Answer::Kept(_)) => Ok(Sent::Known),
-        Ok(Answer::Refused(refusal)) => Ok(Sent::Denied(refusal)),
-        Err(Fault::Memory) => Err(TurnFault::Memory),
-        Err(_) => Err(TurnFault::Store),
-    }
 }
 
 /// Returns the order that takes the place of another, if one does.
@@ -104,12 +45,24 @@ fn in_place_of<'a>(
     Ok(None)
 }
 
+/// Returns whether one of the names is this one.
+fn has_name(names: &[String], own: &str) -> bool
+    ensures { result ≡ list_any (bytes_eq own.now) (map string_bytes names.now) }
+{
+    for name in names {
+        if own == name.as_str() {
+            return true;
+        }
+    }
+    false
+}
+
 /// Returns whether an order is among those named.
 fn is_named(alloc: Global, names: &[String], order: &Request) -> Result<bool, AllocError>
     ensures { IfOk result (λ is. is ≡ is_named (map string_bytes names.now) order.now) }
 {
     let own = order_name(alloc, order)?;
-    Ok(names.iter().any(|name| own.as_str() == name.as_str()))
+    Ok(has_name(names, own.as_str()))
 }
 
 impl Mended {
@@ -220,21 +173,21 @@ impl Mended {
     #[tactic(auto, unfolding(crate::specs::Mending::mend_one))]
     /// Has an order its turn: another that takes its place is sent; else it is left out if it is named, or if it counts a ward of
     /// which an order before it was left out or replaced; and else it is sent.
-    fn take_turn<S: Alter>(
+    fn take_turn<R: Recipient>(
         &mut self,
         alloc: Global,
-        office: &mut Office<S>,
+        office: &mut R,
         changes: Changes<'_>,
         order: &Request,
-    ) -> Result<(), TurnFault>
+    ) -> Result<(), MendFault>
         requires { turns_of self.old < 2 ^ 64 - 1 }
-        ensures point { WhenOpenAt (state S.Store) office.old office.new (λ s. OnOk result ((p : MendPoint) → p.state ≡ s → IsPoint p self.old
-            → IsPoint (mend_one changes.entry p order.now) self.new × IsOpenAt (mend_one changes.entry p order.now).state office.new.closed (state S.Store office.new.held))) }
+        ensures point { R.is_sound office.new → (p : MendPoint) → R.is_at office.old p.state → IsPoint p self.old
+            → IfOk result (λ _. IsPoint (mend_one changes.entry p order.now) self.new × R.is_at office.new (mend_one changes.entry p order.now).state) }
         ensures turns { OnOk result (turns_of self.new ≡ turns_of self.old + 1) }
-        ensures clean { HasCleanDisk (state S.Store office.new.held) → HasCleanDisk (state S.Store office.old.held) }
+        ensures sound { R.is_sound office.new → R.is_sound office.old }
     {
         if let Some(other) = in_place_of(alloc, changes.instead, order)? {
-            let sent = send(office, other)?;
+            let sent = office.send(other)?;
             self.put_other(alloc, changes.orders, order, other, sent)?;
             return Ok(());
         }
@@ -246,7 +199,7 @@ impl Mended {
             self.leave(alloc, changes.orders, order, &Cause::Changed(ward))?;
             return Ok(());
         }
-        let sent = send(office, order)?;
+        let sent = office.send(order)?;
         self.put_sent(alloc, changes.orders, order, sent)?;
         Ok(())
     }
@@ -263,24 +216,21 @@ impl Mended {
 /// Sends the orders of an office, with changes, to an empty office, and returns what became of each.
 ///
 /// Afterwards the office is that of the list that results. Each order of that list was accepted. Each order of the office is one of the list,
-/// unless the text has a line for it, in the sequence of the orders: it was replaced by another, or left out. `Memory` or `Store` if an
-/// allocation or the store of the office failed; then nothing is known of it.
-pub fn mend<S: Alter>(
+/// unless the text has a line for it, in the sequence of the orders: it was replaced by another, or left out, for a reason that holds. After
+/// an error nothing is known of the office.
+pub fn mend<R: Recipient>(
     alloc: Global,
-    office: &mut Office<S>,
+    office: &mut R,
     changes: Changes<'_>,
-) -> Result<Mended, Fault>
-    ensures mended { HasCleanDisk (state S.Store office.new.held) → office.old.closed ≡ false → IsAt empty_office (state S.Store office.old.held)
-        → IfOk result (λ m. IsPoint (mended changes.entry) m × IsOpenAt (mended changes.entry).state office.new.closed (state S.Store office.new.held)) }
-    ensures list { IsMended changes.entry.orders.now (mended changes.entry) }
-    ensures told { IfErr result IsMemoryOrStore }
-    ensures clean { HasCleanDisk (state S.Store office.new.held) → HasCleanDisk (state S.Store office.old.held) }
+) -> Result<Mended, MendFault>
+    ensures mended { R.is_sound office.new → R.is_at office.old empty_office
+        → IfOk result (λ m. IsPoint (mended changes.entry) m × R.is_at office.new (mended changes.entry).state) }
+    ensures list { IsMended changes.entry (mended changes.entry) }
+    ensures sound { R.is_sound office.new → R.is_sound office.old }
 {
     let mut mended = Mended::new(alloc);
     for order in changes.orders {
-        if let Err(fault) = mended.take_turn(alloc, office, changes, order) {
-            return Err(fault_of(fault));
-        }
+        mended.take_turn(alloc, office, changes, order)?;
     }
     Ok(mended)
 }

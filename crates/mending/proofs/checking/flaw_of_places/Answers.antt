@@ -1,5 +1,5 @@
 -- Proof that `flaw_of_places` meets its contract: the order is one of those given, with its number of places and its subject.
-use Rattle.std.proofs.Common.{refl, sym, arith}
+use Rattle.std.proofs.Common.{sym, arith}
 use Rattle.mending.proofs.checking.flaw_of_places.Goals as goal
 
 pub returns-then-count-ne1-clause-some : goal.returns-then-count-ne1-clause-some
