@@ -28,15 +28,21 @@ const DENIED = {status: 401, says: {error: 'unauthorized'}};
 const TOO_MANY = {status: 429, says: {error: 'too many wrong codes'}};
 const PAPERS = ['1,2,', ',,12', 'D'];
 const KEYS = [['1', '2', 'Enter'], ['0', '0', '.', '1', '2', 'Enter'], ['d', 'Enter']];
-const SENT = 'Batch 13: ward 7, round 1, 2 papers. The office has your keying.';
+const NAMED = 'ward 7 Old Town <i>&, round 1';
+const SENT = `Batch 13: ${NAMED}, 2 papers. The office has your keying.`;
 
-// An office that responds to keyings as it is told, one after another, and to the rest as it should.
-const officeOf = (...answers) => async ({method, target}) => {
+// An office that responds to keyings as it is told, one after another, and to the rest as it should. `says` is the clerk's work, and
+// what he keyed in an earlier round.
+const officeWith = (says, ...answers) => async ({method, target}) => {
   if (method === 'POST') return answers.shift();
-  if (target === '/clerks/4/work') return {status: 200, says: {clerk: 4, work: WORK}};
+  if (target === '/clerks/4/work') return {status: 200, says: {clerk: 4, work: says.work}};
+  if (target === '/clerks/4/batches/12/keyed') return {status: says.keyed ? 200 : 404, says: says.keyed ?? {error: 'not found'}};
   if (target === '/clerks/4/batches/12/candidates') return {status: 200, says: CANDIDATES};
   return {status: 200, says: {left: true}};
 };
+const officeOf = (...answers) => officeWith({work: WORK}, ...answers);
+// An office in whose second round the clerk of batch 12 is.
+const secondRound = (keyed, ...answers) => officeWith({work: [{...OPEN, round: 2}], keyed}, ...answers);
 
 const opened = async (page, office, how) => {
   const window = new Window(page, office, how);
@@ -79,7 +85,7 @@ const PLAYS = {
       assert.deepEqual(window.listed(), []);
       await window.click('look');
     }
-    assert.deepEqual(window.listed(), ['Batch 12 ward 7, round 1, 3 papers.', SENT]);
+    assert.deepEqual(window.listed(), [`Batch 12 ${NAMED}, 3 papers.`, SENT]);
     assert.deepEqual([window.text('who'), window.document.title], ['clerk 4', 'Clerk 4: keying']);
   },
   'papers are keyed, sent once as they were keyed, and shown as kept; nothing else is asked but what is its clerk\u2019s': async (page) => {
@@ -175,9 +181,9 @@ const PLAYS = {
     const {storage} = before;
     const own = await opened(page, officeOf(), {storage});
     assert.match(own.text('list'), /1 keyed here/);
-    const other = await opened(page, async () => ({status: 200, says: {clerk: 9, work: WORK.slice(1)}}), {clerk: 9, storage});
+    const other = await opened(page, async () => ({status: 200, says: {clerk: 9, work: WORK.slice(1), ...CANDIDATES}}), {clerk: 9, storage});
     assert.deepEqual(other.listed(), [SENT]);
-    assert.deepEqual(other.asked.map(({target}) => target), ['/clerks/9/work']);
+    assert.deepEqual(other.asked.map(({target}) => target), ['/clerks/9/work', '/clerks/9/batches/13/candidates']);
     const window = await opened(page, officeOf(), {batch: '#12', storage});
     before.window.dispatchEvent(new before.window.StorageEvent('storage', {key: 'keying 4 12 1'}));
     await settled();
@@ -185,6 +191,68 @@ const PLAYS = {
     assert.equal(window.text('paper'), 'Paper 2 of 3');
     await window.press([...KEYS[1].slice(1), ...KEYS[2]]);
     assert.deepEqual(window.papers(), [PAPERS]);
+  },
+  'an earlier keying is gone through paper by paper, mended, and sent as the keying of the new round': async (page) => {
+    const office = secondRound({batch: 12, round: 1, papers: PAPERS}, {status: 200, says: {reply: 'batch 12 round 2 keyed'}});
+    const before = await opened(page, office);
+    await before.press(['Enter', 'Enter', '3', 'Enter', 'Enter'], {repeat: true});
+    assert.match(before.text('start-title'), /round 2/);
+    await before.press(['5']);
+    assert.match(before.text('notice'), /as you keyed it in round 1/);
+    for (const [keys, paper, lines, more] of [
+      [['Enter'], 2, ['12 <img src=x onerror=alert(1)>']], [['Enter', 'Enter'], 2, ['12 <img src=x onerror=alert(1)>'], {repeat: true}],
+      [['Backspace'], 1, ['1 Ann', `2 ${NAMES[1]}`]], [['Delete', '0', '1', 'ArrowDown'], 2, ['12 <img src=x onerror=alert(1)>']],
+    ]) {
+      await before.press(keys, more);
+      assert.deepEqual([before.text('paper'), ...all(before.at('read-marks'), 'li').map(({textContent}) => textContent)], [`Paper ${paper} of 3`, ...lines]);
+    }
+    const window = await opened(page, office, {batch: '#12', storage: before.storage});
+    await window.press(['ArrowDown', 'Enter']);
+    assert.equal(window.text('paper'), 'Paper 1 of 3', 'each paper must be looked at');
+    assert.match(window.text('done'), /^1 of 3 looked at/);
+    await window.press(['Enter', 'Enter', 'Enter', 's']);
+    const [{id, ...sent}] = window.sent();
+    assert.deepEqual(sent, {target: '/clerks/4/batches/12/keying', round: 2, papers: [',1,', ...PAPERS.slice(1)]});
+    assert.match(id, /^page-12-2-[a-z0-9]{16}$/);
+    assert.match(window.text('summary'), /Mended: 1 paper, by number 1$/);
+    assert.deepEqual(new Set([...before.asked, ...window.asked].map(({target}) => target.replace('/clerks/4/', ''))),
+      new Set(['work', 'batches/12/candidates', 'batches/12/keyed', 'batches/12/keying']));
+  },
+  'who has no earlier keying keys from the papers, and whoever can\u2019t have it is told so': async (page) => {
+    for (const keyed of [undefined, {batch: 12, round: 2, papers: PAPERS}, {batch: 12, round: 1, papers: ['1,2,']}]) {
+      const window = await opened(page, secondRound(keyed));
+      await window.press(['Enter']);
+      assert.ok(window.at('through').closest('[hidden]'), 'nothing can be gone through');
+      assert.match(keyed ? window.text('asked') : window.text('anew'), keyed ? /can\u2019t be opened/ : /Key every paper anew/);
+    }
+  },
+  'a draft goes on after the number of papers was put right': async (page) => {
+    const {storage} = await begun(page).then(async (window) => { await window.press([...KEYS[0], ...KEYS[1]]); return window; });
+    for (const [size, keys, papers] of [[4, ['Enter'], 3], [1, ['End'], 2], [2, ['ArrowUp', 'End'], 0]]) {
+      const window = await opened(page, officeWith({work: [{...OPEN, size}]}), {batch: '#12', storage});
+      if (!papers) assert.equal(window.at('end').hidden, false);
+      else assert.match(window.text('notice'), new RegExp(`The batch has ${size} paper`));
+      await window.press(keys);
+      assert.match(window.text('notice') + window.text('end-title'), [/2 papers keyed/, , /2 papers are keyed here, and the batch has 1/, /Nothing is keyed for paper 3/][papers]);
+      assert.deepEqual(window.papers()[0].slice(0, 2), PAPERS.slice(0, 2));
+    }
+  },
+  'the list follows the office by itself, and leaves the cursor where it is': async (page) => {
+    const says = {work: WORK};
+    let isThere = true;
+    const window = await opened(page, async (asked) => (isThere ? officeWith(says)(asked) : null));
+    says.work = [{...OPEN, batch: 11}, ...WORK];
+    await window.pass(30);
+    assert.deepEqual([window.listed().length, window.document.activeElement.value], [3, '12']);
+    for (isThere of [false, true]) {
+      await window.pass(30);
+      assert.equal(/doesn\u2019t answer/.test(window.text('asked')), !isThere);
+      assert.equal(window.listed().length, 3);
+    }
+    await window.press(['Enter']);
+    const {length} = window.asked;
+    await window.pass(120);
+    assert.equal(window.asked.length, length, 'nothing is asked while a batch is open');
   },
 };
 
@@ -208,6 +276,14 @@ const PLANTED = {
   'the name of another candidate is shown': ['name: shownName(names.get(number))', 'name: shownName(names.get(1))'],
   'the keying of another batch is sent': ['ask(`batches/${sent.batch}/keying`', 'ask(`batches/13/keying`'],
   'the office is asked for another clerk\u2019s work': ['await ask(\'work\')', 'await ask(\'../9/work\')'],
+  'an earlier keying is sent without a look at its papers': ['state: EARLIER, column', 'state: KEYED, column'],
+  'what is mended isn\u2019t sent': ['papers: rows.map((it) => it.text)', 'papers: rows.map((it) => it.was ?? it.text)'],
+  'an earlier keying is shown beside other names': ['isolated(candidates[column].name))]', 'isolated(candidates[0].name))]'],
+  'the keying of another clerk is gone through': ['ask(`batches/${work.batch}/keyed`)', 'ask(`../9/batches/${work.batch}/keyed`)'],
+  'a keying of this round is gone through': ['says.round < round', 'says.round <= round'],
+  'a draft of too many papers is sent': ['rows.length === size && rows.every', 'rows.every'],
+  'the list stays as it was': ['timer = setTimeout(refresh, 1000 * REFRESH);', ''],
+  'the list is asked for while a batch is open': ['clearTimeout(timer);\n  turns += 1;\n  const turn', 'turns += 1;\n  const turn'],
   'the script ends in an error': ['at(\'who\').textContent', 'at(\'whom\').textContent'],
 };
 

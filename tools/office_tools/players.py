@@ -160,7 +160,7 @@ class Teller(Player):
     """A clerk at the page to key on."""
 
     SIZES, EXPECTED = ((1024, 768), (400, 800)), "ERR_"
-    ASKED = re.compile(r"(GET /clerks/\d+/(work|leave|batches/\d+/candidates)?|POST /clerks/\d+/batches/\d+/keying) HTTP/1.1")
+    ASKED = re.compile(r"(GET /clerks/\d+/(work|leave|batches/\d+/(candidates|keyed))?|POST /clerks/\d+/batches/\d+/keying) HTTP/1.1")
 
     def __init__(self, evening, clerk):
         super().__init__(evening)

@@ -12,7 +12,7 @@ ghost use Rattle.desk.specs.Pages.{Tells, goes_on, outputs_of, page_for, page_ke
 ghost use Rattle.desk.specs.Parts.{ComesTo, IsFound, IsOver};
 
 use crate::lines::{LineOutcome, tell};
-use office::{Answer, Office, Stop};
+use office::{Answer, Office, ReadError};
 use register::{Reply, Request};
 use sqlite::Alter;
 use store::Fault;
@@ -46,8 +46,8 @@ fn kept_before<S: Alter>(office: &mut Office<S>, request: &Request, reply: Reply
             Ok(id) => LineOutcome::Noted { reply, id },
             Err(_) => LineOutcome::Failed(Fault::Memory),
         },
-        Err(Stop::Refused(refusal)) => LineOutcome::Refused(refusal),
-        Err(Stop::Fault(fault)) => LineOutcome::Failed(fault),
+        Err(ReadError::Refused(refusal)) => LineOutcome::Refused(refusal),
+        Err(ReadError::Fault(fault)) => LineOutcome::Failed(fault),
     }
 }
 

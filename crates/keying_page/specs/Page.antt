@@ -6,6 +6,7 @@ use Rattle.keying_page.specs.declared.script.batches.TheConstants.{BATCHES}
 use Rattle.keying_page.specs.declared.script.drafts.TheConstants.{DRAFTS}
 use Rattle.keying_page.specs.declared.script.events.TheConstants.{EVENTS}
 use Rattle.keying_page.specs.declared.script.keys.TheConstants.{KEYS}
+use Rattle.keying_page.specs.declared.script.reading.TheConstants.{READING}
 use Rattle.keying_page.specs.declared.script.requests.TheConstants.{REQUESTS}
 use Rattle.keying_page.specs.declared.script.rows.TheConstants.{ROWS}
 use Rattle.keying_page.specs.declared.script.sending.TheConstants.{SENDING}
@@ -14,7 +15,7 @@ use Rattle.keying_page.specs.declared.stylesheet.TheConstants.{STYLE}
 
 -- the script of the page: what its parts declare, and the last one, which starts it
 unfoldable pub script : List ℕ
-script = DRAFTS.now ++ (KEYS.now ++ (REQUESTS.now ++ (ROWS.now ++ (VIEWS.now ++ (SENDING.now ++ (BATCHES.now ++ EVENTS.now))))))
+script = DRAFTS.now ++ (KEYS.now ++ (READING.now ++ (REQUESTS.now ++ (ROWS.now ++ (VIEWS.now ++ (SENDING.now ++ (BATCHES.now ++ EVENTS.now)))))))
 
 -- the style of the page
 abbrev pub style : List ℕ

@@ -39,9 +39,10 @@ const BODY: &str = r#"
 <li>Count its papers. There must be <b id="start-size"></b>. If there are more or fewer, key nothing, and tell the returning officer.</li>
 <li>Leave the papers in their order. The one on top is paper 1.</li>
 <li>Key what stands on a paper. You correct nothing.</li>
-<li id="anew">This is a new round. Key every paper anew, from the paper.</li>
+<li id="anew"></li>
 </ol>
-<p class="acts"><button id="begin" type="button" class="main">Begin (Enter)</button> <button id="not-now" type="button">Your batches</button></p>
+<p class="acts"><button id="through" type="button" class="main">Go through your own keying (Enter)</button>
+<button id="begin" type="button" class="main">Begin (Enter)</button> <button id="not-now" type="button">Your batches</button></p>
 </section>
 
 <section id="papers" aria-labelledby="which" hidden>
@@ -50,6 +51,7 @@ const BODY: &str = r#"
 <p class="where"><b id="paper"></b> <span id="state"></span> <span id="done"></span></p>
 <p id="cursor"></p>
 </div>
+<div id="read" role="status" hidden><p id="read-what"></p><ul id="read-marks"></ul></div>
 <div class="wide"><table id="table">
 <caption class="unseen">The papers, one in each row, with a column for each candidate</caption>
 <thead id="heads"></thead><tbody id="rows"></tbody></table></div>
@@ -63,6 +65,7 @@ const BODY: &str = r#"
 <dt><kbd>/</kbd> and a candidate&rsquo;s number</dt><dd>the cursor goes to him; where another digit may follow, <kbd>Enter</kbd> ends the number</dd>
 <dt><kbd>D</kbd> or <kbd>*</kbd></dt><dd>the paper is doubtful: no official mark, a number that can&rsquo;t be read or is over 99, a name, a signature, a drawing</dd>
 <dt><kbd>Enter</kbd></dt><dd>the paper is keyed; the next one comes</dd>
+<dt><kbd>Enter</kbd>, in your own keying</dt><dd>the paper says just what is shown; hold it down, and it counts once</dd>
 <dt><kbd>0</kbd> and <kbd>Enter</kbd></dt><dd>a paper without any number</dd>
 <dt><kbd>Backspace</kbd></dt><dd>takes the last key back, also Enter</dd>
 <dt><kbd>Delete</kbd></dt><dd>empties this paper, to be keyed anew</dd>

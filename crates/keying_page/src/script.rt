@@ -11,6 +11,7 @@ mod drafts;
 mod events;
 mod keyboard;
 mod keys;
+mod reading;
 mod requests;
 mod rows;
 mod sending;
@@ -20,6 +21,7 @@ use crate::script::drafts::DRAFTS;
 use crate::script::events::EVENTS;
 use crate::script::keyboard::VIEWS;
 use crate::script::keys::KEYS;
+use crate::script::reading::READING;
 use crate::script::requests::REQUESTS;
 use crate::script::rows::ROWS;
 use crate::script::sending::SENDING;
@@ -30,5 +32,5 @@ use std::alloc::{AllocError, Global};
 pub(crate) fn script_text(alloc: Global) -> Result<String, AllocError>
     ensures { IfOk result (λ text. string_bytes text ≡ script) }
 {
-    format!(in alloc; "{DRAFTS}{KEYS}{REQUESTS}{ROWS}{VIEWS}{SENDING}{BATCHES}{EVENTS}")
+    format!(in alloc; "{DRAFTS}{KEYS}{READING}{REQUESTS}{ROWS}{VIEWS}{SENDING}{BATCHES}{EVENTS}")
 }

@@ -82,13 +82,18 @@ const FAULTS: [(&str, &str); 24] = [
 ];
 
 /// Requests under a clerk's number, by the values of `Authorization`.
-const SENT: [(&str, &str, &str); 19] = [
+const SENT: [(&str, &str, &str); 20] = [
     ("GET /clerks/4/work", FOUR, "Work { clerk: 4 }"),
     ("GET /clerks/9/work", NINE, "Work { clerk: 9 }"),
     (
         "GET /clerks/4/batches/12/candidates",
         FOUR,
         "Candidates { clerk: 4, batch: 12 }",
+    ),
+    (
+        "GET /clerks/4/batches/12/keyed",
+        FOUR,
+        "Keyed { clerk: 4, batch: 12 }",
     ),
     (
         "GET /clerks/4/",

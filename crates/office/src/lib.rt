@@ -4,8 +4,8 @@
 //! brings an office that an earlier program made up to this version, and `copy` copies an office into another database.
 //! `rows` reads all entries of one. `copy_open` and `rows_open` do the same for an open office, which stays open.
 //! `leads_to` returns whether requests lead from an empty office to such entries. `handle` answers one request and
-//! `run` a list of them. `status`, `next_step`, `columns`, `work`, `paper`, `sheet`, `result`, `text` and `index` read
-//! the state, and change nothing. So do `wards`, `batches`, `doubtful`, `differences`, `papers` and `receipts`, for the
+//! `run` a list of them. `status`, `next_step`, `columns`, `work`, `paper`, `earlier_keying`, `sheet`, `result`, `text`
+//! and `index` read the state, and change nothing. So do `wards`, `batches`, `doubtful`, `differences`, `papers` and `receipts`, for the
 //! office alone. `differs_from_stored` returns whether what is stored of a repeated request differs from the request. A
 //! fault inside a transaction closes the office. It then returns fault 104 until it is reopened, at the state before
 //! the request or at the one after it.
@@ -25,15 +25,20 @@ mod copying;
 mod deciding;
 mod migration;
 pub mod open_office;
-mod playing;
+mod replaying;
 // What is read of the state.
+mod earlier_keyings;
 mod index;
 mod overviews;
 mod reads;
 mod sheets;
 
-pub use answers::{Answer, Run, Stop};
+pub use answers::{Answer, ReadError, RunOutcome};
+/// The original name of [`ReadError`].
+pub use answers::ReadError as Stop;
+/// The original name of [`RunOutcome`].
+pub use answers::RunOutcome as Run;
 pub use open_office::Office;
 pub use register::{BallotPaper, NextStep, Receipt, Status, Work};
-pub use sheets::{Text, texts_are_there};
-pub use store::{CopyFault, Holdings, Migrated, Rows};
+pub use sheets::{WardText, texts_are_there};
+pub use store::{CopyFault, KeyedRound, Migrated, OfficeCounts, Rows};

@@ -16,6 +16,8 @@ use Rattle.register.specs.declared.command.Request.{Request}
 use Rattle.register.specs.declared.keyings.KeyingCommand.{KeyingCommand}
 use Rattle.register.specs.declared.refusal.Reason.TheVariants.{BadId, IdUsed, NotItsClerk, NumberOutOfRange}
 use Rattle.laws.specs.Blindness.{AlikeOfficesAnswerAlike, SeenIsAlike, SeenIsObserved, asked as observes, observed_of, ruling_on, seen_after}
+use Rattle.store.specs.EarlierKeyings.{KeyedRoundEntry}
+use Rattle.store.proofs.EarlierLemmas.{earlier_seen}
 use Rattle.office.specs.Answers.{Told, told_of}
 use Rattle.office.specs.Reads.{found_or}
 use Rattle.connections.specs.declared.client.Listener.{Listener}
@@ -24,12 +26,12 @@ use Rattle.wire.specs.Requests.{HttpRequestEntry, Asks, clerk_asked, console, de
 use Rattle.wire.specs.Bodies.{KeyingEntry}
 use Rattle.wire.specs.Gates.{HttpSettingsEntry}
 use Rattle.wire.specs.Responses.{ResponseEntry}
-use Rattle.wire.specs.Serving.{IsHandedOn, IsPut, TellsAsked, TellsFor, paper_response, read_response, reading_response, told_response, work_response}
+use Rattle.wire.specs.Serving.{IsHandedOn, IsPut, TellsAsked, TellsFor, earlier_response, paper_response, read_response, reading_response, told_response, work_response}
 use Rattle.wire.specs.Told.{IsTold}
 use Rattle.wire.specs.declared.request_error.RequestError.{RequestError}
 use Rattle.wire.specs.declared.serving.Served.{Served}
 use Rattle.wire.specs.declared.target.Resource.{Resource}
-use Rattle.wire.specs.declared.target.Resource.TheVariants.{Candidates, Declaration, Office, Sheet, Work}
+use Rattle.wire.specs.declared.target.Resource.TheVariants.{Candidates, Declaration, Keyed, Office, Sheet, Work}
 use Rattle.wire.proofs.RequestLemmas.{AsksOneThing-all}
 use Rattle.server.specs.Blind.{AnswersAsSeen, RespondsBySeen, IsAnsweredBySeen, IsStoppedBySeen, IsUnder}
 use Rattle.server.specs.Settings.{ServerSettingsEntry}
@@ -126,6 +128,11 @@ module _ (itself : SeenIsAlike) (alike : AlikeOfficesAnswerAlike) (seen : SeenIs
       ap (λ (paper : Option BallotPaperEntry). read_response (paper_response batch) (cond (is_clerk clerk && is_batch_number batch) (found_or NotItsClerk paper) (Err NumberOutOfRange)))
       ((alike clerk s (seen_by clerk s) good (itself clerk s)).paper batch)
 
+  keyed_seen : (s : OfficeState) (batch : ℕ) → reading_response s (Keyed clerk batch) ≡ reading_response (seen_by clerk s) (Keyed clerk batch)
+  keyed_seen s batch =
+      ap (λ (keyed : Option (Option KeyedRoundEntry)). read_response (earlier_response batch) (cond (is_clerk clerk && is_batch_number batch) (found_or NotItsClerk keyed) (Err NumberOutOfRange)))
+      (sym (earlier_seen s clerk batch))
+
   -- a clerk's reads are of what the clerk sees
   read_seen : (s : OfficeState) (what : Resource) → clerk_asked (reading what) ≡ Some clerk → reading_response s what ≡ reading_response (seen_by clerk s) what
   read_seen s (Work n) its =
@@ -134,6 +141,9 @@ module _ (itself : SeenIsAlike) (alike : AlikeOfficesAnswerAlike) (seen : SeenIs
   read_seen s (Candidates n batch) its =
       let same : n ≡ clerk = some_same n clerk its in
       subst (λ (m : ℕ). reading_response s (Candidates m batch) ≡ reading_response (seen_by clerk s) (Candidates m batch)) (sym same) (paper_seen s batch)
+  read_seen s (Keyed n batch) its =
+      let same : n ≡ clerk = some_same n clerk its in
+      subst (λ (m : ℕ). reading_response s (Keyed m batch) ≡ reading_response (seen_by clerk s) (Keyed m batch)) (sym same) (keyed_seen s batch)
   read_seen s (Sheet ward) its = absurd (cc its)
   read_seen s (Declaration ward) its = absurd (cc its)
   read_seen s (Office read) its = absurd (cc its)

@@ -29,7 +29,8 @@ use Rattle.server.specs.declared.serve_error.ServeError.{ServeError}
 
 -- ---- one request, next to a clerk's view of the office
 
--- These bytes ask for something under a clerk's number: to keep a keying, for the clerk's work, for the candidates of a batch, for the clerk's page, or to sign out.
+-- These bytes ask for something under a clerk's number: to keep a keying, for the clerk's work, for the candidates of a batch, for what the clerk keyed of it
+-- earlier, for the clerk's page, or to sign out.
 pub record IsUnder (settings : HttpSettingsEntry) (clerk : ℕ) (bytes : List ℕ) : Type 0 where
   pub asked : HttpRequestEntry
   pub asks : Asks settings bytes asked

@@ -64,6 +64,13 @@ fn is_same(one: Resource, other: Resource) -> bool
                 batch: too,
             },
         ) => clerk == theirs && batch == too,
+        (
+            Resource::Keyed { clerk, batch },
+            Resource::Keyed {
+                clerk: theirs,
+                batch: too,
+            },
+        ) => clerk == theirs && batch == too,
         (Resource::Sheet { ward }, Resource::Sheet { ward: other }) => ward == other,
         (Resource::Declaration { ward }, Resource::Declaration { ward: other }) => ward == other,
         (Resource::Office(read), Resource::Office(other)) => is_same_office_read(read, other),

@@ -7,6 +7,7 @@ pub mod FindLemmas
 pub mod KeyingLemmas
 pub mod RunLemmas
 pub mod ClerkLemmas
+pub mod EarlierLemmas
 pub mod WriteLemmas
 pub mod KeepLemmas
 pub mod TellLemmas
@@ -24,7 +25,7 @@ pub mod MigrationLemmas
 pub mod OverviewLemmas
 pub mod PileLemmas
 pub mod MemoryLemmas
-pub mod KeeperLemmas
+pub mod CachedStoreLemmas
 pub mod TwinLemmas
 pub mod KnownLemmas
 pub mod SchemaLemmas

@@ -3,6 +3,7 @@ pub mod StateTables
 pub mod Openings
 pub mod Listings
 pub mod Keyings
+pub mod EarlierKeyings
 pub mod Tallies
 pub mod Elections
 pub mod Loads

@@ -4,12 +4,13 @@
 //! finds the state that the rows of a database represent. `commit` stores a change in one transaction, entirely or not
 //! at all. `load_view` reads the part of the state that one request needs. `load_status`, `load_next` and
 //! `load_columns` read the status of a ward, its next step, and the columns of a batch's papers; `load_work` reads the
-//! batches that a clerk keys. `load_sheet` and `load_counted` read what the texts of a ward are written from, and
-//! `load_book` reads its stored count. `load_wards`, `load_batches`, `load_doubtful`, `load_batch_papers`,
-//! `load_differences` and `load_receipts` read the overviews. `load_differs_from_stored` compares a repeated request
-//! with what is stored of it. `migrate` brings an office that an earlier program made up to this version, and `copy`
-//! copies an office into another database. `read_office` reads a whole office. `Store::copy_to` and `Store::rows` do
-//! the same for an open office. `Fault` is the reason why a call failed.
+//! batches that a clerk keys, and `load_earlier_keying` what the clerk keyed of one in an earlier round. `load_sheet`
+//! and `load_counted` read what the texts of a ward are written from, and `load_book` reads its stored count.
+//! `load_wards`, `load_batches`, `load_doubtful`, `load_batch_papers`, `load_differences` and `load_receipts` read the
+//! overviews. `load_differs_from_stored` compares a repeated request with what is stored of it. `migrate` brings an
+//! office that an earlier program made up to this version, and `copy` copies an office into another database.
+//! `read_office` reads a whole office. `Store::copy_to` and `Store::rows` do the same for an open office. `Fault` is
+//! the reason why a call failed.
 //!
 //! ```text
 //! let mut store = Store::open_from(alloc, conn)?;
@@ -20,12 +21,13 @@
 //! The crate `tables` has the statements on any table; this one defines the rows of a state.
 #![tactic(auto)]
 
+mod batch_cache;
+mod cached_store;
 mod clerk_work;
 pub mod copying;
+pub mod earlier_keyings;
 mod entries;
-mod keeper;
 mod listing;
-mod memory;
 pub mod migration;
 pub mod older;
 mod opening;
@@ -38,8 +40,9 @@ mod views;
 pub mod whole;
 mod writing;
 
-pub use copying::{CopyFault, Holdings, copy};
-pub use keeper::Keeper;
+pub use cached_store::CachedStore;
+pub use copying::{CopyFault, OfficeCounts, copy};
+pub use earlier_keyings::KeyedRound;
 pub use migration::{Migrated, migrate};
 pub use overviews::batches::{BatchOverview, BatchStanding};
 pub use overviews::clerks::ClerkOverview;

@@ -7,7 +7,7 @@ use super::loads::loads;
 use codes::Codes;
 use desk::perform::perform;
 use desk::{Failure, Folder, MendOrder, Order, copy_office, order, tell_failure, tell_words};
-use office::{Answer, Office, Run, Stop, Work};
+use office::{Answer, Office, ReadError, RunOutcome, Work};
 use register::Request;
 use server::{Destination, FileNumbers, ServeError, ServedFile, ServerSettings, serve_connections};
 use sqlite::{Alter, Connection};
@@ -160,13 +160,14 @@ fn give<S: Alter + Drop, O: Sink, E: Sink>(
             | Order::Copy { .. }
             | Order::Journal
             | Order::Mend(_)
-            | Order::Codes { .. },
-        ) => (tell_failure(Failure::Output, err), conn),
+            | Order::Codes { .. }
+            | Order::Slips { .. },
+        ) => { (tell_failure(Failure::Output, err), conn) }
         Err(fault) => (tell_words(&fault, out, err), conn),
     }
 }
 
-fn answered(alloc: Global, run: &Run) -> Result<String, AllocError> {
+fn answered(alloc: Global, run: &RunOutcome) -> Result<String, AllocError> {
     let mut text = String::new(alloc);
     for answer in run.answers.iter() {
         let line = match answer {
@@ -225,10 +226,10 @@ fn work<S: Alter + Drop>(
     let conn = office.into_connection();
     let text = match told {
         Ok(work) => work_lines(alloc, &work)?,
-        Err(Stop::Refused(why)) => {
+        Err(ReadError::Refused(why)) => {
             format!(in alloc; "refused {}: {}\n", why.number(), why.text())?
         }
-        Err(Stop::Fault(_)) => return Err(Fail::from("no work is told")),
+        Err(ReadError::Fault(_)) => return Err(Fail::from("no work is told")),
     };
     Ok((StepPrinted::quietly(alloc, text), conn))
 }

@@ -23,7 +23,7 @@ use Rattle.wire.specs.declared.target.OfficeTarget.{OfficeTarget}
 use Rattle.wire.specs.declared.request_error.RequestError.{RequestError}
 use Rattle.wire.specs.declared.office_read.OfficeRead.{OfficeRead}
 use Rattle.wire.specs.declared.office_read.OfficeRead.TheVariants as read
-use Rattle.wire.specs.declared.target.Resource.TheVariants.{Candidates, Declaration, Office as Reads, Sheet, Work}
+use Rattle.wire.specs.declared.target.Resource.TheVariants.{Candidates, Declaration, Keyed, Office as Reads, Sheet, Work}
 use Rattle.wire.specs.declared.target.Target.{Target}
 use Rattle.wire.specs.declared.target.Target.TheVariants.{Keying, Leave, Office, Page, Public, Resource}
 use Rattle.wire.proofs.RequestLemmas.{AsksOneThing-all}
@@ -91,6 +91,8 @@ under-own own target (Leave c) account has (part, is, numbered) same = under-cle
 under-own own target (Resource (Work c)) account has (part, is, numbered) same = under-clerk own target part (codes "work") c account is numbered same
 under-own own target (Resource (Candidates c batch)) account has (part, b, is, numbered, other) same =
     under-clerk own target part (codes "batches/" ++ (b ++ codes "/candidates")) c account is numbered same
+under-own own target (Resource (Keyed c batch)) account has (part, b, is, numbered, other) same =
+    under-clerk own target part (codes "batches/" ++ (b ++ codes "/keyed")) c account is numbered same
 under-own own target (Resource (Sheet w)) account has is same = let no : ⊥ = cc in absurd no
 under-own own target (Resource (Declaration w)) account has is same = let no : ⊥ = cc in absurd no
 under-own own target (Resource (Reads its)) account has is same = under-read own target its has is ∙ same

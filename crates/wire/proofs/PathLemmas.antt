@@ -25,7 +25,7 @@ use Rattle.wire.specs.declared.target.OfficeTarget.{OfficeTarget}
 use Rattle.wire.specs.declared.target.OfficeTarget.TheVariants as office
 use Rattle.wire.specs.declared.target.RouteTarget.{RouteTarget}
 use Rattle.wire.specs.declared.target.RouteTarget.TheVariants as place
-use Rattle.wire.specs.declared.target.Resource.TheVariants.{Candidates, Declaration, Office as Reads, Sheet, Work}
+use Rattle.wire.specs.declared.target.Resource.TheVariants.{Candidates, Declaration, Keyed, Office as Reads, Sheet, Work}
 use Rattle.wire.specs.declared.target.Target.{Target}
 use Rattle.wire.specs.declared.target.Target.TheVariants.{Keying, Leave, Office, Page, Public, Resource}
 use Rattle.wire.proofs.PartLemmas.{IsNumeric, numeric, one-part, one-taken, two-parts, walk-part, with_taken}
@@ -190,6 +190,9 @@ keyings = record { end = codes "keying"; text = codes "/clerks/{c}/batches/{b}/k
 candidates : TwoRoute
 candidates = record { end = codes "candidates"; text = codes "/clerks/{c}/batches/{b}/candidates"; to = place.Candidates; kind = λ c b. Resource (Candidates c b) }
 
+keyed : TwoRoute
+keyed = record { end = codes "keyed"; text = codes "/clerks/{c}/batches/{b}/keyed"; to = place.Keyed; kind = λ c b. Resource (Keyed c b) }
+
 is-keyings : IsTwoRoute keyings
 unfolding keyings
 is-keyings = record {
@@ -206,6 +209,19 @@ is-keyings = record {
 is-candidates : IsTwoRoute candidates
 unfolding candidates
 is-candidates = record {
+  end_bytes = refl;
+  end_low = refl;
+  clerk = refl;
+  batch = refl;
+  stops_one = λ path from. refl;
+  stops_two = λ path from. refl;
+  names = λ c b. refl;
+  own = λ target c b clerk batch at own other. (c, b, at, own, other);
+}
+
+is-keyed : IsTwoRoute keyed
+unfolding keyed
+is-keyed = record {
   end_bytes = refl;
   end_low = refl;
   clerk = refl;
@@ -302,17 +318,29 @@ candidates-found c b is_c is_b =
     (seek-part batch_rows b (codes "candidates") (route_of_two candidates) batches-go is_b.some is_b.whole is_b.below
     (seek-word (codes "/candidates") (step param_token batch_rows) [] (route_of_two candidates) (seek-end _ _ refl)))))
 
+keyed-found : (c b : List ℕ) → IsNumeric c → IsNumeric b → first office_routes (two_path keyed c b) ≡ Some (route_of_two keyed)
+unfolding keyed batch_rows clerk_rows scan
+keyed-found c b is_c is_b =
+    seek-word (codes "/clerks/") office_routes (c ++ (codes "/batches/" ++ (b ++ codes "/keyed"))) (route_of_two keyed)
+    (seek-part clerk_rows c (codes "batches/" ++ (b ++ codes "/keyed")) (route_of_two keyed) clerks-go is_c.some is_c.whole is_c.below
+    (seek-word (codes "/batches/") (step param_token clerk_rows) (b ++ codes "/keyed") (route_of_two keyed)
+    (seek-part batch_rows b (codes "keyed") (route_of_two keyed) batches-go is_b.some is_b.whole is_b.below
+    (seek-word (codes "/keyed") (step param_token batch_rows) [] (route_of_two keyed) (seek-end _ _ refl)))))
+
 -- ---- both ways
 
 routes-own : (target : List ℕ) → Gives (NamesOwn target) office_routes target
-unfolding keyings candidates work page leaving sheet declaration scan
+unfolding keyings candidates keyed work page leaving sheet declaration scan
 routes-own target = (
   two-own candidates is-candidates target,
   (
-    two-own keyings is-keyings target,
+    two-own keyed is-keyed target,
     (
-      one-own leaving is-leaving target,
-      (one-own work is-work target, (one-own page is-page target, (one-own declaration is-declaration target, (one-own sheet is-sheet target, tt)))),
+      two-own keyings is-keyings target,
+      (
+        one-own leaving is-leaving target,
+        (one-own work is-work target, (one-own page is-page target, (one-own declaration is-declaration target, (one-own sheet is-sheet target, tt)))),
+      ),
     ),
   ),
 )
@@ -378,7 +406,7 @@ named-own target there named = by (office_by target) refl named
         subst (λ t. IsTargetOf t target) same (office-own target what found)
 
 own-named : (target : List ℕ) (there : Target) → IsTargetOf there target → named_by target ≡ Some there
-unfolding work page leaving sheet declaration keyings candidates
+unfolding work page leaving sheet declaration keyings candidates keyed
 own-named target (Page n) (part, is, own) = ap named_by is ∙ one-named page is-page part n own (page-found part (numeric part n own))
 own-named target (Leave n) (part, is, own) = ap named_by is ∙ one-named leaving is-leaving part n own (leaving-found part (numeric part n own))
 own-named target (Resource (Work n)) (part, is, own) = ap named_by is ∙ one-named work is-work part n own (work-found part (numeric part n own))
@@ -388,6 +416,8 @@ own-named target (Resource (Declaration n)) (part, is, own) =
     ap named_by is ∙ declaration-routed part n own ∙ one-named declaration is-declaration part n own (declaration-found part (numeric part n own))
 own-named target (Resource (Candidates clerk batch)) (c, b, is, own, other) =
     ap named_by is ∙ two-named candidates is-candidates c b clerk batch own other (candidates-found c b (numeric c clerk own) (numeric b batch other))
+own-named target (Resource (Keyed clerk batch)) (c, b, is, own, other) =
+    ap named_by is ∙ two-named keyed is-keyed c b clerk batch own other (keyed-found c b (numeric c clerk own) (numeric b batch other))
 own-named target (Keying clerk batch) (c, b, is, own, other) =
     ap named_by is ∙ two-named keyings is-keyings c b clerk batch own other (keyings-found c b (numeric c clerk own) (numeric b batch other))
 own-named target (Resource (Reads read)) is = read-named target read is

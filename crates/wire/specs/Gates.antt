@@ -90,6 +90,7 @@ account_at (Some gate) target = account_under gate.office target
 abbrev pub reader_of : Resource → Option ℕ
 reader_of (what.Work clerk) = Some clerk
 reader_of (what.Candidates clerk batch) = Some clerk
+reader_of (what.Keyed clerk batch) = Some clerk
 reader_of (what.Sheet ward) = None
 reader_of (what.Declaration ward) = None
 reader_of (what.Office read) = None
@@ -98,14 +99,16 @@ reader_of (what.Office read) = None
 abbrev pub reading_account : Resource → Option Account
 reading_account (what.Work clerk) = Some (Clerk clerk)
 reading_account (what.Candidates clerk batch) = Some (Clerk clerk)
+reading_account (what.Keyed clerk batch) = Some (Clerk clerk)
 reading_account (what.Sheet ward) = None
 reading_account (what.Declaration ward) = None
 reading_account (what.Office read) = Some Office
 
--- the candidates of a batch are served only at a gate, and so are the console's reads
+-- the candidates of a batch and a clerk's earlier keying are served only at a gate, and so are the console's reads
 abbrev pub reading_needs_gate : Resource → Bool
 reading_needs_gate (what.Work clerk) = false
 reading_needs_gate (what.Candidates clerk batch) = true
+reading_needs_gate (what.Keyed clerk batch) = true
 reading_needs_gate (what.Sheet ward) = false
 reading_needs_gate (what.Declaration ward) = false
 reading_needs_gate (what.Office read) = true
@@ -114,6 +117,7 @@ reading_needs_gate (what.Office read) = true
 abbrev pub reading_needs_office : Resource → Bool
 reading_needs_office (what.Work clerk) = false
 reading_needs_office (what.Candidates clerk batch) = false
+reading_needs_office (what.Keyed clerk batch) = false
 reading_needs_office (what.Sheet ward) = false
 reading_needs_office (what.Declaration ward) = false
 reading_needs_office (what.Office read) = true

@@ -4,8 +4,9 @@ use Rattle.json.specs.Print.{quoted}
 use Rattle.serde_json.specs.Data.{Data, array, boolean, member, no_members, number, object, string, unsigned}
 use Rattle.serde_json.specs.View.{items_of}
 use Rattle.serde_json.specs.Written.{compact_text}
-use Rattle.register.specs.Offices.{CandidateEntry}
+use Rattle.register.specs.Offices.{CandidateEntry, KeyedEntry}
 use Rattle.register.specs.Status.{BallotPaperEntry, WorkEntry}
+use Rattle.store.specs.EarlierKeyings.{KeyedRoundEntry}
 
 -- a reply
 abbrev pub reply_data : List ℕ → Data
@@ -79,3 +80,14 @@ paper_data batch p = object
 -- its JSON
 abbrev pub paper_body : ℕ → BallotPaperEntry → List ℕ
 paper_body batch p = compact_text (paper_data batch p)
+
+-- the marks of a keyed paper
+abbrev pub marks_data : KeyedEntry → Data
+marks_data k = string k.marks
+
+-- what a clerk keyed of a batch in a round: the marks of each paper, in order
+abbrev pub keyed_data : ℕ → KeyedRoundEntry → Data
+keyed_data batch k = object
+    (member (codes "batch") (number_data batch)
+    (member (codes "papers") (list_data marks_data k.papers)
+    (member (codes "round") (number_data k.round) no_members)))

@@ -1,4 +1,4 @@
--- What the targets of requests name: seven routes, as `matchit` finds them for the whole target, with numbers in them.
+-- What the targets of requests name: eight routes, as `matchit` finds them for the whole target, with numbers in them.
 use Rattle.std.specs.Prelude.{◌≡◌, ◌↔◌, ◌++◌, List, [], Option, Some, None, Result, Ok, Err, bytes_eq, codes, if◌then◌else◌, option_and_then, option_map, ℕ}
 use Rattle.std.specs.Char.{is_ascii}
 use Rattle.std.specs.List.{list_all}
@@ -19,7 +19,7 @@ use Rattle.wire.specs.declared.target.OfficeTarget.{OfficeTarget}
 use Rattle.wire.specs.declared.target.OfficeTarget.TheVariants as office
 use Rattle.wire.specs.declared.target.RouteTarget.{RouteTarget}
 use Rattle.wire.specs.declared.target.RouteTarget.TheVariants as place
-use Rattle.wire.specs.declared.target.Resource.TheVariants.{Candidates, Declaration, Office as Reads, Sheet, Work}
+use Rattle.wire.specs.declared.target.Resource.TheVariants.{Candidates, Declaration, Keyed, Office as Reads, Sheet, Work}
 use Rattle.wire.specs.declared.target.Target.{Target}
 use Rattle.wire.specs.declared.target.Target.TheVariants.{Keying, Leave, Office, Page, Public, Resource}
 
@@ -31,16 +31,17 @@ with_scanned (Err e) value routes = routes
 abbrev pub with_route : List ℕ → RouteTarget → RowsOf (RouteOf RouteTarget) → RowsOf (RouteOf RouteTarget)
 with_route text value routes = with_scanned (parse_route text) value routes
 
--- the seven routes
+-- the eight routes
 abbrev pub office_routes : RowsOf (RouteOf RouteTarget)
 office_routes =
     with_route (codes "/wards/{w}/result") place.Declaration
     (with_route (codes "/wards/{w}/sheet") place.Sheet
     (with_route (codes "/clerks/{c}/leave") place.Leave
     (with_route (codes "/clerks/{c}/") place.Page
+    (with_route (codes "/clerks/{c}/batches/{b}/keyed") place.Keyed
     (with_route (codes "/clerks/{c}/batches/{b}/candidates") place.Candidates
     (with_route (codes "/clerks/{c}/work") place.Work
-    (with_route (codes "/clerks/{c}/batches/{b}/keying") place.Keying []))))))
+    (with_route (codes "/clerks/{c}/batches/{b}/keying") place.Keying [])))))))
 
 -- the parameters of a route in a target, each with its name
 abbrev pub Taken : Type 0
@@ -59,6 +60,8 @@ named_at place.Keying taken =
     option_and_then (λ clerk. option_map (λ batch. Keying clerk batch) (parameter (codes "b") taken)) (parameter (codes "c") taken)
 named_at place.Candidates taken =
     option_and_then (λ clerk. option_map (λ batch. Resource (Candidates clerk batch)) (parameter (codes "b") taken)) (parameter (codes "c") taken)
+named_at place.Keyed taken =
+    option_and_then (λ clerk. option_map (λ batch. Resource (Keyed clerk batch)) (parameter (codes "b") taken)) (parameter (codes "c") taken)
 named_at place.Page taken = option_map (λ clerk. Page clerk) (parameter (codes "c") taken)
 named_at place.Leave taken = option_map (λ clerk. Leave clerk) (parameter (codes "c") taken)
 named_at place.Work taken = option_map (λ clerk. Resource (Work clerk)) (parameter (codes "c") taken)
@@ -112,6 +115,8 @@ IsTargetOf (Keying clerk batch) target =
     (c b : List ℕ) × (target ≡ codes "/clerks/" ++ (c ++ (codes "/batches/" ++ (b ++ codes "/keying")))) × (number_in c ≡ Some clerk) × (number_in b ≡ Some batch)
 IsTargetOf (Resource (Candidates clerk batch)) target =
     (c b : List ℕ) × (target ≡ codes "/clerks/" ++ (c ++ (codes "/batches/" ++ (b ++ codes "/candidates")))) × (number_in c ≡ Some clerk) × (number_in b ≡ Some batch)
+IsTargetOf (Resource (Keyed clerk batch)) target =
+    (c b : List ℕ) × (target ≡ codes "/clerks/" ++ (c ++ (codes "/batches/" ++ (b ++ codes "/keyed")))) × (number_in c ≡ Some clerk) × (number_in b ≡ Some batch)
 IsTargetOf (Page clerk) target = (c : List ℕ) × (target ≡ codes "/clerks/" ++ (c ++ codes "/")) × (number_in c ≡ Some clerk)
 IsTargetOf (Leave clerk) target = (c : List ℕ) × (target ≡ codes "/clerks/" ++ (c ++ codes "/leave")) × (number_in c ≡ Some clerk)
 IsTargetOf (Resource (Work clerk)) target = (c : List ℕ) × (target ≡ codes "/clerks/" ++ (c ++ codes "/work")) × (number_in c ≡ Some clerk)

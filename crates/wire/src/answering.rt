@@ -14,6 +14,7 @@ ghost use Rattle.wire.specs.Serving.{IsReadTold, Readies, closed_response, paper
 ghost use Rattle.wire.specs.Told.{IsTold};
 
 use crate::candidates::paper_body;
+use crate::earlier_keying::answer_earlier;
 use crate::office_responses::{faulted, refused, replied};
 use crate::public::answer_public;
 use crate::read_responses::answer_office;
@@ -23,7 +24,7 @@ use crate::response::{Content, Response};
 use crate::target::Resource;
 use crate::work::work_body;
 use http::StatusCode;
-use office::{Answer, Office, Stop};
+use office::{Answer, Office, ReadError};
 use register::{BallotPaper, Command, KeyingCommand, Work};
 use sqlite::Alter;
 use std::alloc::Global;
@@ -67,18 +68,18 @@ pub fn answer_keying<S: Alter>(alloc: Global, office: &mut Office<S>, keying: Ke
 }
 
 /// Returns the response with a ward's stage sheet or declaration, or with the refusal or fault.
-fn answer_text(alloc: Global, told: Result<String, Stop>) -> Response
+fn answer_text(alloc: Global, told: Result<String, ReadError>) -> Response
     ensures { IsReadTold text_response string_bytes told result }
 {
     match told {
         Ok(text) => Response::made(alloc, StatusCode::OK, Content::Text, Ok(text)),
-        Err(Stop::Refused(why)) => refused(alloc, &why),
-        Err(Stop::Fault(fault)) => faulted(alloc, fault),
+        Err(ReadError::Refused(why)) => refused(alloc, &why),
+        Err(ReadError::Fault(fault)) => faulted(alloc, fault),
     }
 }
 
 /// Returns the response with a clerk's work, or with the refusal or fault.
-fn answer_work(alloc: Global, clerk: u32, told: Result<Vec<Work>, Stop>) -> Response
+fn answer_work(alloc: Global, clerk: u32, told: Result<Vec<Work>, ReadError>) -> Response
     ensures { IsReadTold (work_response clerk) (λ work. map work_entry work.items) told result }
 {
     match told {
@@ -86,13 +87,13 @@ fn answer_work(alloc: Global, clerk: u32, told: Result<Vec<Work>, Stop>) -> Resp
             let body = work_body(alloc, clerk, &work);
             Response::made(alloc, StatusCode::OK, Content::Json, body)
         }
-        Err(Stop::Refused(why)) => refused(alloc, &why),
-        Err(Stop::Fault(fault)) => faulted(alloc, fault),
+        Err(ReadError::Refused(why)) => refused(alloc, &why),
+        Err(ReadError::Fault(fault)) => faulted(alloc, fault),
     }
 }
 
 /// Returns the response with the candidates of a batch, or with the refusal or fault.
-fn answer_paper(alloc: Global, batch: u32, told: Result<BallotPaper, Stop>) -> Response
+fn answer_paper(alloc: Global, batch: u32, told: Result<BallotPaper, ReadError>) -> Response
     ensures { IsReadTold (paper_response batch) paper_entry told result }
 {
     match told {
@@ -100,8 +101,8 @@ fn answer_paper(alloc: Global, batch: u32, told: Result<BallotPaper, Stop>) -> R
             let body = paper_body(alloc, batch, &paper);
             Response::made(alloc, StatusCode::OK, Content::Json, body)
         }
-        Err(Stop::Refused(why)) => refused(alloc, &why),
-        Err(Stop::Fault(fault)) => faulted(alloc, fault),
+        Err(ReadError::Refused(why)) => refused(alloc, &why),
+        Err(ReadError::Fault(fault)) => faulted(alloc, fault),
     }
 }
 
@@ -117,6 +118,9 @@ fn answer_reading<S: Alter>(alloc: Global, office: &mut Office<S>, what: Resourc
         Resource::Work { clerk } => answer_work(alloc, clerk, office.work(clerk)),
         Resource::Candidates { clerk, batch } => {
             answer_paper(alloc, batch, office.paper(clerk, batch))
+        }
+        Resource::Keyed { clerk, batch } => {
+            answer_earlier(alloc, batch, office.earlier_keying(clerk, batch))
         }
         Resource::Sheet { ward } => answer_text(alloc, office.sheet(ward)),
         Resource::Declaration { ward } => answer_text(alloc, office.result(ward)),

@@ -1,8 +1,8 @@
 //! Keying and reading over HTTP, one request for each connection.
 //!
-//! Seven routes are served: `POST /clerks/{c}/batches/{b}/keying`, `GET /clerks/{c}/work`, `GET /wards/{w}/sheet` and
-//! `GET /wards/{w}/result`; and with codes also `GET /clerks/{c}/`, `GET /clerks/{c}/leave` and
-//! `GET /clerks/{c}/batches/{b}/candidates`. [`Routes`] has these seven, and a server makes it once. With a code of the office
+//! Eight routes are served: `POST /clerks/{c}/batches/{b}/keying`, `GET /clerks/{c}/work`, `GET /wards/{w}/sheet` and
+//! `GET /wards/{w}/result`; and with codes also `GET /clerks/{c}/`, `GET /clerks/{c}/leave`,
+//! `GET /clerks/{c}/batches/{b}/candidates` and `GET /clerks/{c}/batches/{b}/keyed`. [`Routes`] has these eight, and a server makes it once. With a code of the office
 //! there are also `GET /office/`, `GET /office/leave`, `POST /office/orders` and the reads of the console, [`OfficeRead`]. If
 //! something is shown in public there are `GET /`, `GET /screen`, `GET /screen/wards` and `GET /wards/{w}/page`, [`PublicTarget`].
 //!
@@ -56,6 +56,7 @@ pub mod without_settings;
 // responses
 mod bodies;
 mod candidates;
+mod earlier_keying;
 mod office_responses;
 mod public;
 mod read_responses;

@@ -73,6 +73,7 @@ impl Resource {
         match self {
             Resource::Work { .. } => false,
             Resource::Candidates { .. } => true,
+            Resource::Keyed { .. } => true,
             Resource::Sheet { .. } => false,
             Resource::Declaration { .. } => false,
             Resource::Office(_) => true,
@@ -275,7 +276,7 @@ fn read_from_head<'a, R: Source>(
 /// what is asked. Once it does, nothing more is read, because the client may wait for its response. Some of the bytes that follow
 /// the request may have been read.
 ///
-/// What is asked for depends only on the target, which names exactly what it is the path of. That is one of the seven routes of
+/// What is asked for depends only on the target, which names exactly what it is the path of. That is one of the eight routes of
 /// this crate, with numbers of 1 to 5 digits in it, the first not 0; or `/office/`, `/office/leave`, `/office/orders` or the path of
 /// a read of the console. It may also be `/`, `/screen`, `/screen/wards` or the path of a ward's page. Any other target names nothing.
 pub fn read_request<'a, R: Source>(

@@ -20,6 +20,8 @@ pub enum Resource {
     Work { clerk: u32 },
     /// The candidates on the papers of a batch that a clerk keys.
     Candidates { clerk: u32, batch: u32 },
+    /// What a clerk keyed of a batch in an earlier round.
+    Keyed { clerk: u32, batch: u32 },
     /// The stage sheet of a ward.
     Sheet { ward: u32 },
     /// The declaration of a ward.
@@ -61,6 +63,7 @@ pub(crate) enum Target {
 enum RouteTarget {
     Keying,
     Candidates,
+    Keyed,
     Page,
     Leave,
     Work,
@@ -68,7 +71,7 @@ enum RouteTarget {
     Declaration,
 }
 
-/// Returns the router with the seven routes.
+/// Returns the router with the eight routes.
 fn office_router(alloc: Global) -> Result<Router<RouteTarget>, InsertError>
     ensures { IfOk result (λ router. router ≡ office_routes) }
 {
@@ -79,6 +82,7 @@ fn office_router(alloc: Global) -> Result<Router<RouteTarget>, InsertError>
         "/clerks/{c}/batches/{b}/candidates",
         RouteTarget::Candidates,
     )?;
+    router.insert("/clerks/{c}/batches/{b}/keyed", RouteTarget::Keyed)?;
     router.insert("/clerks/{c}/", RouteTarget::Page)?;
     router.insert("/clerks/{c}/leave", RouteTarget::Leave)?;
     router.insert("/wards/{w}/sheet", RouteTarget::Sheet)?;
@@ -109,6 +113,11 @@ fn named_at(place: RouteTarget, params: &Params<'_, '_>) -> Option<Target>
             let clerk = parameter(params, "c")?;
             let batch = parameter(params, "b")?;
             Some(Target::Resource(Resource::Candidates { clerk, batch }))
+        }
+        RouteTarget::Keyed => {
+            let clerk = parameter(params, "c")?;
+            let batch = parameter(params, "b")?;
+            Some(Target::Resource(Resource::Keyed { clerk, batch }))
         }
         RouteTarget::Page => {
             let clerk = parameter(params, "c")?;
@@ -149,11 +158,11 @@ fn office_by(target: &[u8]) -> Option<OfficeTarget>
     None
 }
 
-/// The seven routes. A server makes them once.
+/// The eight routes. A server makes them once.
 #[derive(Drop)]
 pub struct Routes {
     router: Router<RouteTarget>,
-    pub ghost seven: { router ≡ office_routes },
+    pub ghost eight: { router ≡ office_routes },
 }
 
 impl Routes {

@@ -2,7 +2,8 @@
 
 Two browsers log in as clerks 4 and 9, and each keys the same batch of 50 papers. One leaves a paper out and puts it in, and mends another.
 A page is loaded again in mid-batch, the server is killed and started again, and a line breaks after a keying was kept. The rows are those
-that were typed, each keyed once. The page asks nothing but what is its clerk's, and whoever left isn't let in again.
+that were typed, each keyed once. Another batch comes back, and one of the two goes through their own keying of it. The page asks nothing
+but what is its clerk's, and whoever left isn't let in again.
 Pictures at 1024 and 400 pixels go into the folder PICTURES. It needs `chromium`, `chromium-driver` and `python3-selenium`.
 """
 import functools
@@ -70,6 +71,19 @@ def send(four, nine, papers):
             raise Wrong(f"clerk {teller.clerk} has {receipts}, or something of the keying stays in the browser")
 
 
+def go_through(four):
+    """Batch 14 differs, and is opened again: clerk 4 goes through their own keying of it, mends its paper, and sends it."""
+    office = four.evening.office
+    for line in ("key 4 14 1 1,2,,, --id k2", "key 9 14 1 1,,2,, --id k2", "again 14 --id r14"):
+        office.do(*line.split())
+    four.log_in().shows("round 2", "list").keys("Tab", "Enter").views("start").keys("Enter", at=1)
+    four.until("document.getElementById('read-marks').textContent.includes('1 Ann2 Bob')")
+    four.pictured("read").keys("Delete", "1", "0", "2", "Enter").shows("Mended: 1 paper", "summary")
+    four.keys("s").shows("batch 14 round 2 keyed", "said")
+    if [row[-1] for row in office.rows()["keying"] if row[:3] == (14, 2, 4)] != ["1,,2,,"]:
+        raise Wrong("clerk 4's second keying of batch 14 isn't what was mended")
+
+
 def leave(four, nine):
     """Checks what the pages asked so far. Anyone who leaves is asked for the code again."""
     four.evening.check([four, nine])
@@ -97,4 +111,5 @@ def main(pictures: Path = None):
         key(four, nine, papers)
         send(four, nine, papers)
         print_keys(papers, four.count)
+        go_through(four)
         leave(four, nine)

@@ -8,6 +8,7 @@ const onClick = (id, act) => at(id).addEventListener('click', act);
 onClick('look', () => route());
 onClick('go-away', goAway);
 onClick('begin', () => backToPapers(''));
+onClick('through', goThrough);
 onClick('not-now', () => toBatches());
 onClick('leave', () => toBatches());
 onClick('leave-papers', () => toBatches());
@@ -23,7 +24,7 @@ at('out').addEventListener('close', () => { if (view === 'papers') putCursor(); 
 at('go').addEventListener('keydown', (event) => {
   const {value} = at('go');
   event.stopPropagation();
-  if (event.key === 'Enter') take(() => (/^[1-9][0-9]*$/.test(value) && value <= draft.size ? goTo(value - 1) : 'That is no number of a paper.'));
+  if (event.key === 'Enter') take(() => (/^[1-9][0-9]*$/.test(value) && value <= count() ? goTo(value - 1) : 'That is no number of a paper.'));
   if (event.key === 'Escape') showPapers();
 });
 
@@ -45,7 +46,10 @@ addEventListener('storage', ({key}) => {
   if (draft && key === draftName(draft.batch, draft.round)) toBatches(`Batch ${draft.batch} was opened in another window of this browser. Key it there, or open it here again.`);
 });
 addEventListener('blur', () => { at('away').hidden = view !== 'papers'; });
-addEventListener('resize', () => { if (isForPaper()) putCursor(); });
+addEventListener('resize', () => {
+  if (view === 'papers') fitColumns();
+  if (isForPaper()) putCursor();
+});
 addEventListener('focus', () => {
   at('away').hidden = true;
   if (isForPaper()) putCursor();

@@ -92,6 +92,7 @@ const onLostKey = (event) => {
 const backToPapers = (text) => {
   clearTimeout(timer);
   show('papers', at('which'));
+  fitColumns();
   showPapers();
   say(text);
 };

@@ -18,6 +18,8 @@ const row = () => draft.rows[draft.at];
 const paper = () => draft.at + 1;
 const isDoubtful = () => row().text === 'D';
 const isBehind = () => row().column === width();
+// How many papers there are to key: too many only until one is taken out.
+const count = () => Math.max(draft.size, draft.rows.length);
 
 // Behind each of these nothing is half keyed any more.
 const settle = () => { pending = null; extra = false; wentOn = false; };
@@ -26,10 +28,11 @@ const write = (column, mark) => {
   const fields = row().text.split(',');
   fields[column] = mark;
   row().text = fields.join(',');
-  if (row().state === NEW) row().state = BEGUN;
+  if (row().state !== KEYED) row().state = BEGUN;
 };
 
 const refuseBehind = () => {
+  if (row().state === EARLIER) return `Paper ${paper()} is as you keyed it in round ${draft.from}. Enter, if the paper says so. Else arrows go to a mark; Delete empties the paper.`;
   extra = true;
   return row().state === KEYED
     ? `Paper ${paper()} is keyed. Arrows go to a mark; Delete empties the paper.`
@@ -78,12 +81,12 @@ const digit = (key) => {
 
 const doubt = () => {
   settle();
-  Object.assign(row(), {text: 'D', column: width(), state: Math.max(row().state, BEGUN)});
+  Object.assign(row(), {text: 'D', column: width(), state: row().state === KEYED ? KEYED : BEGUN});
 };
 
 const empty = () => {
   settle();
-  draft.rows[draft.at] = newRow(draft.columns);
+  draft.rows[draft.at] = {...newRow(draft.columns), was: row().was};
 };
 
 // Before the first key of a paper the last one was Enter: the paper before is open again, as it was.
@@ -97,7 +100,7 @@ const reopen = () => {
 const back = () => {
   if (pending || extra) return settle();
   if (isDoubtful()) return empty();
-  if (row().state === NEW && row().column === 0) return reopen();
+  if ((row().state === NEW && row().column === 0) || (row().state === EARLIER && isBehind())) return reopen();
   row().column = Math.max(row().column - 1, 0);
   write(row().column, '');
   if (row().column === 0 && !/[0-9]/.test(row().text)) row().state = NEW;
@@ -111,8 +114,8 @@ const moveTo = (column) => {
 // Moves the cursor to another paper, among those that have been keyed.
 const goTo = (index) => {
   settle();
-  const {rows, size} = draft;
-  if (index < 0 || index >= size) return undefined;
+  const {rows} = draft;
+  if (index < 0 || index >= count()) return undefined;
   if (index > rows.length || (index === rows.length && rows.at(-1).state !== KEYED)) return `Paper ${firstOpen() + 1} comes first.`;
   if (index === rows.length) rows.push(newRow(draft.columns));
   draft.at = index;
@@ -126,7 +129,12 @@ const firstOpen = () => {
   return draft.rows.length < draft.size ? draft.rows.length : -1;
 };
 
-const goOn = () => (isWhole(draft) ? askToSend() : goTo(firstOpen()));
+const tooMany = () => `${draft.rows.length} papers are keyed here, and the batch has ${draft.size}. Go to the one that you keyed twice, and take it out.`;
+
+const goOn = () => {
+  if (isWhole(draft)) return askToSend();
+  return firstOpen() < 0 ? tooMany() : goTo(firstOpen());
+};
 
 // Goes to the next paper, after finishing one that is begun.
 const toNext = () => (row().state === BEGUN && firstOpen() === draft.at ? `Paper ${paper()} isn\u2019t ended. Enter ends it.` : goOn());
@@ -138,15 +146,14 @@ const finish = () => {
   if (extra) return refuseBehind();
   if (row().state === NEW) return `Nothing is keyed for paper ${paper()}. Has it no number at all? Then press 0, and Enter.`;
   row().state = KEYED;
-  return paper() < draft.size ? goTo(draft.at + 1) : goOn();
+  return paper() < count() ? goTo(draft.at + 1) : goOn();
 };
 
 // A paper that was left out is put in before this one.
 const putIn = () => {
   settle();
   const {rows, at, size} = draft;
-  if (rows.length === size && rows.at(-1).state !== NEW) return `All ${size} papers are begun. Take one out first.`;
-  if (rows.length === size) rows.pop();
+  if (rows.length >= size && rows.at(-1).state === NEW) rows.pop();
   rows.splice(at, 0, newRow(draft.columns));
 };
 

@@ -27,7 +27,7 @@ const AFTER_REFUSAL = {
   7: 'Compare the number on your pile. If it is right, tell the returning officer.',
   9: 'The ward isn\u2019t being keyed. Tell the returning officer.',
   14: 'The office hasn\u2019t given this batch to your number. Tell the returning officer.',
-  15: 'The batch is in another round. Ask for your batches, and key every paper anew if it stands there.',
+  15: 'The batch is in another round. Ask for your batches. If it is in the list, begin it again.',
   16: 'Your keying of this round is there already. Nothing is left to do.',
   17: 'The batch has another number of papers. Tell the returning officer.',
   18: 'Look at that paper, and mend it.',
@@ -61,16 +61,31 @@ const isWork = (it) => [it?.batch, it?.ward, it?.size, it?.round].every(Number.i
 const askWork = async () => {
   const answer = await ask('work');
   const list = answer?.status === 200 && answer.says?.work;
-  return Array.isArray(list) && list.every(isWork) ? {list} : {why: explained(answer)};
+  return Array.isArray(list) && list.every(isWork) ? {list} : {why: explained(answer), waits: isUnknown(answer)};
 };
 
+// The names of wards, by their numbers, as far as the office was asked for them.
+const wardNames = new Map();
+
 // The names of the candidates of a batch and of its ward, or why they can't be had.
-const askNames = async ({batch, columns}) => {
+const askNames = async ({batch, ward, columns}) => {
   const answer = await ask(`batches/${batch}/candidates`);
   const list = answer?.status === 200 && answer.says?.candidates;
   if (!Array.isArray(list)) return {why: explained(answer)};
   const names = new Map(list.map(({candidate, name}) => [candidate, name]));
-  return {ward: answer.says.name, candidates: columns.map((number) => ({number, name: shownName(names.get(number))}))};
+  wardNames.set(ward, shownName(answer.says.name));
+  return {candidates: columns.map((number) => ({number, name: shownName(names.get(number))}))};
+};
+
+const isKeyed = (says, {batch, round, size, columns}) =>
+  says?.batch === batch && Number.isInteger(says.round) && says.round < round && Array.isArray(says.papers)
+  && says.papers.length === size && says.papers.every((text) => isMarksText(text, columns));
+
+// What this clerk keyed of a batch in the latest earlier round that he keyed; nothing, if there is none; or why it can't be had.
+const askKeyed = async (work) => {
+  const answer = work.round === 1 ? null : await ask(`batches/${work.batch}/keyed`);
+  if (work.round === 1 || answer?.status === 404) return {};
+  return answer?.status === 200 && isKeyed(answer.says, work) ? {keyed: answer.says} : {why: explained(answer)};
 };
 
 // A name without marks that change the direction of the text next to it.

@@ -3,7 +3,7 @@
 /// Declares what is shown of a finished batch while it is sent, repeated, refused or kept.
 pub(crate) const SENDING: &str = r#"// ---- the end of a batch
 
-const numbersOf = (isMeant) => draft.rows.flatMap((it, index) => (isMeant(it.text) ? [index + 1] : []));
+const numbersOf = (isMeant) => draft.rows.flatMap((it, index) => (isMeant(it.text, it.was) ? [index + 1] : []));
 
 // How many papers something is so of, and which the first of them are.
 const counted = (what, numbers) => {
@@ -22,10 +22,11 @@ const showEnd = (text, {sends, goesBack, isKept = false}) => {
 
 const askToSend = () => {
   settle();
-  at('end-title').textContent = `Batch ${draft.batch}, round ${draft.round}: ${papersOf(draft.size)} keyed`;
+  at('end-title').textContent = `Batch ${draft.batch}, round ${draft.round}: ${papersOf(draft.rows.length)} ${doneWord(draft)}`;
   at('summary').replaceChildren(
     made('li', {}, counted('Doubtful', numbersOf((text) => text === 'D'))),
-    made('li', {}, counted('Without any number', numbersOf((text) => !/[0-9D]/.test(text)))));
+    made('li', {}, counted('Without any number', numbersOf((text) => !/[0-9D]/.test(text)))),
+    ...(draft.from ? [made('li', {}, counted('Mended', numbersOf((text, was) => text !== was)))] : []));
   tries = 0;
   show('end', at('end-title'));
   showEnd('', {sends: true, goesBack: true});
