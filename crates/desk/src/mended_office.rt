@@ -30,7 +30,7 @@ use crate::lines::{LineOutcome, tell};
 use crate::orders::MendOrder;
 use crate::overviews::lines_on_wards;
 use mending::{Changes, MendFault, Mended, Recipient, Sent, flaw_in, mend};
-use office::{Answer, Office, Stop};
+use office::{Answer, Office, ReadError};
 use register::Request;
 use rowcheck::Rows;
 use sqlite::{Alter, Connection};
@@ -141,8 +141,8 @@ fn wards_of<S: Alter>(alloc: Global, office: &mut Office<S>) -> Result<Vec<Strin
             Ok(lines) => Ok(lines),
             Err(AllocError) => Err(Fault::Memory),
         },
-        Err(Stop::Fault(fault)) => Err(fault),
-        Err(Stop::Refused(_)) => Err(Fault::Store),
+        Err(ReadError::Fault(fault)) => Err(fault),
+        Err(ReadError::Refused(_)) => Err(Fault::Store),
     }
 }
 
