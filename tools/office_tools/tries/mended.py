@@ -1,8 +1,14 @@
 """Plays made-up evenings, mends each at random, and compares the new office with that of the orders that are left.
 
 The other office is made without `mend`: the journal's lines without those that are left out, with others in the place of some, and
-without the stages, lots and declarations of a ward of which an order was left out, replaced or refused before. docs/HOSTILE.md says
-what must hold. As many evenings are played side by side as there are processors.
+without the stages, lots and declarations of a ward of which an order was left out, replaced or refused before. What must hold:
+
+- `mend` ends with status 0, and the office that it was given has the same rows as before.
+- All tables of both new offices have the same rows, receipts, bundles and votes too.
+- A line is printed for each order that is gone or replaced, with the reason for which `replay` refuses it, in the journal's sequence;
+  then how `wards` differs; then the three numbers.
+
+As many evenings are played side by side as there are processors.
 """
 import collections
 import random
