@@ -6,8 +6,11 @@ use Rattle.sqlite.specs.State.{State}
 use Rattle.register.specs.Offices.{OfficeState}
 use Rattle.office.specs.Answers.{WhenOpenAt}
 use Rattle.office.specs.Values.{OfficeValue}
-use Rattle.desk.specs.Mends.{IsMendPage, IsMendTold, IsMendedOpen}
-use Rattle.desk.specs.Pages.{Cut, IsErrorTold, IsShown, Outputs, Page, Tells, below, cut_below, failed, outputs_of}
+use Rattle.mending.specs.Accounts.{IsMended}
+use Rattle.mending.specs.Changes.{CanBeMade}
+use Rattle.mending.specs.Mending.{mended}
+use Rattle.desk.specs.Mends.{IsMade, IsMendPage, IsMendTold, IsMendedOpen, IsUnmade, mended_text, ward_lines}
+use Rattle.desk.specs.Pages.{Cut, IsErrorTold, IsShown, Outputs, Page, Tells, below, cut_below, failed, outputs_of, printed}
 use Rattle.desk.specs.declared.copying.CopyState.{CopyState}
 use Rattle.desk.specs.declared.lines.Failure.{Failure}
 use Rattle.desk.specs.declared.lines.Failure.TheVariants.{CopyFailed}
@@ -18,9 +21,13 @@ use Rattle.count_office.proofs.CopyLemmas.{error_ends, whole_at_zero}
 
 -- what is printed for the new office
 pub mend_told : (s : OfficeState) (m : MendOrder) (page : Page) (left : CopyState) (new_old new_new : State) → IsMendedOpen s m page left new_old new_new → IsMendTold s m page
-mend_told s m page left new_old new_new (inl (changes, asked, inl made)) = inl (changes, asked, inl (made.can, made.list, made.page))
-mend_told s m page left new_old new_new (inl (changes, asked, inr unmade)) = inl (changes, asked, inr unmade)
-mend_told s m page left new_old new_new (inr other) = inr other
+mend_told s m page left new_old new_new (inl (changes, asked, tried)) = inl (changes, asked, by tried.told)
+  where
+    by : IsMade (ward_lines s) changes page left new_old new_new ⊎ IsUnmade changes page
+        → (CanBeMade changes × IsMended changes (mended changes) × (page ≡ printed (mended_text (ward_lines s) (mended changes)))) ⊎ IsUnmade changes page
+    by (inl made) = inl (made.can, made.list, made.page)
+    by (inr unmade) = inr unmade
+mend_told s m page left new_old new_new (inr other) = inr other.0
 
 module _ {O E : Type 0} (taken : O → Option (List ℕ)) (calls : O → ℕ) (taken_err : E → Option (List ℕ)) (calls_err : E → ℕ) where
   abbrev outputs : O → E → Outputs

@@ -6,6 +6,7 @@ use Rattle.clap.specs.Words.{Text}
 use Rattle.sqlite.specs.State.{HasCleanDisk, State}
 use Rattle.register.specs.Offices.{OfficeState}
 use Rattle.register.specs.declared.command.Request.{Request}
+use Rattle.store.specs.Copies.{LeavesNoneOrAll}
 use Rattle.store.specs.Openings.{IsBlank}
 use Rattle.store.specs.Overviews.{ward_views}
 use Rattle.store.specs.StateTables.{IsAt}
@@ -20,7 +21,7 @@ use Rattle.desk.specs.Journals.{IsScriptOf}
 use Rattle.desk.specs.Overviews.{ward_line}
 use Rattle.desk.specs.Pages.{Page, below, failed, line, printed, unjournalled, unmended}
 use Rattle.desk.specs.declared.copying.CopyState.{CopyState}
-use Rattle.desk.specs.declared.copying.CopyState.TheVariants.{Whole}
+use Rattle.desk.specs.declared.copying.CopyState.TheVariants.{Untouched, Whole}
 use Rattle.desk.specs.declared.lines.Failure.{Failure}
 use Rattle.desk.specs.declared.lines.Failure.TheVariants.{CopyFailed}
 use Rattle.desk.specs.declared.orders.MendOrder.{MendOrder}
@@ -76,16 +77,20 @@ pub record IsMade (before : List Text) (changes : Changes) (page : Page) (left :
 abbrev pub IsUnmade : Changes → Page → Type 0
 IsUnmade changes page = ((flaw : Flaw) × IsFlawOf changes flaw × (page ≡ unmended (flaw_text flaw))) ⊎ ((failure : Failure) × (page ≡ failed failure))
 
+-- The new office was made or not. Whatever a stop leaves, the new database is as it was, or contains the whole new office.
+pub record IsTried (before : List Text) (changes : Changes) (page : Page) (left : CopyState) (new_old new_new : State) : Type 0 where
+  pub told : IsMade before changes page left new_old new_new ⊎ IsUnmade changes page
+  pub stops : HasCleanDisk new_new → IsBlank new_old → LeavesNoneOrAll (mended changes).state new_old new_new
+
 -- the orders of the office could not be read: it has no journal, or the page has a failure
 abbrev pub IsUnread : Page → Type 0
 IsUnread page = (page ≡ unjournalled) ⊎ ((failure : Failure) × (page ≡ failed failure))
 
--- The outcome of an order to mend the office of a state. The new office was made with the changes that are asked for. Or none was: since they can't be made, since the
--- words have no orders to send, since there is no journal, or since a failure ended it.
+-- The outcome of an order to mend the office of a state. The new office was tried with the changes that are asked for. Or nothing was written: since the words have no
+-- orders to send, since there is no journal, or since a failure ended it.
 abbrev pub IsMendedOpen : OfficeState → MendOrder → Page → CopyState → State → State → Type 0
 IsMendedOpen s m page left new_old new_new =
-    ((changes : Changes) × AreAsked s m changes × (IsMade (ward_lines s) changes page left new_old new_new ⊎ IsUnmade changes page))
-    ⊎ ((page ≡ unmended unsent_text) ⊎ IsUnread page)
+    ((changes : Changes) × AreAsked s m changes × IsTried (ward_lines s) changes page left new_old new_new) ⊎ (((page ≡ unmended unsent_text) ⊎ IsUnread page) × (left ≡ Untouched))
 
 -- the page of an order to mend the office of a state
 abbrev pub IsMendTold : OfficeState → MendOrder → Page → Type 0

@@ -21,7 +21,7 @@ ghost use Rattle.mending.specs.Accounts.{IsMended};
 ghost use Rattle.mending.specs.Mending.{mended};
 ghost use Rattle.mending.specs.Reports.{end_line};
 ghost use Rattle.desk.specs.Journals.{IsScriptOf};
-ghost use Rattle.desk.specs.Mends.{IsMade, IsMendedOpen, IsUnmade, IsUnread, differing, mended_text, missing_from, script_of, unsent_text, ward_lines};
+ghost use Rattle.desk.specs.Mends.{IsMendedOpen, IsTried, IsUnread, differing, mended_text, missing_from, script_of, unsent_text, ward_lines};
 ghost use Rattle.desk.specs.Pages.{Tells, line, outputs_of, page_of, unmended};
 
 use crate::copying::{CopyState, state_behind};
@@ -306,11 +306,9 @@ fn copied<T: Alter, N: Alter>(
 ) -> (LineOutcome, CopyState)
     requires { CanBeMade changes.entry }
     ensures made { HasCleanDisk (state T.Store made.new.office.held) → made.old.office.closed ≡ false → IsAt empty_office (state T.Store made.old.office.held)
-        → IsMade (map string_bytes before.now) changes.entry (page_of result.0) result.1 (state N.Store new.old) (state N.Store new.new) ⊎ IsUnmade changes.entry (page_of result.0) }
+        → IsTried (map string_bytes before.now) changes.entry (page_of result.0) result.1 (state N.Store new.old) (state N.Store new.new) }
     ensures whole { HasCleanDisk (state N.Store new.new) → IsBlank (state N.Store new.old)
         → (trees : Trees) → (state N.Store new.new).may_leave trees → (state N.Store new.old).may_leave trees ⊎ ((x : OfficeState) × StoresState x trees) }
-    ensures copy { (page_of result.0).status ≡ 0 → (result.1 ≡ CopyState.Whole)
-        × (HasCleanDisk (state N.Store new.new) → IsBlank (state N.Store new.old) → (x : OfficeState) × IsAt x (state N.Store new.new)) }
     ensures untouched { result.1 ≡ CopyState.Untouched → new.new ≡ new.old }
     ensures clean { HasCleanDisk (state T.Store made.new.office.held) → HasCleanDisk (state T.Store made.old.office.held) }
 {
@@ -335,11 +333,9 @@ fn made<T: Alter, N: Alter>(
 ) -> (LineOutcome, CopyState, Connection<T>)
     requires { CanBeMade changes.entry }
     ensures made { HasCleanDisk (state T.Store result.2) → IsBlank (state T.Store blank)
-        → IsMade (map string_bytes before.now) changes.entry (page_of result.0) result.1 (state N.Store new.old) (state N.Store new.new) ⊎ IsUnmade changes.entry (page_of result.0) }
+        → IsTried (map string_bytes before.now) changes.entry (page_of result.0) result.1 (state N.Store new.old) (state N.Store new.new) }
     ensures whole { HasCleanDisk (state N.Store new.new) → IsBlank (state N.Store new.old)
         → (trees : Trees) → (state N.Store new.new).may_leave trees → (state N.Store new.old).may_leave trees ⊎ ((x : OfficeState) × StoresState x trees) }
-    ensures copy { (page_of result.0).status ≡ 0 → (result.1 ≡ CopyState.Whole)
-        × (HasCleanDisk (state N.Store new.new) → IsBlank (state N.Store new.old) → (x : OfficeState) × IsAt x (state N.Store new.new)) }
     ensures untouched { result.1 ≡ CopyState.Untouched → new.new ≡ new.old }
 {
     match Office::create(alloc, blank) {
@@ -362,11 +358,9 @@ fn checked<T: Alter, N: Alter>(
     new: &mut Connection<N>,
 ) -> (LineOutcome, CopyState, Connection<T>)
     ensures made { HasCleanDisk (state T.Store result.2) → IsBlank (state T.Store blank)
-        → IsMade (map string_bytes before.now) changes.entry (page_of result.0) result.1 (state N.Store new.old) (state N.Store new.new) ⊎ IsUnmade changes.entry (page_of result.0) }
+        → IsTried (map string_bytes before.now) changes.entry (page_of result.0) result.1 (state N.Store new.old) (state N.Store new.new) }
     ensures whole { HasCleanDisk (state N.Store new.new) → IsBlank (state N.Store new.old)
         → (trees : Trees) → (state N.Store new.new).may_leave trees → (state N.Store new.old).may_leave trees ⊎ ((x : OfficeState) × StoresState x trees) }
-    ensures copy { (page_of result.0).status ≡ 0 → (result.1 ≡ CopyState.Whole)
-        × (HasCleanDisk (state N.Store new.new) → IsBlank (state N.Store new.old) → (x : OfficeState) × IsAt x (state N.Store new.new)) }
     ensures untouched { result.1 ≡ CopyState.Untouched → new.new ≡ new.old }
 {
     match flaw_in(alloc, changes) {
@@ -402,8 +396,6 @@ fn mended_open<S: Alter, T: Alter, N: Alter>(
     ensures reads { OnlyReads (state S.Store office.old.held) (state S.Store office.new.held) }
     ensures whole { HasCleanDisk (state N.Store new.new) → IsBlank (state N.Store new.old)
         → (trees : Trees) → (state N.Store new.new).may_leave trees → (state N.Store new.old).may_leave trees ⊎ ((x : OfficeState) × StoresState x trees) }
-    ensures copy { (page_of result.0).status ≡ 0 → (result.1 ≡ CopyState.Whole)
-        × (HasCleanDisk (state N.Store new.new) → IsBlank (state N.Store new.old) → (x : OfficeState) × IsAt x (state N.Store new.new)) }
     ensures untouched { result.1 ≡ CopyState.Untouched → new.new ≡ new.old }
 {
     let instead = match orders_in(alloc, &asked.instead) {
@@ -461,8 +453,6 @@ pub fn mend_open<S: Alter, T: Alter, N: Alter, O: Sink, E: Sink>(
     ensures reads { OnlyReads (state S.Store office.old.held) (state S.Store office.new.held) }
     ensures whole { HasCleanDisk (state N.Store new.new) → IsBlank (state N.Store new.old)
         → (trees : Trees) → (state N.Store new.new).may_leave trees → (state N.Store new.old).may_leave trees ⊎ ((x : OfficeState) × StoresState x trees) }
-    ensures copy { result.0 ≡ 0 → (result.1 ≡ CopyState.Whole)
-        × (HasCleanDisk (state N.Store new.new) → IsBlank (state N.Store new.old) → (x : OfficeState) × IsAt x (state N.Store new.new)) }
     ensures untouched { result.1 ≡ CopyState.Untouched → new.new ≡ new.old }
 {
     let (outcome, state, trial) = mended_open(alloc, office, asked, trial, new);
