@@ -168,7 +168,7 @@ const PLAYS = {
       [['Enter'], /Nothing is keyed for paper 1/, ',,'], [['x'], /The key x means nothing here/, ',,'],
       [['ArrowLeft'], /Num Lock is off/, ',,', {code: 'Numpad4'}], [['1', 'Enter'], /Num Lock is off/, ',,', {repeat: true}],
       [['1', 'Tab', '2', 'End'], /isn\u2019t ended. Enter ends it/, '1,2,'], [['0', '4'], /at its end, and another key came/, '1,2,'],
-      [['Enter'], /at its end, and another key came/, '1,2,'], [['Backspace', 'Backspace', '.', '0'], /No mark begins with 0/, '1,2,'],
+      [['Enter'], /at its end, and another key came/, '1,2,'], [['Backspace', 'Backspace', '.', '0'], /A mark never begins with 0/, '1,2,'],
     ]) {
       await window.press(keys, more);
       assert.match(window.text('notice'), words);
@@ -223,7 +223,7 @@ const PLAYS = {
       const window = await opened(page, secondRound(keyed));
       await window.press(['Enter']);
       assert.ok(window.at('through').closest('[hidden]'), 'nothing can be gone through');
-      assert.match(keyed ? window.text('asked') : window.text('anew'), keyed ? /can\u2019t be opened/ : /Key every paper anew/);
+      assert.match(keyed ? window.text('asked') : window.text('anew'), keyed ? /can\u2019t be opened/ : /Key every paper again/);
     }
   },
   'a draft goes on after the number of papers was put right': async (page) => {

@@ -10,7 +10,7 @@ use Rattle.store.specs.{Openings.HoldsNoState, Openings.IsBlank, Openings.IsLeft
 use Rattle.store.specs.Migrations.{HoldsNoOlder, IsToldInMigration, LeavesOldOrNew, RestsOlder}
 use Rattle.store.specs.declared.migration.Migrated.TheVariants.{Already, Done}
 use Rattle.office.specs.{Answers.IsClosedIn, Answers.IsKeptOpen, Answers.IsMemoryOrStore, Answers.IsOpenAt, Answers.Told, Answers.told_of, Reads.IsClosedReading, Runs.Keeps}
-use Rattle.desk.specs.{Folders.File, Folders.Folder, Folders.IsFileAt, Requests.Sends, Requests.file_of, Scripts.HasTurns, Scripts.keeps_going, Told.IsNoScript, Told.IsTold, Told.page_answered}
+use Rattle.desk.specs.{Folders.File, Folders.Folder, Folders.IsFileAt, Requests.Sends, Requests.file_of, Scripts.HasSteps, Scripts.keeps_going, Told.IsNoScript, Told.IsTold, Told.page_answered}
 use Rattle.desk.specs.Pages.{Cut, Page, below, cut_below, empty_page, failed, fronted, goes_on, migrated_text, replied, uncut}
 use Rattle.desk.specs.declared.{lines.Failure.TheVariants.Office, orders.Job.Job, orders.Task.Task, scripts.ScriptStep.ScriptStep}
 use Rattle.desk.specs.declared.orders.Task.TheVariants as task
@@ -77,7 +77,7 @@ module _ (old : State) (closed : Bool) (st : State) where
 
   -- A job is done in the open office: its steps are run, with `keep_going` past refusals. Or the page says why its text isn't a script. Or the page has a fault.
   abbrev pub IsDone : Folder → OfficeState → Job → Course → Type 0
-  IsDone folder s job course = ((turns : List ScriptStep) × HasTurns folder job turns
+  IsDone folder s job course = ((turns : List ScriptStep) × HasSteps folder job turns
       × IsPlayed (keeps_going job) folder s turns course) ⊎ IsUnsent false None (IsNoScript folder job) (λ rest. ⊥) s course
 
 -- Nothing is sent, and a stop leaves the state as it was.

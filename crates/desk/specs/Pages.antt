@@ -248,14 +248,14 @@ line_front None = []
 line_front (Some number) = joined (codes "line " ∷ decimal number ∷ codes ": " ∷ [])
 
 -- a text after a prefix, if it isn't empty
-abbrev pub behind_front : Text → Text → Text
-behind_front front [] = []
-behind_front front (byte ∷ bytes) = front ++ (byte ∷ bytes)
+abbrev pub after_prefix : Text → Text → Text
+after_prefix front [] = []
+after_prefix front (byte ∷ bytes) = front ++ (byte ∷ bytes)
 
 -- a page; if it is that of a script's line, its number precedes what goes to the error output
 abbrev pub fronted : Option ℕ → Page → Page
 fronted None page = page
-fronted (Some number) page = record { out = page.out; err = behind_front (line_front (Some number)) page.err; status = page.status }
+fronted (Some number) page = record { out = page.out; err = after_prefix (line_front (Some number)) page.err; status = page.status }
 
 -- why a text isn't a script
 abbrev pub script_page : ScriptFault → Page
@@ -269,12 +269,12 @@ abbrev pub goes_on : Bool → ℕ → Bool
 goes_on keep status = status == 0 || (keep && status == 1)
 
 -- the status after one more page: the last one other than 0
-abbrev pub status_behind : ℕ → ℕ → ℕ
-status_behind before status = if status == 0 then before else status
+abbrev pub combined_status : ℕ → ℕ → ℕ
+combined_status before status = if status == 0 then before else status
 
 -- a page after another one
 abbrev pub below : Page → Page → Page
-below above page = record { out = above.out ++ page.out; err = above.err ++ page.err; status = status_behind above.status page.status }
+below above page = record { out = above.out ++ page.out; err = above.err ++ page.err; status = combined_status above.status page.status }
 
 -- ---- a text that is written to one output
 

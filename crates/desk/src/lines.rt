@@ -132,7 +132,7 @@ fn tell_text<O: Sink, E: Sink>(pieces: &[&str], out: &mut O, err: &mut E) -> u8
 }
 
 /// Writes the prefix for a script's line, `line 3: `; nothing if it isn't about one.
-fn put_front<W: Sink>(line: Option<usize>, sink: &mut W) -> Result<(), Broken>
+fn put_line_prefix<W: Sink>(line: Option<usize>, sink: &mut W) -> Result<(), Broken>
     requires { W.failed sink.old < 2 ^ 64 - 1 }
     ensures { IsPut W.taken W.failed sink.old sink.new (line_front line) result }
 {
@@ -147,7 +147,7 @@ fn put_line<W: Sink>(line: Option<usize>, pieces: &[&str], sink: &mut W) -> Resu
     requires { W.failed sink.old < 2 ^ 64 - 1 }
     ensures { IsPut W.taken W.failed sink.old sink.new (line_front line ++ flat_map (λ piece. piece.now) pieces.now) result }
 {
-    put_front(line, sink)?;
+    put_line_prefix(line, sink)?;
     put_pieces(pieces, sink)
 }
 
@@ -210,7 +210,7 @@ fn batch_of(flaw: Flaw, digits: &mut Buffer) -> &str
 }
 
 /// Returns the text between the batch and the clerk that a flaw names.
-fn between_of(flaw: Flaw) -> &'static str
+fn text_before_clerk(flaw: Flaw) -> &'static str
     ensures { result.now ≡ flaw_between flaw }
 {
     match flaw {
@@ -244,7 +244,7 @@ fn tell_file_fault<E: Sink>(line: Option<usize>, fault: FileFault, err: &mut E) 
         ": ",
         fault.flaw.words(),
         batch_of(fault.flaw, &mut batch),
-        between_of(fault.flaw),
+        text_before_clerk(fault.flaw),
         clerk_of(fault.flaw, &mut clerk),
         "\n",
     ];

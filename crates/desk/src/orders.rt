@@ -90,11 +90,11 @@ pub enum Errand<'a> {
         id: &'a str,
     },
     /// Print the status of a ward.
-    TellStatus {
+    PrintStatus {
         ward: u32,
     },
     /// Print what comes next in a ward.
-    TellNext {
+    PrintNext {
         ward: u32,
     },
     /// Print a text of a ward.

@@ -209,6 +209,54 @@ fn made(form: Result<LineOutcome, AllocError>) -> LineOutcome
     }
 }
 
+/// Returns the covers of a ward's batches, or why there are none.
+fn covers_asked<S: Alter>(alloc: Global, office: &mut Office<S>, ward: u32) -> LineOutcome
+    ensures found { WhenOpenAt (state S.Store) office.old office.new
+        (λ s. IsAskedOf s (Question.Form Form.Covers ward) (page_of result) office.new.closed (state S.Store office.old.held) (state S.Store office.new.held)) }
+    ensures same { OnlyReads (state S.Store office.old.held) (state S.Store office.new.held) }
+{
+    match office.batches(ward) {
+        Ok(found) => made(covers_form(alloc, &found)),
+        Err(stop) => stopped(stop),
+    }
+}
+
+/// Returns the form for the adjudication of a ward, or why there is none.
+fn adjudication_asked<S: Alter>(alloc: Global, office: &mut Office<S>, ward: u32) -> LineOutcome
+    ensures found { WhenOpenAt (state S.Store) office.old office.new
+        (λ s. IsAskedOf s (Question.Form Form.Adjudication ward) (page_of result) office.new.closed (state S.Store office.old.held) (state S.Store office.new.held)) }
+    ensures same { OnlyReads (state S.Store office.old.held) (state S.Store office.new.held) }
+{
+    match office.doubtful(ward) {
+        Ok(found) => made(adjudication_form(alloc, ward, &found)),
+        Err(stop) => stopped(stop),
+    }
+}
+
+/// Returns the form for the lot that is due in a ward, or why there is none.
+fn lot_asked<S: Alter>(alloc: Global, office: &mut Office<S>, ward: u32) -> LineOutcome
+    ensures found { WhenOpenAt (state S.Store) office.old office.new
+        (λ s. IsAskedOf s (Question.Form Form.Lots ward) (page_of result) office.new.closed (state S.Store office.old.held) (state S.Store office.new.held)) }
+    ensures same { OnlyReads (state S.Store office.old.held) (state S.Store office.new.held) }
+{
+    match office.next_step(ward) {
+        Ok(found) => made(lots_form(alloc, ward, &found)),
+        Err(stop) => stopped(stop),
+    }
+}
+
+/// Returns the declaration of a ward, or why there is none.
+fn declaration_asked<S: Alter>(alloc: Global, office: &mut Office<S>, ward: u32) -> LineOutcome
+    ensures found { WhenOpenAt (state S.Store) office.old office.new
+        (λ s. IsAskedOf s (Question.Form Form.Declaration ward) (page_of result) office.new.closed (state S.Store office.old.held) (state S.Store office.new.held)) }
+    ensures same { OnlyReads (state S.Store office.old.held) (state S.Store office.new.held) }
+{
+    match office.wards() {
+        Ok(found) => made(declaration_form(alloc, ward, &found)),
+        Err(stop) => stopped(stop),
+    }
+}
+
 /// Returns a form of a ward, or why there is none.
 pub(crate) fn form_of<S: Alter>(
     alloc: Global,
@@ -221,21 +269,9 @@ pub(crate) fn form_of<S: Alter>(
     ensures same { OnlyReads (state S.Store office.old.held) (state S.Store office.new.held) }
 {
     match form {
-        Form::Covers => match office.batches(ward) {
-            Ok(found) => made(covers_form(alloc, &found)),
-            Err(stop) => stopped(stop),
-        },
-        Form::Adjudication => match office.doubtful(ward) {
-            Ok(found) => made(adjudication_form(alloc, ward, &found)),
-            Err(stop) => stopped(stop),
-        },
-        Form::Lots => match office.next_step(ward) {
-            Ok(found) => made(lots_form(alloc, ward, &found)),
-            Err(stop) => stopped(stop),
-        },
-        Form::Declaration => match office.wards() {
-            Ok(found) => made(declaration_form(alloc, ward, &found)),
-            Err(stop) => stopped(stop),
-        },
+        Form::Covers => covers_asked(alloc, office, ward),
+        Form::Adjudication => adjudication_asked(alloc, office, ward),
+        Form::Lots => lot_asked(alloc, office, ward),
+        Form::Declaration => declaration_asked(alloc, office, ward),
     }
 }

@@ -28,19 +28,19 @@ changes nothing.";
 
 /// The end of the help: the orders of [`Heading::Office`] and of [`Heading::Everyone`], and the outcomes of orders.
 const END_OF_HELP: &str =
-    "For the office alone. The first seven change nothing, and no clerk is to see what they print:
-  wards              How each ward stands, and what is left to do
-  batches WARD       Who has keyed each batch of a ward, how it stands, and which other
+    "For the office alone. The first seven change nothing, and no clerk may see what they print:
+  wards              The status of each ward, and what is left to do
+  batches WARD       Who has keyed each batch of a ward, its status, and which other
                      batch has the very same papers
   doubtful WARD      Which papers of a ward are doubtful, each open or with its verdict
   differences BATCH  On which papers a batch differs
   papers BATCH       How each paper of a taken batch counts, with the candidates' names
-  receipts [ACTOR]   What was kept, under which id: of an actor, 0 for the office, or of all
-  journal            What was kept, as a script of orders that makes the same office anew
-  replay FILE        Sends the orders of a text file, a line each, up to a refusal
+  receipts [ACTOR]   What was accepted, by id: of an actor, 0 for the office, or of all
+  journal            What was accepted, as a script of orders that makes the same office
+  replay FILE        Sends the orders of a text file, one per line, up to a refusal
   copy NEW           Makes a copy of the office, in a file that isn't there yet
   mend NEW           Makes a new office without some orders, or with others in their place
-  codes FILE CLERKS  Writes a new file of codes for clerks, as 1-40, to be cut into slips
+  codes FILE CLERKS  Writes a new file of codes for clerks, such as 1-40, to cut into slips
   forms FORM SOURCE  A form as a page to print (HTML): covers, adjudication, lots or declaration
                      of a ward, or slips of a file of codes
 
@@ -48,17 +48,17 @@ For everyone who wants to see or check a count, once the ward is sealed:
   ballots WARD       Its ballots, in a form that counting programs read (BLT)
   page WARD          Its result as a page for a browser, to print and sign (HTML)
   table WARD         Its stages as a table for a spreadsheet (CSV)
-  index              How all wards stand, sealed or not, and who is elected, as a page
+  index              The status of all wards, sealed or not, and who is elected, as a page
                      to hang at the door (HTML)
 
-An example stands under each order. Its words, with their ranges, are shown by
+Each order's help ends with an example. Its words, with their ranges, are shown by
   count-office DB ORDER --help
 
 A reply goes to standard output, with status 0. What the office refuses goes to standard
 error, with status 1; words that are not understood with 2, and faults with 3.
 
-docs/ELECTION.md leads through an election, order by order. docs/REFUSALS.md says what each
-refusal and each fault means, and what to do about it.";
+docs/officer/by-words.md leads through an election, order by order.
+docs/officer/when-it-says-no.md says what refusals and faults mean, and what to do.";
 
 /// What is printed for words that aren't understood, if nothing else is.
 const NOT_UNDERSTOOD: &str = "error: the words are not understood\n";

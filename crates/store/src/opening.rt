@@ -69,7 +69,7 @@ fn check_rows(rows: &[Row]) -> Result<(), Fault>
 
 /// Checks that the office table has the row of this version; faults are returned in the order in which opening an
 /// office reports them.
-fn check_office<S: Alter>(conn: &mut Connection<S>) -> Result<(), Fault>
+fn check_office<S: Alter>(alloc: Global, conn: &mut Connection<S>) -> Result<(), Fault>
     requires { conn.old.in_transaction ≡ false }
     ensures holds { HasCleanDisk (state S.Store conn.new) → (db : Database) → BeginsTo Table.Office db.schema → IsDatabase db → RestsAt db (state S.Store conn.old)
         → OnOk result (HasVersion this_version db) }
@@ -83,7 +83,7 @@ fn check_office<S: Alter>(conn: &mut Connection<S>) -> Result<(), Fault>
     ensures reads { OnlyReads (state S.Store conn.old) (state S.Store conn.new) }
     ensures outside { conn.new.in_transaction ≡ false }
 {
-    let rows = keyed_rows(conn, Table::Office)?;
+    let rows = keyed_rows(alloc, conn, Table::Office)?;
     check_rows(&rows)?;
     Ok(())
 }
@@ -176,7 +176,7 @@ pub(crate) fn checked_rows<S: Alter>(alloc: Global, conn: &mut Connection<S>) ->
     if !has_table(conn, Table::Office) {
         return Err(Fault::WrongDatabase);
     }
-    check_office(conn)?;
+    check_office(alloc, conn)?;
     if !has_every_table(conn) {
         return Err(Fault::Damaged);
     }

@@ -110,7 +110,7 @@ pub struct StepPrinted {
 }
 
 impl StepPrinted {
-    pub fn quietly(alloc: Global, out: String) -> StepPrinted {
+    pub fn printed_only(alloc: Global, out: String) -> StepPrinted {
         StepPrinted {
             status: 0,
             out,
@@ -193,7 +193,10 @@ fn list<S: Alter + Drop>(
     };
     let run = office.run(requests);
     let conn = office.into_connection();
-    Ok((StepPrinted::quietly(alloc, answered(alloc, &run)?), conn))
+    Ok((
+        StepPrinted::printed_only(alloc, answered(alloc, &run)?),
+        conn,
+    ))
 }
 
 /// Returns one line per batch of a clerk's work.
@@ -231,7 +234,7 @@ fn work<S: Alter + Drop>(
         }
         Err(ReadError::Fault(_)) => return Err(Fail::from("no work is told")),
     };
-    Ok((StepPrinted::quietly(alloc, text), conn))
+    Ok((StepPrinted::printed_only(alloc, text), conn))
 }
 
 /// The settings for the file that is served: no proxy, no codes, and no copies or journals.
@@ -395,7 +398,7 @@ fn listen<S: Alter + Drop>(
     };
     let conn = office.into_connection();
     let text = format!(in alloc; "{served:?}")?;
-    Ok((StepPrinted::quietly(alloc, text), conn))
+    Ok((StepPrinted::printed_only(alloc, text), conn))
 }
 
 const TABLES: &str = "SELECT name FROM sqlite_schema WHERE type = 'table' ORDER BY name";
@@ -469,11 +472,11 @@ fn done<S: Alter + Drop>(
         Step::Listen(port) => listen(alloc, conn, port),
         Step::Change(statements) => {
             conn.execute_batch(statements)?;
-            Ok((StepPrinted::quietly(alloc, String::new(alloc)), conn))
+            Ok((StepPrinted::printed_only(alloc, String::new(alloc)), conn))
         }
         Step::Contents => {
             let text = contents(alloc, &mut conn)?;
-            Ok((StepPrinted::quietly(alloc, text), conn))
+            Ok((StepPrinted::printed_only(alloc, text), conn))
         }
     }
 }

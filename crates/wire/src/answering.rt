@@ -142,7 +142,7 @@ pub(crate) fn answer<S: Alter>(
 {
     match asked {
         HttpRequest::Denied(why) => Response::denied(alloc, why),
-        HttpRequest::Shown(_, show) => Response::shown(alloc, show),
+        HttpRequest::ClerkPage(_, show) => Response::shown(alloc, show),
         HttpRequest::Keying(keying) => answer_keying(alloc, office, keying),
         HttpRequest::Resource(what) => answer_reading(alloc, office, what),
         HttpRequest::ConsolePage(show) => Response::shown(alloc, show),

@@ -20,7 +20,7 @@ use crate::office_responses::{faulted, refused, valued};
 use crate::public_target::PublicTarget;
 use crate::read_responses::phase_word;
 use crate::response::Response;
-use crate::settings::{Public, Show};
+use crate::settings::{FixedPage, Public};
 use office::{Office, ReadError, WardText};
 use serde_json::{Value, json};
 use sqlite::Alter;
@@ -101,7 +101,7 @@ pub(crate) fn answer_public<S: Alter>(
 {
     match what {
         PublicTarget::Index => answer_printed(alloc, office.index(shown.title)),
-        PublicTarget::Screen => Response::shown(alloc, Show::Page(shown.screen)),
+        PublicTarget::Screen => Response::shown(alloc, FixedPage::Page(shown.screen)),
         PublicTarget::Wards => answer_wards(alloc, shown.title, office.wards()),
         PublicTarget::Page { ward } => {
             answer_printed(alloc, office.text(ward, WardText::Page(shown.title)))

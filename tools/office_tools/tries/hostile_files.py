@@ -38,8 +38,8 @@ OTHERS = (
     "CREATE TRIGGER t AFTER INSERT ON ward BEGIN DELETE FROM candidate; END", "CREATE TABLE child (x INT REFERENCES ward (ward))")
 FAULT_105 = (3, "", "fault 105: wrong database\n")
 STRANGER = 65534
-FOREIGN_LOG = (3, "", "fault 102: store\ntown.db-wal belongs to another account than town.db, and isn't read\n")
-NO_SOCKET = "no socket for orders beside the database: the database belongs to another account\n"
+FOREIGN_LOG = (3, "", "fault 102: store\ntown.db-wal doesn't belong to the owner of town.db, so it isn't read\n")
+NO_SOCKET = "no socket for orders next to the database: the database belongs to another account\n"
 
 
 def changed(path, town, statement):

@@ -1,4 +1,4 @@
--- Why `answer_reading` keeps its promise.
+-- Proof that `answer_reading` meets its contract.
 use Rattle.std.proofs.Common.{ap, sym}
 use Rattle.sqlite.specs.Held.{state}
 use Rattle.std.specs.Prelude.{option_map, string_bytes}

@@ -1,4 +1,4 @@
--- Why `answer_public` keeps its promise.
+-- Proof that `answer_public` meets its contract.
 use Rattle.std.proofs.Common.{◌∙◌, List, ap, map, sym}
 use Rattle.std.specs.Prelude.{string_bytes}
 use Rattle.store.specs.Overviews.{WardView, ward_view}

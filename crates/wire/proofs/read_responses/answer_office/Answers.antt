@@ -1,4 +1,4 @@
--- Why `answer_office` keeps its promise.
+-- Proof that `answer_office` meets its contract.
 use Rattle.std.proofs.Common.{List, ap, map}
 use Rattle.register.specs.Offices.{ReceiptEntry, receipt_entry}
 use Rattle.store.specs.Overviews.{BatchView, DifferencesView, DoubtfulPapersView, PapersView, batch_view, differences_view, doubtful_papers_view, papers_view}

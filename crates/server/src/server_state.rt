@@ -1,4 +1,4 @@
-//! The server's memory.
+//! What the server keeps between requests.
 
 ghost use Rattle.std.specs.Prelude.{◌≡◌, [], IfOk, option_map};
 ghost use Rattle.codes.specs.RateLimits.{limit_entry, none_wrong};
@@ -10,21 +10,22 @@ use codes::RateLimit;
 use std::alloc::{AllocError, Global};
 use wire::{Authentication, Routes};
 
-/// The cache of reads, the limit on wrong codes, and the routes, which are made once.
+/// What the server keeps between requests: the cache of reads, the limit on wrong codes, and the routes, which are made
+/// once.
 #[derive(Drop)]
-pub struct ServerMemory {
+pub struct ServerState {
     pub alloc: Global,
     pub routes: Routes,
     pub reads: ReadCache,
     pub limit: RateLimit,
 }
 
-impl ServerMemory {
+impl ServerState {
     /// Returns an empty cache, a limit without wrong codes, and the routes. The only error is a failed allocation.
-    pub fn new(alloc: Global) -> Result<ServerMemory, AllocError>
+    pub fn new(alloc: Global) -> Result<ServerState, AllocError>
         ensures { IfOk result (λ kept. memory_entry kept ≡ record { reads = []; limit = none_wrong }) }
     {
-        Ok(ServerMemory {
+        Ok(ServerState {
             alloc,
             routes: Routes::new(alloc)?,
             reads: ReadCache::new(alloc),
@@ -43,7 +44,7 @@ impl ServerMemory {
     }
 
     /// Counts a wrong code, if the request has one.
-    pub fn note(&mut self, authentication: Option<Authentication>, now: u64)
+    pub fn count_if_wrong(&mut self, authentication: Option<Authentication>, now: u64)
         ensures reads { reads_in self.new.reads ≡ reads_in self.old.reads }
         ensures limit { limit_entry self.new.limit ≡ limit_after (option_map authentication_entry authentication) now (limit_entry self.old.limit) }
     {

@@ -1,8 +1,8 @@
--- Proof that `turns_in` meets its contract.
+-- Proof that `script_steps` meets its contract.
 use Rattle.std.proofs.Common.{◌∙◌, sym}
 use Rattle.desk.specs.Lexing.{typed_line_entry}
 use Rattle.desk.proofs.ScriptLemmas.{fault_behind, pushed, turns_so}
-use Rattle.desk.proofs.scripts.turns_in.Goals as goal
+use Rattle.desk.proofs.scripts.script_steps.Goals as goal
 
 pub returns-in-Err-clause-err : goal.returns-in-Err-clause-err
 returns-in-Err-clause-err c =

@@ -1,4 +1,4 @@
--- The invariant of the loop in `send_parsed`: the steps so far were done, and their pages printed.
+-- The invariant of the loop in `run_steps`: the steps so far were done, and their pages printed.
 use Rattle.sqlite.specs.State.{HasCleanDisk}
 use Rattle.sqlite.specs.Held.{state}
 use Rattle.store.specs.StateTables.{KeepsConnection}
@@ -6,7 +6,7 @@ use Rattle.office.specs.Answers.{WhenOpenAt}
 use Rattle.desk.specs.Pages.{outputs_of}
 use Rattle.desk.proofs.CourseLemmas.{TakenSo}
 use Rattle.desk.proofs.TellingLemmas.{ToldSo}
-use Rattle.desk.proofs.order_running.send_parsed.Given as goal
+use Rattle.desk.proofs.order_running.run_steps.Given as goal
 
 abbrev pub invariant-loop-turn : goal.invariant-loop-turn
 invariant-loop-turn g l = record {

@@ -1,10 +1,10 @@
--- Why `say` keeps its promise.
+-- Proof that `send_frame` meets its contract.
 use Rattle.std.proofs.Common.{◌∙◌, ◌++◌, ap, arith, refl}
 use Rattle.connections.specs.Streams.{stream_of}
 use Rattle.connections.specs.declared.client.PendingResponse.{PendingResponse}
 use Rattle.order_protocol.specs.Frames.{output_of}
 use Rattle.server.proofs.FrameSinkLemmas.{out_more, out_said}
-use Rattle.server.proofs.frame_sink.say.Goals as goal
+use Rattle.server.proofs.frame_sink.send_frame.Goals as goal
 
 pub returns-in-Ok-clause-goes_out : goal.returns-in-Ok-clause-goes_out
 returns-in-Ok-clause-goes_out g c = λ goes.

@@ -1,13 +1,13 @@
--- Proof that `send_lines` meets its contract.
+-- Proof that `run_script` meets its contract.
 use Rattle.std.proofs.Common.{[], inl, inr, refl}
 use Rattle.desk.specs.Pages.{script_page}
 use Rattle.desk.proofs.PageLemmas.{error_shown}
 use Rattle.desk.proofs.ScriptEnds.{no_output}
-use Rattle.desk.proofs.order_running.send_lines.Goals as goal
+use Rattle.desk.proofs.order_running.run_script.Goals as goal
 
 pub returns-in-Ok-clause-sent : goal.returns-in-Ok-clause-sent
 returns-in-Ok-clause-sent g c =
-    let told = c.send_parsed.ensures.sent in
+    let told = c.run_steps.ensures.sent in
     record {
       page = told.page;
       cut = told.cut;

@@ -1,4 +1,4 @@
--- Proof that `send_parsed` meets its contract.
+-- Proof that `run_steps` meets its contract.
 use Rattle.std.proofs.Common.{◌≡◌, ◌∙◌, ◌<◌, true, false, length, ap, refl, sym, arith}
 use Rattle.sqlite.specs.Held.{state}
 use Rattle.store.proofs.KeepLemmas.{connection_itself, connection_then}
@@ -8,7 +8,7 @@ use Rattle.desk.proofs.CauseLemmas.{since}
 use Rattle.desk.proofs.CourseLemmas.{made, none_taken, nothing_more, turn_last, turn_more, turns_all}
 use Rattle.desk.proofs.PageLemmas.{shown_last, whole_more}
 use Rattle.desk.proofs.TellingLemmas.{nothing_told, shown_goes, shown_stops, shown_whole, stops_by, told_all}
-use Rattle.desk.proofs.order_running.send_parsed.Goals as goal
+use Rattle.desk.proofs.order_running.run_steps.Goals as goal
 
 pub loop-turn-init : goal.loop-turn-init
 loop-turn-init g c = record {
@@ -36,7 +36,7 @@ loop-turn-preserved g c =
       clean = λ clean. c.loop-turn.invariant.clean (c.run-status.ensures.clean clean);
       so_far = record {
         said = below so_far.said told.page;
-        shown = rw c.status_behind-ends.ensures (whole_more _ _ _ so_far.said told.page c.loop-turn.ends c.run-status.result so_far.shown
+        shown = rw c.combined_status-ends.ensures (whole_more _ _ _ so_far.said told.page c.loop-turn.ends c.run-status.result so_far.shown
             (shown_whole keep told.cut _ _ told.page c.run-status.result told.shown goes));
         is = λ clean is_open s at.
             let so = so_far.is (c.run-status.ensures.clean clean) is_open s at in
