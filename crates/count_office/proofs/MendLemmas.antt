@@ -25,7 +25,7 @@ mend_told s m page left new_old new_new (inl (changes, asked, tried)) = inl (cha
   where
     by : IsMade (ward_lines s) changes page left new_old new_new ⊎ IsUnmade changes page
         → (CanBeMade changes × IsMended changes (mended changes) × (page ≡ printed (mended_text (ward_lines s) (mended changes)))) ⊎ IsUnmade changes page
-    by (inl made) = inl (made.can, made.list, made.page)
+    by (inl made) = inl (made.can, made.list, made.told)
     by (inr unmade) = inr unmade
 mend_told s m page left new_old new_new (inr other) = inr other.0
 

@@ -69,8 +69,8 @@ unsent_text = codes "not mended: each --with is an order that is sent, as a line
 pub record IsMade (before : List Text) (changes : Changes) (page : Page) (left : CopyState) (new_old new_new : State) : Type 0 where
   pub can : CanBeMade changes
   pub list : IsMended changes (mended changes)
-  pub page : page ≡ printed (mended_text before (mended changes))
-  pub left : left ≡ Whole
+  pub told : page ≡ printed (mended_text before (mended changes))
+  pub whole : left ≡ Whole
   pub at : HasCleanDisk new_new → IsBlank new_old → IsAt (mended changes).state new_new
 
 -- no new office was made, since the changes can't be; or the page has a failure

@@ -148,7 +148,7 @@ fn wards_of<S: Alter>(alloc: Global, office: &mut Office<S>) -> Result<Vec<Strin
 
 /// Returns the orders of an open office, which stays open, and the line on each of its wards; or why there are none. The orders are
 /// replayed in the empty database of a connection, which is returned.
-fn journalled<S: Alter, T: Alter>(
+fn orders_and_wards<S: Alter, T: Alter>(
     alloc: Global,
     office: &mut Office<S>,
     blank: Connection<T>,
@@ -304,7 +304,7 @@ fn copied<T: Alter, N: Alter>(
     before: &[String],
     new: &mut Connection<N>,
 ) -> (LineOutcome, CopyState)
-    requires { CanBeMade changes.entry }
+    requires { CanBeMade changes }
     ensures made { HasCleanDisk (state T.Store made.new.office.held) → made.old.office.closed ≡ false → IsAt empty_office (state T.Store made.old.office.held)
         → IsTried (map string_bytes before.now) changes.entry (page_of result.0) result.1 (state N.Store new.old) (state N.Store new.new) }
     ensures whole { HasCleanDisk (state N.Store new.new) → IsBlank (state N.Store new.old)
@@ -331,7 +331,7 @@ fn made<T: Alter, N: Alter>(
     before: &[String],
     new: &mut Connection<N>,
 ) -> (LineOutcome, CopyState, Connection<T>)
-    requires { CanBeMade changes.entry }
+    requires { CanBeMade changes }
     ensures made { HasCleanDisk (state T.Store result.2) → IsBlank (state T.Store blank)
         → IsTried (map string_bytes before.now) changes.entry (page_of result.0) result.1 (state N.Store new.old) (state N.Store new.new) }
     ensures whole { HasCleanDisk (state N.Store new.new) → IsBlank (state N.Store new.old)
@@ -406,7 +406,7 @@ fn mended_open<S: Alter, T: Alter, N: Alter>(
         journal: blank,
         mended: second,
     } = trial;
-    let (found, journal) = journalled(alloc, office, blank);
+    let (found, journal) = orders_and_wards(alloc, office, blank);
     let found = match found {
         Ok(found) => found,
         Err(outcome) => {
