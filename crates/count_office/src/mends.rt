@@ -37,7 +37,7 @@ fn trial_in_memory(alloc: Global) -> Result<MendTrial<MemStore>, AllocError>
 /// Makes a new office from the journal of an open one, which stays open, in files that were made for it, and closes them.
 fn fill_mended<S: Alter, D: Disk + Drop, O: Sink, E: Sink>(
     rt: &HostRuntime,
-    fresh: &NewFile,
+    new_file: &NewFile,
     office: &mut Office<S>,
     asked: &MendOrder<'_>,
     mut made: Connection<FileStore<D>>,
@@ -51,13 +51,13 @@ fn fill_mended<S: Alter, D: Disk + Drop, O: Sink, E: Sink>(
     ensures stays { WhenOpenAt (state S.Store) office.old office.new (λ s. IsReadAt s office.new.closed (state S.Store office.new.held)) }
     ensures reads { OnlyReads (state S.Store office.old.held) (state S.Store office.new.held) }
 {
-    if let Some(failure) = why_not_begun(rt, fresh) {
+    if let Some(failure) = why_not_begun(rt, new_file) {
         return tell_failure(failure, err);
     }
     let trial = match trial_in_memory(rt.alloc()) {
         Ok(trial) => trial,
         Err(AllocError) => {
-            fresh.clear(rt);
+            new_file.clear(rt);
             return tell_failure(Failure::Office(Fault::Memory), err);
         }
     };
@@ -66,7 +66,7 @@ fn fill_mended<S: Alter, D: Disk + Drop, O: Sink, E: Sink>(
         journal: _,
         mended: _,
     } = tried;
-    finish(rt, fresh, made, status, state, err)
+    finish(rt, new_file, made, status, state, err)
 }
 
 /// Makes a new office from the journal of an open one, at a path where nothing exists yet. The open one stays open, and is only read.
@@ -85,15 +85,15 @@ pub fn mend_served<S: Alter, O: Sink, E: Sink>(
     ensures stays { WhenOpenAt (state S.Store) office.old office.new (λ s. IsReadAt s office.new.closed (state S.Store office.new.held)) }
     ensures reads { OnlyReads (state S.Store office.old.held) (state S.Store office.new.held) }
 {
-    let fresh = match NewFile::make(rt, path) {
-        Ok(fresh) => fresh,
+    let new_file = match NewFile::make(rt, path) {
+        Ok(new_file) => new_file,
         Err(failure) => return tell_failure(failure, err),
     };
     match Connection::open_from(rt, path, false, Wary) {
-        Ok(made) => fill_mended(rt, &fresh, office, asked, made, out, err),
+        Ok(made) => fill_mended(rt, &new_file, office, asked, made, out, err),
         Err((error, left)) => {
             if !is_busy(&error) {
-                fresh.clear(rt);
+                new_file.clear(rt);
             }
             drop(left);
             tell_failure(failure_of(error), err)

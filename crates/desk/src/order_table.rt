@@ -520,12 +520,18 @@ fn form_of_ward<'a>(
     ward: Option<u32>,
     address: Option<Origin<'a>>,
 ) -> Result<Order<'a>, NoOrder>
-    ensures ok { IfOk result (λ o. told o ≡ form_of_ward form ward (option_map origin_text address)) }
-    ensures err { IfErr result (λ why. (why ≡ NoOrder.BadForm) × (form_of_ward form ward (option_map origin_text address) ≡ no_form)) }
+    ensures ok { IfOk result (λ o. told o ≡ form_of_ward form ward (option_map origin_text address.entry)) }
+    ensures err { IfErr result (λ why. (why ≡ NoOrder.BadForm) × (form_of_ward form ward (option_map origin_text address.entry) ≡ no_form)) }
 {
-    match (form, ward, address) {
-        (Some(form), Some(ward), None) => Ok(asking(Question::Form { form, ward })),
-        _ => Err(NoOrder::BadForm),
+    let Some(form) = form else {
+        return Err(NoOrder::BadForm);
+    };
+    let Some(ward) = ward else {
+        return Err(NoOrder::BadForm);
+    };
+    match address {
+        Some(_) => Err(NoOrder::BadForm),
+        None => Ok(asking(Question::Form { form, ward })),
     }
 }
 
@@ -535,8 +541,8 @@ fn form_named<'a>(
     word: &'a str,
     address: Option<Origin<'a>>,
 ) -> Result<Order<'a>, NoOrder>
-    ensures ok { IfOk result (λ o. told o ≡ form_meant name.now word.now (option_map origin_text address)) }
-    ensures err { IfErr result (λ why. (why ≡ NoOrder.BadForm) × (form_meant name.now word.now (option_map origin_text address) ≡ no_form)) }
+    ensures ok { IfOk result (λ o. told o ≡ form_meant name.now word.now (option_map origin_text address.entry)) }
+    ensures err { IfErr result (λ why. (why ≡ NoOrder.BadForm) × (form_meant name.now word.now (option_map origin_text address.entry) ≡ no_form)) }
 {
     if name == "slips" {
         return match address {
