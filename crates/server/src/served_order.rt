@@ -81,10 +81,7 @@ pub fn served_order_by<'w>(alloc: Global, words: &'w [&'w str]) -> ServedOrder<'
         Ok(Order::Journal) => ServedOrder::Journal,
         Ok(Order::Mend(asked)) => ServedOrder::Mend(asked),
         Ok(
-            Order::Perform(Task::Init | Task::Migrate)
-            | Order::Serve { .. }
-            | Order::Codes { .. }
-            | Order::Slips { .. },
+            Order::Perform(Task::Init | Task::Migrate) | Order::Serve { .. } | Order::Codes { .. },
         ) => { ServedOrder::Refused(Failure::BeingServed) }
         Err(fault) => ServedOrder::Misread(fault),
     }

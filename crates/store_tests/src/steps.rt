@@ -160,9 +160,8 @@ fn give<S: Alter + Drop, O: Sink, E: Sink>(
             | Order::Copy { .. }
             | Order::Journal
             | Order::Mend(_)
-            | Order::Codes { .. }
-            | Order::Slips { .. },
-        ) => { (tell_failure(Failure::Output, err), conn) }
+            | Order::Codes { .. },
+        ) => (tell_failure(Failure::Output, err), conn),
         Err(fault) => (tell_words(&fault, out, err), conn),
     }
 }
