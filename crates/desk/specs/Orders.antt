@@ -299,21 +299,16 @@ ward_form_in name =
     if bytes_eq name (codes "lots") then Some form.Lots else (
     if bytes_eq name (codes "declaration") then Some form.Declaration else None)))
 
--- the office prints a form of a ward, to which no address belongs
-abbrev pub form_of_ward : Option Form → Option ℕ → Option Text → Meant
-form_of_ward None ward address = no_form
-form_of_ward (Some form) None address = no_form
-form_of_ward (Some form) (Some ward) None = ask (question.Form form ward)
-form_of_ward (Some form) (Some ward) (Some address) = no_form
+-- the office prints a form of the ward of a number
+abbrev pub form_of_ward : Option Form → Option ℕ → Meant
+form_of_ward None ward = no_form
+form_of_ward (Some form) None = no_form
+form_of_ward (Some form) (Some ward) = ask (question.Form form ward)
 
--- the office prints the slips of the clerks of a file of codes, with an address
-abbrev pub slips_with : Text → Option Text → Meant
-slips_with file None = no_form
-slips_with file (Some address) = print_slips file address
-
--- the form of a name, by the word after it, and an address
+-- the form of a name, by the word after it, and an address: slips of a file of codes have one, and a form of a ward has none
 abbrev pub form_meant : Text → Text → Option Text → Meant
-form_meant name word address = if bytes_eq name (codes "slips") then slips_with word address else form_of_ward (ward_form_in name) (number_in word) address
+form_meant name word None = form_of_ward (ward_form_in name) (number_in word)
+form_meant name word (Some address) = if bytes_eq name (codes "slips") then print_slips word address else no_form
 
 -- the table of orders, in the sequence of an election
 unfoldable pub orders : List OrderEntry

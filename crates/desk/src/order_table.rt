@@ -498,46 +498,45 @@ fn number_of(text: &str) -> Option<u32>
     }
 }
 
-/// Returns the order for a form of a ward. No address belongs to it.
-fn form_of_ward<'a>(
-    form: Option<Form>,
-    ward: Option<u32>,
-    address: Option<Origin<'a>>,
-) -> Result<Order<'a>, NoOrder>
-    ensures ok { IfOk result (λ o. told o ≡ form_of_ward form ward (option_map origin_text address)) }
-    ensures err { IfErr result (λ why. (why ≡ NoOrder.BadForm) × (form_of_ward form ward (option_map origin_text address) ≡ no_form)) }
+/// Returns the order for a form of the ward of a number.
+fn form_of_ward<'a>(form: Option<Form>, ward: Option<u32>) -> Result<Order<'a>, NoOrder>
+    ensures ok { IfOk result (λ o. told o ≡ form_of_ward form ward) }
+    ensures err { IfErr result (λ why. (why ≡ NoOrder.BadForm) × (form_of_ward form ward ≡ no_form)) }
 {
     let Some(form) = form else {
         return Err(NoOrder::BadForm);
     };
-    let Some(ward) = ward else {
-        return Err(NoOrder::BadForm);
-    };
-    match address {
-        Some(_) => Err(NoOrder::BadForm),
-        None => Ok(asking(Question::Form { form, ward })),
+    match ward {
+        Some(ward) => Ok(asking(Question::Form { form, ward })),
+        None => Err(NoOrder::BadForm),
     }
 }
 
-/// Returns the order for a form, by its name, the word after that, and the address, if one is given.
-fn form_named<'a>(
+/// Returns the order for the form of a name without an address, by the word after the name.
+fn form_named<'a>(name: &str, word: &str) -> Result<Order<'a>, NoOrder>
+    ensures ok { IfOk result (λ o. told o ≡ form_meant name.now word.now None) }
+    ensures err { IfErr result (λ why. (why ≡ NoOrder.BadForm) × (form_meant name.now word.now None ≡ no_form)) }
+{
+    form_of_ward(ward_form_in(name), number_of(word))
+}
+
+/// Returns the order for the form of a name with an address, by the word after the name.
+fn form_with_address<'a>(
     name: &str,
     word: &'a str,
-    address: Option<Origin<'a>>,
+    address: Origin<'a>,
 ) -> Result<Order<'a>, NoOrder>
-    ensures ok { IfOk result (λ o. told o ≡ form_meant name.now word.now (option_map origin_text address)) }
-    ensures err { IfErr result (λ why. (why ≡ NoOrder.BadForm) × (form_meant name.now word.now (option_map origin_text address) ≡ no_form)) }
+    ensures ok { IfOk result (λ o. told o ≡ form_meant name.now word.now (Some (origin_text address))) }
+    ensures err { IfErr result (λ why. (why ≡ NoOrder.BadForm) × (form_meant name.now word.now (Some (origin_text address)) ≡ no_form)) }
 {
     if name == "slips" {
-        return match address {
-            Some(address) => Ok(Order::Slips {
-                path: word,
-                address,
-            }),
-            None => Err(NoOrder::BadForm),
-        };
+        Ok(Order::Slips {
+            path: word,
+            address,
+        })
+    } else {
+        Err(NoOrder::BadForm)
     }
-    form_of_ward(ward_form_in(name), number_of(word), address)
 }
 
 fn forms<'a>(matches: &ArgMatches<'a>) -> Result<Order<'a>, NoOrder>
@@ -546,8 +545,18 @@ fn forms<'a>(matches: &ArgMatches<'a>) -> Result<Order<'a>, NoOrder>
     ensures bad_form { result ≡ Err NoOrder.BadForm → meaning_of (codes "forms") (rows_of (found_of matches.now)) ≡ Some no_form }
     ensures err { IfErr result (λ why. (why ≡ NoOrder.BadOrigin) ⊎ (why ≡ NoOrder.BadForm)) }
 {
-    let address = origin_in(matches, ADDRESS)?;
-    form_named(text_in(matches, FORM), text_in(matches, SOURCE), address)
+    let name = text_in(matches, FORM);
+    let word = text_in(matches, SOURCE);
+    match origin_in(matches, ADDRESS)? {
+        Some(address) => {
+            let order = form_with_address(name, word, address)?;
+            Ok(order)
+        }
+        None => {
+            let order = form_named(name, word)?;
+            Ok(order)
+        }
+    }
 }
 
 /// Returns the order of this name, with the values that were matched.
