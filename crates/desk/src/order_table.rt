@@ -526,8 +526,8 @@ fn form_with_address<'a>(
     word: &'a str,
     address: Origin<'a>,
 ) -> Result<Order<'a>, NoOrder>
-    ensures ok { IfOk result (λ o. told o ≡ form_meant name.now word.now (Some (origin_text address))) }
-    ensures err { IfErr result (λ why. (why ≡ NoOrder.BadForm) × (form_meant name.now word.now (Some (origin_text address)) ≡ no_form)) }
+    ensures ok { IfOk result (λ o. told o ≡ form_meant name.now word.now (Some (origin_text address.entry))) }
+    ensures err { IfErr result (λ why. (why ≡ NoOrder.BadForm) × (form_meant name.now word.now (Some (origin_text address.entry)) ≡ no_form)) }
 {
     if name == "slips" {
         Ok(Order::Slips {

@@ -14,7 +14,7 @@ returns-in-Ok-clause-found g c = λ clean is_open s at.
     c.doubtful.new.self.closed (state g.S.Store c.args.office.now.held) (state g.S.Store c.doubtful.new.self.held)
     (c.in-Ok.ensures.reads clean is_open s at) c.adjudication_form.ensures c.made.ensures.ok c.made.ensures.err
 
-pub returns-in-Err-clause-found : goal.returns-clause-found
+pub returns-in-Err-clause-found : goal.returns-in-Err-clause-found
 returns-in-Err-clause-found g c = λ clean is_open s at.
     stop_found doubtful_papers_view (adjudication_form c.args.ward) s (doubtful_answer s c.args.ward) c.in-Err.stop (page_of c.stopped.result)
     c.doubtful.new.self.closed (state g.S.Store c.args.office.now.held) (state g.S.Store c.doubtful.new.self.held)
