@@ -5,7 +5,7 @@ use Rattle.store.specs.Overviews.{batch_view}
 use Rattle.office.specs.Overviews.{batches_answer}
 use Rattle.desk.specs.Forms.{covers_form}
 use Rattle.desk.specs.Pages.{page_of}
-use Rattle.desk.proofs.OverviewLemmas.{made_found, stop_found}
+use Rattle.desk.proofs.OverviewLemmas.{made_found, stop_found_of}
 use Rattle.desk.proofs.ward_forms.covers_asked.Goals as goal
 
 pub returns-in-Ok-clause-found : goal.returns-in-Ok-clause-found
@@ -16,6 +16,6 @@ returns-in-Ok-clause-found g c = λ clean is_open s at.
 
 pub returns-in-Err-clause-found : goal.returns-in-Err-clause-found
 returns-in-Err-clause-found g c = λ clean is_open s at.
-    stop_found (λ v. map batch_view v.items) covers_form s (batches_answer s c.args.ward) c.in-Err.stop (page_of c.stopped.result)
+    stop_found_of c.batches.result (λ v. map batch_view v.items) covers_form s (batches_answer s c.args.ward) c.in-Err.stop (page_of c.stopped.result)
     c.batches.new.self.closed (state g.S.Store c.args.office.now.held) (state g.S.Store c.batches.new.self.held)
     (c.in-Err.ensures.reads clean is_open s at) (c.in-Err.ensures.cause clean is_open s at) c.stopped.ensures
