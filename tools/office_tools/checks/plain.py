@@ -6,7 +6,7 @@ has a share of sentences of more than 30 words that it may have, in a hundred. N
 than 40. Of a page that has too many they are printed.
 
 Each of IDIOMS is printed with its line, in pages and in comments of crates, tools and examples, and with what to write instead. A line
-that may have one is named in ALLOWED, by a part of it.
+that may have one is named in ALLOWED, by a part of it. The words of the three books are counted too, without code in fences and results.
 """
 import re
 
@@ -26,25 +26,27 @@ IDIOMS = {
     r"(?:is|are|was|were|be|been) told(?! apart)|(?:clerk|client|teller)s? (?:is|are|was|were) answered": "the program prints, sends",
     r"lets? go|leaves? the room|has (?:his|its|their) turn": "is closed, is processed",
     r"wanting|want of": "missing, out of memory",
-    r"(?-i:Where)(?= [^.|\n]{3,90}, )|where (?:no|nothing|memory|there)": "if, when",
+    r"(?-i:Where)(?= [^.|\n]{3,90}, )|(?<!path )where (?:no|nothing|memory|there)": "if, when",
     r"behind(?! (?:nginx|(?:a|the) proxy))": "after, follows",
     r"(?:text|file|row|line|name|word|number|page|it|that|which)s? (?:stands?|stood|lies?|lay)": "is, appears, is stored",
-    r"(?:comes?|came) (?:to (?:nothing|the same|this|that)|of (?:it|this|that|an?|the))|what (?:comes|came) (?:of|to)": "results in",
+    r"(?:comes?|came) (?:to (?:nothing|the same|this|that)|of (?:it|this|that))|what (?:comes|came) (?:of|to)": "results in",
     r"(?:go|goes|going|went) on(?! to)": "continues, resumes",
     r"at whatever (?:moment|time)": "at any time",
     r"none states|no clause says": "nothing guarantees, no clause guarantees",
     r"each for (?:him|her|it)self": "independently",
     r"takes? (?:a|the|an|one|two|any|no) (?:file|word|code|path)s?": "accepts, reads",
-    r"gives? (?:the|a|an|no) (?:number|text|word|list|state|row|line|reply|status)s?": "returns",
+    r"gives (?:the|a|an|no) (?:number|text|word|list|state|row|line|reply|status)s?": "returns",
     r"the same again": "the same request, repeated",
     r"a yes|a no": "confirms, rejects",
     r"whoever": "anyone who, the caller",
     r"beside": "next to, along with",
     r"over (?:a|an|the|any|every|each|no) (?:state|store|office)s?": "for, on, at",
 }
-ALLOWED = {}
-# A page of tables that the tools made.
-MADE = "results.md"
+# What the program prints, to the letter; and a visitor as in books on design.
+ALLOWED = {"docs/formats/ballots.md": ("a line behind the ward's name", "the line 0 behind the papers"),
+           "crates/tables/src/walking.rt": ("visitor",), "crates/tables/specs/Walking.antt": ("visitor",)}
+# A page of tables that the tools made, and the books.
+MADE, BOOKS = "results.md", {"officer": ["officer/"], "formats": ["formats/"], "engineering": ["engineering/", "DECISIONS"]}
 PLACES = ("crates/*/src/**/*", "crates/*/specs/**/*", "crates/**/*.edit", "tools/**/*", "examples/*", "release/package/*", "count-office")
 SUFFIXES = (".rt", ".antt", ".edit", ".py", ".sh", ".bash", ".js")
 SPOKEN = re.compile(r'^[ \t]*"""((?s:.*?))"""|^(?:new: )?[ \t]*(?:///|//!|//|--|#)( .*|$)|.+', re.M)
@@ -95,4 +97,8 @@ def main():
     sources = [path for place in PLACES for path in sorted(ROOT.glob(place)) if path.suffix in ("", *SUFFIXES) and path.is_file()]
     named = [line for path in (*pages(), *sources) if path.name != MADE for line in idioms(path)]
     print(*named, sep="\n", end="\n" * bool(named))
+    for book, parts in BOOKS.items():
+        texts = [FENCED.sub("", it.read_text()) for part in parts for it in pages() if f"docs/{part}" in str(it) and it.name != MADE]
+        count = sum(1 for word in " ".join(texts).split() if re.search(r"\w", word))
+        print(f"{book}: {count} words")
     return any(found) or bool(named)

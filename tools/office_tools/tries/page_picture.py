@@ -13,7 +13,7 @@ WIDTH, MARGIN, TITLE = 1120, 17, "Election of 6 May 2027, Harbour Council"
 PAPERS = ["1,2,"] * 4 + ["1,,2"] * 2 + [",1,"] + [",,1"] * 2
 ORDERS = [*ward_orders((12, len(PAPERS), 4, 9)), *(f"key {clerk} 12 1 {' '.join(PAPERS)} --id k1" for clerk in (4, 9)),
           "seal 7 --id s1", *(f"advance 7 --id a{stage}" for stage in (1, 2, 3)), "declare 7 --id d1"]
-# Where the stages end, in pixels from the top.
+# The end of the stages, in pixels from the top.
 END = "Math.ceil([...document.querySelectorAll('table')].at(-1).getBoundingClientRect().bottom)"
 
 
