@@ -26,7 +26,7 @@ IDIOMS = {
     r"(?:is|are|was|were|be|been) told(?! apart)|(?:clerk|client|teller)s? (?:is|are|was|were) answered": "the program prints, sends",
     r"lets? go|leaves? the room|has (?:his|its|their) turn": "is closed, is processed",
     r"wanting|want of": "missing, out of memory",
-    r"(?-i:Where)(?= [^.|\n]{3,90}, )|(?<!path )where (?:no|nothing|memory|there)": "if, when",
+    r"(?-i:Where)(?= [^.|\n]{3,90}, )|(?<!path\s)where (?:no|nothing|memory|there)": "if, when",
     r"behind(?! (?:nginx|(?:a|the) proxy))": "after, follows",
     r"(?:text|file|row|line|name|word|number|page|it|that|which)s? (?:stands?|stood|lies?|lay)": "is, appears, is stored",
     r"(?:comes?|came) (?:to (?:nothing|the same|this|that)|of (?:it|this|that))|what (?:comes|came) (?:of|to)": "results in",
