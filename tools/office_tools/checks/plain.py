@@ -42,7 +42,7 @@ IDIOMS = {
     r"beside": "next to, along with",
     r"over (?:a|an|the|any|every|each|no) (?:state|store|office)s?": "for, on, at",
 }
-# What the program prints, to the letter; and a visitor as in books on design.
+# What the program prints, to the letter; and a term of design.
 ALLOWED = {"docs/formats/ballots.md": ("a line behind the ward's name", "the line 0 behind the papers"),
            "crates/tables/src/walking.rt": ("visitor",), "crates/tables/specs/Walking.antt": ("visitor",)}
 # A page of tables that the tools made, and the books.
