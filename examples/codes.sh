@@ -1,5 +1,5 @@
 #!/usr/bin/env bash
-# Plays clerks' codes, and the office's: a new file of them, files that aren't taken, and who is let in over HTTP, beside wrong codes
+# Plays clerks' codes, and the office's: a new file of them, files that aren't taken, and who is let in over HTTP, along with wrong codes
 # too; and orders of the officer's console.
 # shellcheck source=examples/play.bash
 source "$(dirname "$(readlink -f "${BASH_SOURCE[0]}")")/play.bash"

@@ -8,7 +8,7 @@ port=$((20000 + RANDOM % 20000))
 title="Election of 6 May 2027"
 server=
 
-# Whoever serves ends with the example.
+# A program that serves ends with the example.
 stop() {
     if [[ -n $server ]]; then
         kill -KILL "$server" 2>/dev/null || true

@@ -43,7 +43,7 @@ def in_script(order):
 
 
 def unlike(place, found, wanted):
-    """Yields the names that stand in one of two lists alone, and whether one stands twice."""
+    """Yields the names that are in only one of two lists, and whether one is there twice."""
     yield from (f"{place}: {name} {'is no order there' if name in found else 'is missing'}" for name in sorted(set(found) ^ set(wanted)))
     if len(set(found)) < len(found):
         yield f"{place}: an order stands twice"

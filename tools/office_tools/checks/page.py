@@ -22,7 +22,7 @@ HASHED = re.compile(r"let (\w+) = hash_source\(alloc, (\w+)\.as_bytes\(\)\)")
 PIECE = re.compile(r'codes "([^"]*)"|([A-Z]+)\.now|hash_source (\w+)|\b(?:its_)?(script|style)\b')
 PAGES = KEYING, CONSOLE, SCREEN = "keying_page", "console_page", "screen_page"
 PARTS, CLERK = ("script", "style"), 4
-# Where a program serves a page, and to whom: the last one to anyone.
+# The address at which a program serves each page, and to whom: the last one to anyone.
 SERVED = {KEYING: (f"/clerks/{CLERK}/", CLERK, CODES[CLERK]), CONSOLE: ("/office/", "office", OFFICE_CODE), SCREEN: ("/screen", "", "")}
 FORBIDDEN = {
     "a text from elsewhere": r"""(?i)\b(src|href)\s*=(?!\s*["']?data:,)|@import|\burl\(|https?://""",

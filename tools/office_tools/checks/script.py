@@ -1,7 +1,7 @@
 """Runs the scripts of the pages for clerks and for the hall, without a browser, and checks what they show, send and store.
 
 A clerk is denied, lists batches, keys papers and sends them, and the office accepts the keying, refuses it, fails or doesn't answer. The
-screen in the hall shows wards from their nominations to their declarations, over an office that changes, and that may be down. Then
+screen in the hall shows wards from their nominations to their declarations, of an office that changes, and that may be down. Then
 faults are planted in each page, one at a time: its test has to notice each. It needs `node` and Debian's `node-jsdom`. FILE is a page for
 clerks as a program serves it; without one it is the page of crates/keying_page. The script of the officer's console is only parsed:
 `tools/try console-evening` runs it.

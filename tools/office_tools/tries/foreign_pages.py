@@ -26,7 +26,7 @@ def is_of_office(text):
 
 
 class Tried:
-    """An office with a batch for each try, and the table of what came of them."""
+    """An office with a batch for each try, and the table of their outcomes."""
 
     def __init__(self, folder, browser, codes):
         self.browser, self.office, self.port, self.wrong = browser, Office(folder), free_port(), 0
