@@ -99,7 +99,7 @@ HasAsciiText route = list_all is_ascii route.text ≡ true
 
 pub office_routes-ascii : AllRoutes HasAsciiText office_routes
 unfolding matchit_on_literals
-office_routes-ascii = (refl, (refl, (refl, (refl, (refl, (refl, (refl, tt)))))))
+office_routes-ascii = (refl, (refl, (refl, (refl, (refl, (refl, (refl, (refl, tt))))))))
 
 -- what the parameters of the route found took
 pub taken-text : (target : List ℕ) (route : RouteOf RouteTarget) → IsAscii target → first office_routes target ≡ Some route → AllText (walk route.pattern route.text target route.names 0 0)
