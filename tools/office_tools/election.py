@@ -21,6 +21,11 @@ def ward_orders(*batches, candidates=("Ann", "Bob", "Cy"), seats=2, ward=7, name
     return [f"ward {ward} {seats} {shlex.quote(name)} --id w{ward}", *nominated, f"close {ward} --id n{ward}", *given_out]
 
 
+def keyed(batch, papers, clerks=(4, 9)):
+    """Returns the orders by which clerks key the same papers in a batch's first round."""
+    return [f"key {clerk} {batch} 1 {' '.join(papers)} --id k{batch}" for clerk in clerks]
+
+
 def keying(papers, columns):
     """Returns the lines of a keying's import file. The marks of a doubtful paper are D."""
     records = [f"{number},{'D' + ',' * (len(columns) - 1) if marks == 'D' else marks}" for number, marks in enumerate(papers, 1)]
@@ -131,10 +136,13 @@ def execute(path, *statements):
             base.execute(statement)
 
 
+TITLE = "Election of 6 May 2027, Harbour Council"
 CODES = {4: "kf7m-2wxt-h4dn", 9: "w3hd-4psn-7kfr"}
 OFFICE_CODE = "kf7m-2wxt-h4dn-p3cs"
 SMALL = ["Ann", "Bob", "Cy", "Dee", "Maximiliane Oberhuber-Featherstonehaugh of the Old Harbour Road"]
 LARGE = [*(f"Candidate {c}" for c in range(1, 29)), "<img src=x onerror=document.title='marked'>", "\u202eesrever\u2066 in"]
+# Names that look like markup, change the direction of writing, or are as long as they may be.
+HOSTILE = [*LARGE[-2:], "A" * 120, "\u05d0" * 60, "Maximiliane " * 9 + "Oberhuber-F.", "=1+1", "\u0627\u062d\u0645\u062f, 2 Bob", "\u0085x"]
 
 
 def evening_office(folder, codes=None):

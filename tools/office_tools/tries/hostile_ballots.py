@@ -22,7 +22,7 @@ import re
 import subprocess
 
 from office_tools.damage import damaged
-from office_tools.office import SECONDS, Wrong, program, temporary_folder, timed
+from office_tools.office import Wrong, checker, temporary_folder, timed
 from office_tools.tables import Table
 from office_tools.tries.recount import STEERS, Ballots, Count, Unreadable, written
 
@@ -132,12 +132,10 @@ def checked(folder, what, ballots, text, right, pattern):
     """Has the checker compare a text with ballots. Returns its status, which must be a right one, as what it prints must match."""
     for name, content in (("ballots", ballots), ("text", text)):
         (folder / name).write_bytes(content)
-    words = [program("CHECK_COUNT"), "ballots", "text"]
-    ended = subprocess.run(words, cwd=folder, capture_output=True, stdin=subprocess.DEVNULL, timeout=SECONDS, check=False)
-    told = ended.stdout + ended.stderr
-    if ended.returncode not in right or not re.match(pattern, told) or STEERS.search(told.decode("utf-8", "replace")):
-        raise Wrong(f"{what}: status {ended.returncode}, {told[:200]!r} of {ballots[:2000]!r} and {text[:2000]!r}")
-    return ended.returncode
+    status, out, err = checker("ballots", "text", cwd=folder, stdin=subprocess.DEVNULL)
+    if status not in right or not re.match(pattern, out + err) or STEERS.search((out + err).decode("utf-8", "replace")):
+        raise Wrong(f"{what}: status {status}, {(out + err)[:200]!r} of {ballots[:2000]!r} and {text[:2000]!r}")
+    return status
 
 
 def as_recounted(lines, chance):

@@ -9,12 +9,12 @@
   file is gone: it prints fault 113 on standard error, and accepts nothing more; a keying gets 503 with that fault, and an order that is
   handed over prints it.
 - *No room.* An order that makes a file finds no room for an office in it, and removes it again. By `strace` it stops after one of its calls
-  on the file, and another order at that file after one of its own, both drawn at random. The first then finishes, and the second after
-  it. If the second was answered, the file at that name holds what it printed. If it wasn't, nothing is left, not even a log, and an
-  `init` makes an office.
+  on the file, drawn at random, and another order comes to that file. Then the first finishes. If the second was answered, the file at
+  that name holds what it printed. If it wasn't, nothing is left, not even a log, and an `init` makes an office.
 - *Rights.* By `strace`: DB, its log, a copy and the socket are made for their owner alone, and are their owner's alone then.
 """
 import contextlib
+import itertools
 import os
 import random
 import re
@@ -23,7 +23,7 @@ import signal
 import time
 
 from office_tools.election import COPY, COPYING, ELECTION, FILE, REPLAY, REQUESTS, SCRIPTED, Order, offices
-from office_tools.office import LOG, NO_OFFICE, SECONDS, STORE, TOWN, Office, Wrong, ended, needs, remove, temporary_folder, timed, waited
+from office_tools.office import LOG, NO_OFFICE, STORE, TOWN, Office, Wrong, ended, needs, remove, temporary_folder, timed, waited
 from office_tools.tables import Table
 from office_tools.trials import CALL, NOT_WRITTEN, left, strace
 
@@ -196,47 +196,8 @@ def print_taken(taking, runs):
         table.row(what, times, *map(found.count, ("answered", *FAULTS)))
 
 
-# An order that doesn't come so far within so many seconds waits for another. It tries again, so it stops within its first calls alone.
-STUCK, FIRST_CALLS = 0.4, 24
-NO_ROOM = ["prlimit", "--fsize=40960"]
-
-
-class Stopping:
-    """An order that stops after one of its calls on a file and its log, drawn at random."""
-
-    def __init__(self, folder, name, order, under=()):
-        self.folder, self.names, self.order, self.under = folder, (name, name + "-wal"), order, under
-        self.trace = folder / f"trace-{len(under)}"
-
-    def start(self, here, *changes):
-        words = [*strace(self.trace, here.folder, self.names, *changes), *self.under]
-        return self.order.started(here, under=words, restore_signals=False)
-
-    def calls(self, office):
-        """Returns its calls, if it is alone."""
-        ended(self.start(office.copied(self.folder / "alone")))
-        return CALL.findall(self.trace.read_text(errors="replace"))
-
-    def begin(self, here, calls, number, seconds=SECONDS):
-        """Begins it, and returns whether it stops within these seconds after a call of this number."""
-        remove(self.trace)
-        self.goes_on, place = False, calls[:number + 1].count(calls[number])
-        self.process = self.start(here, f"{calls[number]}:signal=STOP:when={place}")
-        return waited(lambda: self.is_stopped() or self.process.poll() is not None, seconds) and self.is_stopped()
-
-    def is_stopped(self):
-        return self.trace.exists() and "--- stopped by SIGSTOP ---" in self.trace.read_text(errors="replace")
-
-    def is_ended(self):
-        """Lets it go on once it has stopped, and returns whether it ended."""
-        if self.is_stopped() and not self.goes_on:
-            self.process.send_signal(signal.SIGCONT)
-            self.goes_on = True
-        return self.process.poll() is not None
-
-    def end(self, seconds=SECONDS):
-        """Lets it go on, and returns what it prints; None if it doesn't end within these seconds."""
-        return ended(self.process) if waited(self.is_ended, seconds) else None
+# How long another order may wait for the one that stopped, which then goes on.
+STUCK, NO_ROOM = 0.4, ["prlimit", "--fsize=40960"]
 
 
 def check_made(here, name, printed, before):
@@ -253,28 +214,38 @@ def check_made(here, name, printed, before):
 
 def print_gaps(folder, before, runs, chance):
     """Prints the table of orders that find no room for the file that they make, and of others that come to it meanwhile."""
-    heads = ("another at that file", "runs", "both stopped", "answered", "fault 102", "fault 105")
-    table, stops = Table("An order that finds no room for its file", *heads), 0
-    for what, number, first, name in (("`init`", 0, INIT, TOWN), ("a copy", KEYINGS, Order(["copy", COPY]), COPY)):
-        for other in (INIT, QUAY):
-            office, found, both = before[number], [], 0
-            making, coming = Stopping(folder, name, first, NO_ROOM), Stopping(folder, name, Order(other.words, town=name))
-            of_making, of_coming = making.calls(office), Stopping(folder, TOWN, other).calls(before[KEYINGS if other is QUAY else 0])
-            for _ in range(runs):
-                here = office.copied(folder / "gap")
-                is_stopped = making.begin(here, of_making, chance.randrange(len(of_making)))
-                both += coming.begin(here, of_coming, chance.randrange(min(FIRST_CALLS, len(of_coming))), STUCK) and is_stopped
-                made = making.end(STUCK)
-                printed = coming.end()
-                made = made or making.end()
-                if not made or not printed or made.status != 3:
-                    raise Wrong(f"{first.words} without room: {made}; another order: {printed}")
-                check_made(here, name, printed, office)
-                found.append(kind(printed))
-            stops += both
-            table.row(what, "`init`" if other is INIT else "a ward", runs, both, *map(found.count, ("answered", "102", "105")))
-    if not stops:
-        raise Wrong("no two orders stopped")
+    table = Table("An order that finds no room for its file", "another at that file", "runs", "stopped", "answered", "fault 102", "fault 105")
+    trace = folder / "gap-trace"
+
+    def start(order, here, name, *changes):
+        words = [*strace(trace, here.folder, (name, name + "-wal"), *changes), *NO_ROOM]
+        return order.started(here, under=words, restore_signals=False)
+
+    def is_stopped():
+        return trace.exists() and "--- stopped by SIGSTOP ---" in trace.read_text(errors="replace")
+
+    for (what, office, first, name), other in itertools.product((
+            ("`init`", before[0], INIT, TOWN), ("a copy", before[KEYINGS], COPYING, COPY)), (INIT, QUAY)):
+        found, stops = [], 0
+        ended(start(first, office.copied(folder / "gap"), name))
+        calls = CALL.findall(trace.read_text(errors="replace"))
+        for place in chance.choices(range(len(calls)), k=runs):
+            here = office.copied(folder / "gap")
+            remove(trace)
+            making = start(first, here, name, f"{calls[place]}:signal=STOP:when={calls[:place + 1].count(calls[place])}")
+            waited(lambda: is_stopped() or making.poll() is not None)
+            stops += is_stopped()
+            coming = Order(other.words, town=name).started(here)
+            waited(lambda: coming.poll() is not None, STUCK)
+            making.send_signal(signal.SIGCONT)
+            made, printed = ended(making), ended(coming)
+            if made.status != 3:
+                raise Wrong(f"{first.words} without room: {made}; another order: {printed}")
+            check_made(here, name, printed, office)
+            found.append(kind(printed))
+        table.row(what, "`init`" if other is INIT else "a ward", runs, stops, *map(found.count, ("answered", "102", "105")))
+        if runs and not stops:
+            raise Wrong(f"{what} never stopped")
 
 
 # A file that is made, and the rights that it is made with.
