@@ -101,7 +101,7 @@ class Evening:
             if self.chosen(0.25):
                 yield self.order("withdraw", ward, number)
             yield self.order("candidate", ward, number, name=chance.choice(NAMES))
-        for _ in range(min(chance.choice((0, 0, 0, 1, 2)), len(numbers))):
+        for _ in range(min(chance.choice((0, 0, 0, 1, 2)), len(numbers) - 1)):
             yield self.order("withdraw", ward, numbers.pop())
         if self.chosen(0.9):
             yield self.order("close", ward)
