@@ -1,8 +1,6 @@
 """Small elections: one, order by order, for tools that make its orders fail; one ward, as others begin it; and an evening with codes."""
-import contextlib
 import os
 import shlex
-import sqlite3
 from dataclasses import dataclass
 
 from office_tools.office import NO_OFFICE, SCRIPT, TOWN, Office, ended
@@ -127,13 +125,6 @@ def earlier_office(folder):
     office = Office(folder)
     older_office.main(office.folder / TOWN)
     return office
-
-
-def execute(path, *statements):
-    """Executes statements on a database."""
-    with contextlib.closing(sqlite3.connect(path)) as base, base:
-        for statement in statements:
-            base.execute(statement)
 
 
 TITLE = "Election of 6 May 2027, Harbour Council"

@@ -21,7 +21,7 @@ from office_tools.trials import side_by_side
 
 SECONDS = 120
 PHASES = ("nominations", "keying", "sealed", "declared")
-REFUSED = re.compile(r"line (\d+): refused (\d+): (.*)\n")
+REFUSED = re.compile(r"line (\d+): (?:file fault|refused) (\d+)(?: at record \d+)?: (.*)\n")
 CLERKS = (1, 4, 5, 9, 17, 998, 999)
 NAMES = (
     "Ann", "Bob", "Old Harbour", "O'Neill", 'the "Red" one', '"', "'", "''", '""', "\"'\"'", "-Harbour", "-", "--", "--id", "--id=x",
