@@ -1,19 +1,16 @@
 """Asks an office with codes for what is a clerk's, mostly without the code, and prints its answers.
 
 First 6,000 wrong codes come as fast as possible, under the numbers of all forty tellers in turn. The next one gets 429, also under a number
-that the file has no line for, and all tellers are let in. When the minute is over, a wrong code gets 401 again. Then come 2,000 requests
-with the right code, in each of which bytes are changed, left out or doubled: only those that still have that clerk's whole code get
-something of the office. At last a thousand requests without a code come, with bodies of 200,000 bytes: each is read whole, and gets 401.
-It takes somewhat more than a minute. What each kind of wrong code gets, examples/codes.sh shows.
+that the file has no line for, and all tellers are let in. When the minute is over, a wrong code gets 401 again. At last a thousand requests
+without a code come, with bodies of 200,000 bytes: each is read whole, and gets 401. It takes somewhat more than a minute. What each kind
+of wrong code gets, examples/codes.sh shows.
 """
 import functools
 import random
-import re
 import time
 from collections import Counter
 from concurrent.futures import ThreadPoolExecutor
 
-from office_tools.damage import damaged
 from office_tools.election import CODES, evening_office
 from office_tools.office import Wrong, temporary_folder
 from office_tools.web import basic, received, request, status
@@ -21,7 +18,6 @@ from office_tools.web import basic, received, request, status
 MOST, MINUTE, SENDERS, DENIED, BODY = 6000, 60, 4, 1000, 200_000
 # The letters of codes, but for the x of wrong ones; the tellers, and a number that no line of the file has.
 LETTERS, TELLERS, NOBODY = "abcdefghjkmnprstuwy2347", range(1, 41), 999
-SIGNS = [b"%c" % sign for sign in b"0123456789/ =\r\n"]
 
 
 def with_code(clerk, code):
@@ -58,21 +54,6 @@ def check_limit(told, codes):
         raise Wrong("the limit should have lasted for a minute from the first wrong code on")
 
 
-def check_changed(told, codes, chance):
-    """Changes bytes of requests with the right code: those that get something have the whole code."""
-    said = Counter()
-    for clerk in chance.choices(TELLERS, k=2000):
-        target = f"/clerks/{clerk}/{chance.choice(['', 'work', 'leave', 'batches/12/candidates'])}"
-        sends = damaged(chance, request(target, f"Authorization: {basic(clerk, codes[clerk])}"), 3, signs=SIGNS)
-        text = told(sends)
-        said[status(text)] += 1
-        found = re.match(rb"\s*[A-Z]+ /clerks/(\d+)/", sends)
-        has_code = found and basic(int(found[1]), codes.get(int(found[1]), "")).encode() in sends
-        if status(text) in (200, 409) and not has_code:
-            raise Wrong(f"{sends} gets {text[:200]}")
-    print(f"\nOf 2000 requests with bytes changed: {shown(said)}.", flush=True)
-
-
 def check_bodies(connect):
     """Sends denied requests with bodies that are longer than what a socket holds: each has to be taken whole, and to get 401."""
     sends, said = request("/clerks/4/batches/14/keying", body="x" * BODY), Counter()
@@ -91,5 +72,4 @@ def main(seed=7):
     with temporary_folder() as folder, evening_office(folder, codes).serve("--codes", "codes.txt").wait() as serving:
         told = functools.partial(serving.ask, shut=True)
         check_limit(told, codes)
-        check_changed(told, codes, chance)
         check_bodies(serving.connect)

@@ -59,7 +59,7 @@ class Evening:
     def order(self, *words, name=None, is_used=False):
         """Returns the words of an order with its id, one in forty of something else. A name comes last, and may look like an option."""
         given = self.ids[str(words[1]) if "key" in words[0] else ""]
-        if not (given and (is_used or self.chosen(0.025))):
+        if not (given and (is_used or words[0] not in ("candidate", "withdraw") and self.chosen(0.03))):
             given.append(self.chance.choice(IDS) + str(len(given)))
         return [*map(str, words), f"--id={self.chance.choice(given) if is_used else given[-1]}", *(["--", name] if name else [])]
 
@@ -78,7 +78,7 @@ class Evening:
     def play(self):
         """Sends the orders of some wards, those of each in their order, with some in between that are refused; and counts the wards."""
         chance = self.chance
-        wards = {ward: list(self.ward(ward)) for ward in chance.sample(range(1, 100), chance.choice((0, 1, 1, 2, 3)))}
+        wards = {ward: list(self.ward(ward)) for ward in chance.sample(range(1, 100), chance.choice((0, 1, 2, 2, 3)))}
         turns = chance.sample([ward for ward, orders in wards.items() for _ in orders], sum(map(len, wards.values())))
         orders = [wards[ward].pop(0) for ward in turns]
         for line in chance.choices(REFUSALS, k=len(orders) // 5):
@@ -128,9 +128,7 @@ class Evening:
         return "D" if self.chosen(0.17) else odd if self.chosen(0.05) else self.ranked(columns, 0)
 
     def keyed(self, columns, clerk, batch, turn, papers):
-        """Returns the order of a keying, by words or by a file; of some keyings one paper is keyed otherwise."""
-        if turn < self.chance.choice((1, 1, 2, 4)):
-            papers = [self.marks(columns), *papers[1:]]
+        """Returns the order of a keying, by words or by a file."""
         if self.chosen(0.7):
             return [*self.order("key", clerk, batch, turn), *papers]
         name = f"k{clerk}-{batch}-{turn}.csv"
@@ -143,8 +141,13 @@ class Evening:
         papers = [self.marks(columns) for _ in range(self.chance.choice((1, 2, 3, 5, 8)))]
         yield self.order("batch", batch, ward, len(papers), first, second)
         for turn in range(1, self.chance.choice((2, 3, 4, 5))):
-            for clerk in self.chance.sample((first, second), 1 if self.chosen(0.05) else 2):
-                yield self.keyed(columns, clerk, batch, turn, papers)
+            clerks = self.chance.sample((first, second), 1 if self.chosen(0.05) else 2)
+            # Some key the first paper otherwise.
+            keyings = [[self.marks(columns), *papers[1:]] if turn < self.chance.choice((1, 1, 2, 4)) else papers for _ in clerks]
+            for clerk, keying_of in zip(clerks, keyings):
+                yield self.keyed(columns, clerk, batch, turn, keying_of)
+            if keyings == [papers, papers]:
+                break
             if self.chosen(0.4):
                 yield self.order("third", batch, third)
                 yield self.keyed(columns, third, batch, turn, papers)

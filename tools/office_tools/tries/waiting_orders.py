@@ -73,12 +73,13 @@ class Waits:
         for hold, what, who in ((lock_of_an_order, "an order", "another order holds it"),
                                 (lock_of_sqlite, "another program", "another program has it open")):
             late = (3, "", f"{STORE}waited ten seconds for town.db: {who}\n")
-            for held, wanted, end in ((1, self.run("receipts"), "for a second: the order is done"), (11, late, "and stays held: fault 102")):
-                threading.Timer(held, hold(self.path)).start()
+            for held, wanted, end in ((1, self.run("receipts"), "for a second: the order is done"), (30, late, "and stays held: fault 102")):
+                free = hold(self.path)
+                threading.Timer(held, free).start()
                 found, seconds = timed(self.run, "receipts")
+                free()
                 expect(what, (found, min(held, 9.9) < seconds < 20), (wanted, True))
                 self.table.row(f"the file held by {what} {end}", f"{seconds:.1f}")
-                time.sleep(1.5)
 
     def serve(self):
         """Serves the office, and waits for the socket of orders."""
