@@ -1,10 +1,10 @@
 """Plays the screen of the hall in Chromium at 1920 by 1080 pixels: an evening, names at their longest, 99 wards, and ties.
 
 Through an evening the screen shows each phase of a ward, what its sheet says of each stage, lots, and who is elected; the orders are typed
-while the office is served. Before the seal nothing that it may read depends on candidates or keyings, and without `--public` nothing is
-there. No name is cut off. In made-up wards the ties and lots that the page finds in a sheet are those of the program. That the screen goes
-on while the server is away, and what keys do, `tools/check script` shows. --only PLAY plays one of evening, longest, many and ties.
-Pictures go into the folder PICTURES. It needs `chromium-driver` and `python3-selenium`.
+while the office is served. No name is cut off. In made-up wards the ties and lots that the page finds in a sheet are those of the program.
+That the screen goes on while the server is away, and what keys do, `tools/check script` shows; what the office serves before the seal, and
+without `--public`, examples/hall.sh. --only PLAY plays one of evening, longest, many and ties. Pictures go into the folder PICTURES. It
+needs `chromium-driver` and `python3-selenium`.
 """
 import contextlib
 import json
@@ -16,12 +16,11 @@ from office_tools.browser import Browser
 from office_tools.election import HOSTILE, TITLE, keyed, ward_orders
 from office_tools.office import Office, Wrong, free_port, temporary_folder
 from office_tools.wards import Ward, sealed_office
-from office_tools.web import HERE, ask, request, status
+from office_tools.web import HERE
 
 NAMES = ["Ann Baird", "Bob Cairns", "Catriona MacGillivray-Stewart", "Dee Drummond", "Ewan Forsyth", "Flora Geddes"]
 PAPERS = [*["1,2,,,,"] * 40, *["1,,2,,,"] * 20, *[",1,2,,,"] * 12, *[",,1,2,,"] * 18, *[",,,1,2,"] * 9, *[",,,2,1,"] * 9, *[",,,,,1"] * 8,
           "D"]
-TARGETS = ("/screen/wards", "/", "/screen", "/wards/7/sheet", "/wards/7/result", "/wards/7/page")
 LETTERS = {"E": "Elected", "e": "Elected", "x": "Excluded", "-": ""}
 # What a row of the chart shows, as a line of the sheet has it.
 ROWS = """[...document.querySelectorAll('#bars li')].map((it) => [it.querySelector('.number'), it.querySelector('.votes'),
@@ -74,66 +73,36 @@ class Screen:
         if found != wanted:
             raise Wrong(f"ward {ward}, stage {part}: the screen shows {found}, the sheet has {wanted}")
 
-    def public(self):
-        """Returns the status and the body of each response that anyone may read."""
-        heads = [ask(self.port, request(target)).partition(b"\r\n\r\n") for target in TARGETS]
-        return [(status(head), body) for head, _, body in heads]
-
 
 def evening(screen, folder):
-    """Plays three wards from their nominations to their declarations."""
-    office = Office(folder / "evening").begin()
+    """Plays three wards from their nominations to their declarations: ward 7 stage by stage, with a lot, and ward 9 without a poll."""
+    office, part, settled = Office(folder / "evening").begin(), 0, 0
+
+    def show(orders, *words, **how):
+        office.replay(orders)
+        screen.show(*words, **how)
     with screen.showing(office):
         screen.show(0, "There are no wards yet", picture="01-no-wards")
-        office.replay(["ward 9 3 Quay --id w9", "ward 8 2 'New Town' --id w8"])
-        screen.show(8, "Nominations are open", picture="02-nominations")
-        before_the_seal(screen)
+        show(["ward 9 3 Quay --id w9", "ward 8 2 'New Town' --id w8"], 8, "Nominations are open", picture="02-nominations")
+        show(ward_orders((12, len(PAPERS), 4, 9), candidates=NAMES, seats=3), 7, "Votes are being entered", picture="03-keying")
         screen.show(0, "7 Harbour Votes are being entered", "9 Quay Nominations are open", picture="04-list")
-        counting(screen)
-        office.replay(["candidate 9 1 Ina --id c91", "candidate 9 2 Jo --id c92", "close 9 --id n9"])
-        screen.show(9, "No poll", picture="30-no-poll")
-        office.do("declare", 9, "--id", "d9")
-        screen.show(9, "Elected", "1 Ina", "2 Jo", "1 seat stays empty", picture="31-no-poll-declared")
-    with office.serve() as serving:
-        found = [(target, status(serving.ask(request(target)))) for target in TARGETS]
-    if wrong := [each for each in found if each[1] != (200 if each[0].endswith(("sheet", "result")) else 404)]:
-        raise Wrong(f"without --public: {wrong}")
-
-
-def before_the_seal(screen):
-    """Checks that nothing that is public changes with candidates, batches, keyings or verdicts of a ward in keying."""
-    screen.office.replay(ward_orders((12, len(PAPERS), 4, 9), candidates=NAMES, seats=3))
-    public = screen.public()
-    if b'{"name":"Harbour","phase":"keying","stages":0,"ward":7}' not in public[0][1]:
-        raise Wrong(f"of a ward in keying the screen reads {public[0]}")
-    screen.office.replay([*keyed(12, PAPERS), f"judge 12 {len(PAPERS)} reject:5 --id j"])
-    if public != screen.public():
-        raise Wrong("what is public depends on keyings")
-    screen.show(7, "Votes are being entered", picture="03-keying")
-    if any(name in screen.browser.text() for name in NAMES):
-        raise Wrong("a candidate is shown before the seal")
-
-
-def counting(screen):
-    """Counts ward 7 stage by stage, with a lot, and declares it."""
-    office, part, settled = screen.office, 0, 0
-    office.do("seal", 7, "--id", "s7")
-    screen.show(7, "Valid papers 116", "Rejected papers 1", "void for uncertainty", "Quota 30.00000", picture="05-sealed")
-    while "stage" in (following := office.do("next", 7)):
-        part += 1
-        if "waits for a lot" in following:
-            screen.show(7, f"4 Dee Drummond and 5 Ewan Forsyth {TIED}", part=part - 1, picture=f"1{part}-lot")
-            office.do("lot", 7, part, 5, "--id", f"l{part}")
-            settled = part
-        office.do("advance", 7, "--id", f"a{part}")
-        screen.show(7, f"Stage {part}: ", part=part, picture=f"1{part}-stage")
-        screen.compare(7, part)
-    screen.show(7, "All seats are filled. The declaration follows.", part=part)
-    screen.show(7, SETTLED, part=settled)
-    office.do("declare", 7, "--id", "d7")
-    screen.show(7, f"Stage {part} of {part}: ")
-    elected = [line.strip() for line in office.do("result", 7).split("\n")[2:]]
-    screen.show(7, "Elected", *elected, "1 of 3 wards declared", "Last change at ", part=part + 1, picture="20-declared")
+        show([*keyed(12, PAPERS), f"judge 12 {len(PAPERS)} reject:5 --id j", "seal 7 --id s7"], 7, "Valid papers 116", "Rejected papers 1",
+             "void for uncertainty", "Quota 30.00000", picture="05-sealed")
+        while "stage" in (following := office.do("next", 7)):
+            part += 1
+            if "waits for a lot" in following:
+                screen.show(7, f"4 Dee Drummond and 5 Ewan Forsyth {TIED}", part=part - 1, picture=f"1{part}-lot")
+                office.do("lot", 7, part, 5, "--id", f"l{part}")
+                settled = part
+            show([f"advance 7 --id a{part}"], 7, f"Stage {part}: ", part=part, picture=f"1{part}-stage")
+            screen.compare(7, part)
+        screen.show(7, "All seats are filled. The declaration follows.", part=part)
+        screen.show(7, SETTLED, part=settled)
+        show(["declare 7 --id d7"], 7, f"Stage {part} of {part}: ")
+        elected = [line.strip() for line in office.do("result", 7).split("\n")[2:]]
+        screen.show(7, "Elected", *elected, "1 of 3 wards declared", "Last change at ", part=part + 1, picture="20-declared")
+        show(["candidate 9 1 Ina --id c91", "candidate 9 2 Jo --id c92", "close 9 --id n9"], 9, "No poll", picture="30-no-poll")
+        show(["declare 9 --id d9"], 9, "Elected", "1 Ina", "2 Jo", "1 seat stays empty", picture="31-no-poll-declared")
 
 
 def longest(screen, folder):
