@@ -3,17 +3,13 @@
 WARDS wards are made up, and `tools/try recount` makes the sheet and the declaration of each. The checker is the one that CHECK_COUNT
 names, or that of `./count-office - check`.
 
-- It confirms both, and says which of the two it is. It does so too with ballots as another program may write them: in another order, in
-  parts, with remarks, a byte order mark and other line ends.
-- Of a changed sheet it names the very line that differs first.
+- It confirms both, and says which of the two it is; so too with ballots as another program may write them: in another order, in parts,
+  with remarks, a byte order mark and other line ends. Of a changed sheet it names the very line that differs first.
 - Ballots may have a comment that is ours, or close to it, anywhere, or lack one of ours. The checker accepts them if `tools/try recount`
   does, and only then, and as those of the same ward. So it does with ranks that several share, some of whom withdrew.
-- Some names have characters that steer a terminal. Nothing that the checker prints has one.
-- Of ballots that were damaged at random it reports that it doesn't understand them, and the line. Or they are still ballots, and it says
-  whether they give the sheet.
-- Of files that no program writes it reports that it doesn't understand them, each in about a second: an empty file, 20,000,000 digits,
-  10,000,000 empty lines, 5,000,000 comments, a name of 20,000,000 bytes, lines of 5,000,000 candidates or shared ranks, 2,000,000 lines
-  of papers without an end, and more papers than a ward can have.
+- Nothing that it prints has a character that steers a terminal, though some names have.
+- Of ballots that were damaged at random it reports that it doesn't understand them, and the line, or says whether they give the sheet.
+- Of files that no program writes (EXTREME) it reports that it doesn't understand them, each in about a second.
 """
 import collections
 import os

@@ -1,9 +1,8 @@
 """Gives two orders at one file at once, takes files away, and looks at the rights of what is made.
 
 - *Two orders at once*, the second a random time after the first. What both print, and the rows, are as if one had been given after the
-  other: the one that finds the file held waits. An order given while `init` runs may report 105: there is no office yet. A copy has the
-  rows before the other order or those after it, or isn't there; if another office is made at its path at the same time, one of the two
-  reports that. A script of four orders opens the file once, so no other order comes between them.
+  other. An order given while `init` runs may report 105: there is no office yet. A copy has the rows before the other order or those after
+  it, or isn't there; if another office is made at its path, one of the two reports that. No order comes between those of a script.
 - *Files taken away.* The file or its log is removed, or replaced by another office's. An order continues with the files that it has open:
   they have the rows before it, or those after it if it was answered, and the other office's file isn't changed. What `serve` does then,
   examples/serving.sh shows.
