@@ -4,7 +4,7 @@ use Rattle.std.specs.List.{All, join_with_byte, list_any}
 use Rattle.std.proofs.lemmas.Bool.{eq-eqb, or_parts}
 use Rattle.std.proofs.lemmas.List.Splits.{slice_split_at, slice_split_none}
 use Rattle.std.proofs.lemmas.Slice.Eq.{bytes_eq-Decides}
-use Rattle.paper.specs.MarksText.{beside, fields, marks_in, reading}
+use Rattle.paper.specs.MarksText.{with_columns, fields, marks_in, reading}
 use Rattle.paper.specs.declared.marked.Keyed.TheVariants.{Doubtful}
 use Rattle.keyfile.specs.Keying.{AreReadAsKeyed, breaks_marks, is_break, is_doubtful}
 
@@ -40,7 +40,7 @@ read_as_keyed columns [] some size plain = absurd (omega (arith, some, size))
 read_as_keyed columns (mark ∷ marks) some size plain = by_doubt (is_doubtful (mark ∷ marks)) refl
   where
     by_doubt : (b : Bool) → is_doubtful (mark ∷ marks) ≡ b
-        → reading columns (cond b (codes "D") (join_with_byte 44 (mark ∷ marks))) ≡ cond b (Ok Doubtful) (beside columns (marks_in (mark ∷ marks)))
+        → reading columns (cond b (codes "D") (join_with_byte 44 (mark ∷ marks))) ≡ cond b (Ok Doubtful) (with_columns columns (marks_in (mark ∷ marks)))
     by_doubt true is = refl
     by_doubt false is =
         rw (not_letter mark marks plain is, fields-join mark marks plain, eq-eqb (length (mark ∷ marks)) (length columns) size) refl

@@ -2,7 +2,7 @@
 use Rattle.std.specs.Prelude.{◌≡◌, ◌≤◌, ℕ, Bool, true, false, ◌&&◌, ◌||◌, ◌==◌, if◌then◌else◌, List, [], ◌∷◌, length, Option, Some, None, Result, Ok, Err, codes, bytes_eq}
 use Rattle.std.specs.List.{list_all, list_any, join_with_byte}
 use Rattle.keyfile.specs.Headers.{first_field_flaw}
-use Rattle.paper.specs.MarksText.{beside, marks_in, reading}
+use Rattle.paper.specs.MarksText.{with_columns, marks_in, reading}
 use Rattle.paper.specs.declared.marked.Keyed.TheVariants.{Doubtful}
 use Rattle.keyfile.specs.Records.{Record}
 use Rattle.paper.specs.Digits.{plain_number_in}
@@ -88,4 +88,4 @@ plain_keying columns = record { header_flaw = plain_header_flaw columns; most = 
 abbrev pub AreReadAsKeyed : List ℕ → Type 0
 AreReadAsKeyed columns =
     (marks : List (List ℕ)) → 1 ≤ length columns → length marks ≡ length columns → list_any breaks_marks marks ≡ false →
-    reading columns (marks_text marks) ≡ (if is_doubtful marks then Ok Doubtful else beside columns (marks_in marks))
+    reading columns (marks_text marks) ≡ (if is_doubtful marks then Ok Doubtful else with_columns columns (marks_in marks))
