@@ -19,6 +19,11 @@ def ward_orders(*batches, candidates=("Ann", "Bob", "Cy"), seats=2, ward=7, name
     return [f"ward {ward} {seats} {shlex.quote(name)} --id w{ward}", *nominated, f"close {ward} --id n{ward}", *given_out]
 
 
+def marks_of(order, columns):
+    """Returns the marks of a paper on which the candidates of these columns are ranked in this order."""
+    return ",".join(str(order.index(column) + 1) if column in order else "" for column in range(columns))
+
+
 def keyed(batch, papers, clerks=(4, 9)):
     """Returns the orders by which clerks key the same papers in a batch's first round."""
     return [f"key {clerk} {batch} 1 {' '.join(papers)} --id k{batch}" for clerk in clerks]

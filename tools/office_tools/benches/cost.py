@@ -9,7 +9,7 @@ import contextlib
 import random
 import resource
 
-from office_tools.election import COPYING, ELECTION, END, READS, REPLAY, SCRIPTED, Order, keying, ward_orders
+from office_tools.election import COPYING, ELECTION, END, READS, REPLAY, SCRIPTED, Order, keying, marks_of, ward_orders
 from office_tools.office import Office, Wrong, temporary_folder, timed
 from office_tools.tables import Table
 
@@ -21,13 +21,8 @@ LARGE = [Order(line.split()) for line in (
 
 def papers(chance, count):
     """Returns the marks of papers: a few preferences each, the lower numbers more often first, so that no lot is needed."""
-    found = []
-    for _ in range(count):
-        marks, order = [""] * CANDIDATES, sorted(range(CANDIDATES), key=lambda candidate: candidate + 12 * chance.random())
-        for place, candidate in enumerate(order[:chance.randint(1, 6)], 1):
-            marks[candidate] = str(place)
-        found.append(",".join(marks))
-    return found
+    orders = [sorted(range(CANDIDATES), key=lambda candidate: candidate + 12 * chance.random()) for _ in range(count)]
+    return [marks_of(order[:chance.randint(1, 6)], CANDIDATES) for order in orders]
 
 
 def nominated(folder, *batches):

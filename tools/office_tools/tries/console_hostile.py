@@ -15,7 +15,7 @@ import random
 import time
 from pathlib import Path
 
-from office_tools.election import HOSTILE, keyed, ward_orders
+from office_tools.election import HOSTILE, keyed, marks_of, ward_orders
 from office_tools.office import Wrong
 from office_tools.players import SECTIONS, Officer, played
 from office_tools.tables import Table
@@ -113,10 +113,7 @@ def evening_of_tellers(officer):
 
 def made_up(chance, size, candidates, has_doubtful):
     """Returns the papers of a batch."""
-    papers = []
-    for _ in range(size):
-        ranked = chance.sample(range(candidates), chance.randint(1, 4))
-        papers.append(",".join(str(ranked.index(place) + 1) if place in ranked else "" for place in range(candidates)))
+    papers = [marks_of(chance.sample(range(candidates), chance.randint(1, 4)), candidates) for _ in range(size)]
     if has_doubtful:
         papers[chance.randrange(2, size)] = "D"
     return papers

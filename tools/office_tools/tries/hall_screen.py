@@ -13,7 +13,7 @@ import re
 from pathlib import Path
 
 from office_tools.browser import Browser
-from office_tools.election import HOSTILE, TITLE, keyed, ward_orders
+from office_tools.election import HOSTILE, TITLE, keyed, marks_of, ward_orders
 from office_tools.office import Office, Wrong, free_port, temporary_folder
 from office_tools.wards import Ward, sealed_office
 from office_tools.web import HERE
@@ -108,13 +108,11 @@ def evening(screen, folder):
 def longest(screen, folder):
     """Shows thirty candidates for fifteen seats: names have 120 bytes, look like markup, or change the direction of writing."""
     names = HOSTILE + [f"{number} {'Featherstonehaugh-Marjoribanks ' * 4}"[:120].strip() for number in range(9, 31)]
-    chance, papers = random.Random(3), []
-    for _ in range(300):
-        order = sorted(chance.sample(range(30), 20), key=lambda place: place + chance.randrange(30))
-        papers.append(",".join(str(order.index(place) + 1) if place in order else "" for place in range(30)))
+    chance = random.Random(3)
+    orders = [sorted(chance.sample(range(30), 20), key=lambda place: place + chance.randrange(30)) for _ in range(300)]
     office = Office(folder / "longest").begin(ward_orders((1, 300, 4, 9), candidates=names, seats=15, name=names[4]))
     office.replay(ward_orders((2, 300, 4, 9), candidates=names[:12], seats=4, ward=8, name="A" * 120))
-    office.replay(keyed(1, papers) + keyed(2, [",".join(paper.split(",")[:12]) for paper in papers]))
+    office.replay(keyed(1, [marks_of(order, 30) for order in orders]) + keyed(2, [marks_of(order, 12) for order in orders]))
     for ward in (7, 8):
         office.do("seal", ward, "--id", f"s{ward}")
         counted(office, ward)

@@ -14,7 +14,7 @@ import collections
 import random
 import re
 
-from office_tools.election import keying
+from office_tools.election import keying, marks_of
 from office_tools.office import SCRIPT, Office, Wrong, temporary_folder
 from office_tools.tables import Table
 from office_tools.trials import side_by_side
@@ -117,10 +117,8 @@ class Evening:
 
     def ranked(self, columns, least):
         """Returns marks by which so many candidates at least are ranked."""
-        fields = [""] * len(columns)
-        for place, column in enumerate(self.chance.sample(range(len(columns)), self.chance.randint(least, len(columns))), 1):
-            fields[column] = str(place)
-        return ",".join(fields)
+        size = len(columns)
+        return marks_of(self.chance.sample(range(size), self.chance.randint(least, size)), size)
 
     def marks(self, columns):
         """Returns the marks of a paper: one in six is doubtful, and one in twenty has other numbers."""
