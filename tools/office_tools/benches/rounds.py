@@ -14,8 +14,11 @@ SIZES, RATES, RECOMMENDED, MOST = (25, 50, 75, 100), (0.003, 0.005, 0.01, 0.02),
 
 
 def keyings_of(slips_of, left=None, takes=1):
-    """Returns the keyings' time that a batch takes until two keyings of a round are equal: each round is keyed from the papers, by two
-    clerks and then by three; or, with a reading that leaves some slips, the clerks go through their own, and a third one keys in round 2."""
+    """Returns the keyings' time that a batch takes until two keyings of a round are equal.
+
+    Each round is keyed from the papers, by two clerks and then by three; or, with a reading that leaves some slips, the clerks go through
+    their own, and a third one keys in round 2.
+    """
     slips, time = [slips_of(), slips_of()], 2
     for number in range(1000):
         if slips.count(0) >= 2:

@@ -51,7 +51,7 @@ class Screen:
             yield
 
     def show(self, ward, *words, part=None, picture=""):
-        """Lets the screen look at the office, and show a ward, or the list, or a part of it. It shows these words, and no name is cut off."""
+        """Lets the screen look at the office, and show a ward, or the list, or a part. It shows these words, and no name is cut off."""
         self.browser.driver.execute_async_script("const done = arguments[0]; look(() => { meetChange(); draw(); }).then(() => done())")
         part_of = "" if part is None else f"showPart({part});"
         self.browser.value(f"""(() => {{ shown.hold = 'part'; showTurn({{ward: {ward}, part: 0}}); {part_of} draw();
