@@ -20,8 +20,8 @@ MOST, MINUTE, SENDERS, DENIED, BODY = 6000, 60, 4, 1000, 200_000
 LETTERS, TELLERS, NOBODY = "abcdefghjkmnprstuwy2347", range(1, 41), 999
 
 
-def with_code(clerk, code):
-    return request(f"/clerks/{clerk}/work", f"Authorization: {basic(clerk, code)}")
+def with_code(clerk, code, *headers):
+    return request(f"/clerks/{clerk}/work", f"Authorization: {basic(clerk, code)}", *headers)
 
 
 def shown(said):
