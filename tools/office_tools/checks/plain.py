@@ -1,4 +1,4 @@
-"""Counts the long sentences of each page, and those in the comments of each crate.
+"""Counts the words of each book of docs/, the long sentences of each page, and those in the comments of each crate.
 
 A sentence ends at a full stop, a question mark or an exclamation mark before a blank; so does the cell of a table, an item of a list, and
 a heading. Those of fewer than 4 words aren't counted. Code in fences isn't read, and what is in backticks counts as one word. Each page
@@ -42,6 +42,10 @@ def is_over(what, texts, most, allowed):
 
 
 def main():
+    for book in ("officer", "formats", "engineering"):
+        texts = [path.read_text(encoding="utf-8") for path in (ROOT / "docs" / book).glob("*.md") if path.stem != "results"]
+        words = sum(len(re.findall(r"\S*\w\S*", FENCED.sub("", text))) for text in texts)
+        print(f"{book}: {words} words, without code and what tools made")
     allowed = {name: share for share, names in SHARES.items() for name in names.split()}
     found = [is_over(page.relative_to(ROOT), [page.read_text()], MOST, allowed.get(page.stem, OTHERS)) for page in pages()]
     for crate in sorted((ROOT / "crates").iterdir()):
