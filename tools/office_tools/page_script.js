@@ -155,7 +155,7 @@ const PLAYS = {
       [['Enter'], /Nothing is keyed for paper 1/, ',,'], [['x'], /The key x means nothing here/, ',,'],
       [['ArrowLeft'], /Num Lock is off/, ',,', {code: 'Numpad4'}], [['1', 'Enter'], /Num Lock is off/, ',,', {repeat: true}],
       [['1', 'Tab', '2', 'End'], /isn\u2019t ended. Enter ends it/, '1,2,'], [['0', '4'], /at its end, and another key came/, '1,2,'],
-      [['Enter'], /at its end, and another key came/, '1,2,'], [['Backspace', 'Backspace', '.', '0'], /No mark begins with 0/, '1,2,'],
+      [['Enter'], /at its end, and another key came/, '1,2,'], [['Backspace', 'Backspace', '.', '0'], /A mark never begins with 0/, '1,2,'],
     ]) {
       await window.press(keys, more);
       window.sees({notice: words, paper: 'Paper 1 of 3', papers: [[text]]});
@@ -208,7 +208,7 @@ const PLAYS = {
       const window = await opened(page, secondRound(keyed));
       await window.press(['Enter']);
       assert.ok(window.at('through').closest('[hidden]'), 'nothing can be gone through');
-      window.sees(keyed ? {asked: /can\u2019t be opened/} : {anew: /Key every paper anew/});
+      window.sees(keyed ? {asked: /can\u2019t be opened/} : {anew: /Key every paper again/});
     }
   },
   'a draft goes on after the number of papers was put right': async (page) => {

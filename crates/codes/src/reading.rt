@@ -299,8 +299,8 @@ impl<'a> FileLines<'a> {
     }
 }
 
-/// Splits a text into lines.
-pub(crate) fn lines_of(alloc: Global, text: &[u8]) -> Result<Vec<Vec<u8>>, AllocError>
+/// Splits the text of a file into lines.
+pub fn lines_of(alloc: Global, text: &[u8]) -> Result<Vec<Vec<u8>>, AllocError>
     ensures { IfOk result (λ lines. map (λ line. line.items) lines.items ≡ lines_from [] text.now) }
 {
     let mut lines = Vec::new(alloc);
@@ -316,8 +316,8 @@ pub(crate) fn lines_of(alloc: Global, text: &[u8]) -> Result<Vec<Vec<u8>>, Alloc
     Ok(lines)
 }
 
-/// Parses all lines. The errors are that an allocation failed, and the first line that is wrong.
-pub(crate) fn entries_of(alloc: Global, lines: &[Vec<u8>]) -> Result<FileLines<'_>, CodesError>
+/// Parses all lines of a file. The errors are that an allocation failed, and the first line that is wrong.
+pub fn entries_of(alloc: Global, lines: &[Vec<u8>]) -> Result<FileLines<'_>, CodesError>
     ensures ok { IfOk result (λ found. file_from 1 no_codes (map (λ line. line.items) lines.now) ≡ Ok (file_entry found)) }
     ensures err { IfErr result (λ why. (why ≡ read_error.Memory)
         ⊎ ((fault : CodesFault) × (why ≡ read_error.Fault fault) × (file_from 1 no_codes (map (λ line. line.items) lines.now) ≡ Err fault))) }

@@ -20,7 +20,7 @@ use Rattle.tables.specs.Presence.{IsOurs}
 use Rattle.tables.specs.Reading.{FailsBy, OnlyReads}
 use Rattle.tables.specs.declared.fault.Fault.{Fault}
 use Rattle.tables.specs.declared.fault.Fault.TheVariants as fault
-use Rattle.store.specs.Openings.{IsLeftAt, IsToldBy}
+use Rattle.store.specs.Openings.{IsLeftAt, IsFaultOf}
 use Rattle.office.specs.Answers.{IsOpenAt}
 use Rattle.office.specs.Values.{OfficeValue}
 use Rattle.wire.specs.Gates.{GateEntry, PageEntry, PublicEntry, public_entry}
@@ -158,7 +158,7 @@ pub record IsUnopened {L S : Type 0} (Tells : List ℕ → ℕ → ℕ → Type 
   pub told : Tells (failed (Office why)).err 3 status
   pub nobody : later ≡ before
   pub reads : OnlyReads (state_of old) (state_of new)
-  pub is : HasCleanDisk (state_of new) → (db : Database) → IsOurs db.schema → RestsAt db (state_of old) → IsToldBy db why
+  pub is : HasCleanDisk (state_of new) → (db : Database) → IsOurs db.schema → RestsAt db (state_of old) → IsFaultOf db why
   pub cause : HasCleanDisk (state_of new) → (db : Database) → RestsAt db (state_of old) → (s : OfficeState) → IsLeftAt s db → FailsBy (state_of old) (state_of new) why
 
 -- The office of this connection was opened, at the state in its database, and nothing changed.

@@ -55,10 +55,10 @@ fn listening_failure(error: &io::Error) -> Failure {
 }
 
 /// Prints on the error output that there is no socket for orders. If it can't be printed, the office serves all the same.
-fn say_no_socket(rt: &HostRuntime, error: &io::Error) {
-    let mut told = rt.stderr();
+fn warn_no_socket(rt: &HostRuntime, error: &io::Error) {
+    let mut stderr = rt.stderr();
     let why = reason_of(error);
-    let _ = writeln!(told, "no socket for orders beside the database: {why}");
+    let _ = writeln!(stderr, "no socket for orders next to the database: {why}");
 }
 
 /// Returns numbers separated by commas.
@@ -80,9 +80,9 @@ fn warn_of_weak(rt: &HostRuntime, codes: &Codes) {
         return;
     }
     if let Ok(clerks) = list_of(rt.alloc(), weak) {
-        let mut told = rt.stderr();
+        let mut stderr = rt.stderr();
         let _ = writeln!(
-            told,
+            stderr,
             "codes of clerks {clerks} are short, and may be guessed: make new ones with 'count-office DB codes FILE 1-40'"
         );
     }
@@ -132,7 +132,7 @@ impl<'a> Localhost<'a> {
                 Some(orders)
             }
             Err(error) => {
-                say_no_socket(rt, &error);
+                warn_no_socket(rt, &error);
                 None
             }
         }

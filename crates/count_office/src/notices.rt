@@ -28,27 +28,27 @@ impl LockHolder {
 }
 
 /// Prints on a terminal what an order waits for.
-pub fn say_waiting(rt: &HostRuntime, path: &str, holder: LockHolder) {
-    let mut told = rt.stderr();
-    if told.is_terminal() {
+pub fn warn_waiting(rt: &HostRuntime, path: &str, holder: LockHolder) {
+    let mut stderr = rt.stderr();
+    if stderr.is_terminal() {
         let why = holder.text();
-        let _ = writeln!(told, "waiting for {path}: {why}");
+        let _ = writeln!(stderr, "waiting for {path}: {why}");
     }
 }
 
 /// Prints what an order waited for without success.
-pub fn say_waited(rt: &HostRuntime, path: &str, holder: LockHolder) {
-    let mut told = rt.stderr();
+pub fn warn_waited(rt: &HostRuntime, path: &str, holder: LockHolder) {
+    let mut stderr = rt.stderr();
     let why = holder.text();
-    let _ = writeln!(told, "waited ten seconds for {path}: {why}");
+    let _ = writeln!(stderr, "waited ten seconds for {path}: {why}");
 }
 
 /// Prints that the log of a database belongs to a user who may not write the database.
-pub fn say_foreign_log(rt: &HostRuntime, path: &str) {
-    let mut told = rt.stderr();
+pub fn warn_foreign_log(rt: &HostRuntime, path: &str) {
+    let mut stderr = rt.stderr();
     let _ = writeln!(
-        told,
-        "{path}-wal belongs to another account than {path}, and isn't read"
+        stderr,
+        "{path}-wal doesn't belong to the owner of {path}, so it isn't read"
     );
 }
 
@@ -58,9 +58,9 @@ fn is_open_to_others(rt: &HostRuntime, path: &str) -> bool {
 }
 
 /// Prints on a terminal that the permissions of a database or its log let other users read or write it, if they do.
-pub fn say_if_open_to_others(rt: &HostRuntime, path: &str) {
-    let mut told = rt.stderr();
-    if !told.is_terminal() {
+pub fn warn_if_open_to_others(rt: &HostRuntime, path: &str) {
+    let mut stderr = rt.stderr();
+    if !stderr.is_terminal() {
         return;
     }
     let Ok(log) = format!(in rt.alloc(); "{path}-wal") else {
@@ -68,7 +68,7 @@ pub fn say_if_open_to_others(rt: &HostRuntime, path: &str) {
     };
     if is_open_to_others(rt, path) || is_open_to_others(rt, log.as_str()) {
         let _ = writeln!(
-            told,
+            stderr,
             "{path} is open to other accounts on this machine; 'chmod 600 {path} {log}' closes it"
         );
     }

@@ -41,7 +41,10 @@ fn piece_of(part: &OrderPart) -> Option<MessagePart<'_>>
 }
 
 /// Returns words or files as parts of a message; None if one is longer than a message may be, or there are too many.
-fn fitting(alloc: Global, parts: &[OrderPart]) -> Result<Option<Vec<MessagePart<'_>>>, AllocError>
+fn fitting_parts(
+    alloc: Global,
+    parts: &[OrderPart],
+) -> Result<Option<Vec<MessagePart<'_>>>, AllocError>
     ensures { IfOk result (λ found. IfSome found (λ pieces. PiecesFit (message_part_entries pieces.items))) }
 {
     let mut pieces = Vec::new(alloc);
@@ -61,7 +64,7 @@ fn fitting(alloc: Global, parts: &[OrderPart]) -> Result<Option<Vec<MessagePart<
 fn pieces_of(alloc: Global, parts: &[OrderPart]) -> Result<Vec<MessagePart<'_>>, Fault>
     ensures { IfOk result (λ pieces. PiecesFit (message_part_entries pieces.items)) }
 {
-    match fitting(alloc, parts) {
+    match fitting_parts(alloc, parts) {
         Ok(Some(pieces)) => Ok(pieces),
         Ok(None) => Err(Fault::Store),
         Err(AllocError) => Err(Fault::Memory),
@@ -109,7 +112,7 @@ fn frame_in(stream: &mut UnixStream) -> io::Result<FrameHead> {
 
 /// Why nothing more is printed.
 #[derive(Clone, Copy)]
-enum WhyReplyEnded {
+enum ReplyError {
     /// The server closed the connection, or sent something invalid.
     Server,
     /// The output fails.
@@ -120,7 +123,7 @@ enum WhyReplyEnded {
 
 /// What was received for the two outputs and isn't printed yet: for each the beginning of a line.
 #[derive(Drop)]
-struct Unfinished {
+struct PartialLines {
     out: Vec<u8>,
     err: Vec<u8>,
 }
@@ -140,16 +143,16 @@ fn whole_lines(bytes: &[u8]) -> usize
 
 /// Appends bytes to a line that isn't complete yet, prints the lines that are now complete, and keeps the rest. So a reply that breaks
 /// off prints no partial line.
-fn print_lines<O: Sink>(line: &mut Vec<u8>, bytes: &[u8], out: &mut O) -> Result<(), WhyReplyEnded>
+fn print_lines<O: Sink>(line: &mut Vec<u8>, bytes: &[u8], out: &mut O) -> Result<(), ReplyError>
     requires { O.failed out.old < 2 ^ 64 - 1 }
-    ensures { result ≢ Err WhyReplyEnded.Output → O.failed out.new ≡ O.failed out.old }
+    ensures { result ≢ Err ReplyError.Output → O.failed out.new ≡ O.failed out.old }
 {
     if line.extend_from_slice(bytes).is_err() {
-        return Err(WhyReplyEnded::Memory);
+        return Err(ReplyError::Memory);
     }
     let whole = whole_lines(line.as_slice());
     if put_all(out, &line[..whole]).is_err() {
-        return Err(WhyReplyEnded::Output);
+        return Err(ReplyError::Output);
     }
     let rest = line.len() - whole;
     line.rotate_left(whole);
@@ -163,16 +166,16 @@ fn print_output_frame<O: Sink>(
     len: u32,
     line: &mut Vec<u8>,
     out: &mut O,
-) -> Result<(), WhyReplyEnded>
+) -> Result<(), ReplyError>
     requires { O.failed out.old < 2 ^ 64 - 1 }
-    ensures { result ≢ Err WhyReplyEnded.Output → O.failed out.new ≡ O.failed out.old }
+    ensures { result ≢ Err ReplyError.Output → O.failed out.new ≡ O.failed out.old }
 {
     let mut left = len as usize;
     let mut room = [0; CHUNK];
     while left > 0 {
         let wanted = left.min(CHUNK);
         match stream.read(&mut room[..wanted]) {
-            Ok(0) | Err(_) => return Err(WhyReplyEnded::Server),
+            Ok(0) | Err(_) => return Err(ReplyError::Server),
             Ok(count) => {
                 print_lines(line, &room[..count], out)?;
                 left -= count;
@@ -188,16 +191,16 @@ fn print_error<E: Sink>(
     len: u32,
     line: &mut Vec<u8>,
     err: &mut E,
-) -> Result<bool, WhyReplyEnded>
+) -> Result<bool, ReplyError>
     requires { E.failed err.old < 2 ^ 64 - 1 }
     ensures unfailed { result ≡ Ok true → E.failed err.new ≡ E.failed err.old }
     ensures err { OnErr result (E.failed err.new ≡ E.failed err.old) }
 {
     match print_output_frame(stream, len, line, err) {
         Ok(()) => Ok(true),
-        Err(WhyReplyEnded::Output) => Ok(false),
-        Err(WhyReplyEnded::Server) => Err(WhyReplyEnded::Server),
-        Err(WhyReplyEnded::Memory) => Err(WhyReplyEnded::Memory),
+        Err(ReplyError::Output) => Ok(false),
+        Err(ReplyError::Server) => Err(ReplyError::Server),
+        Err(ReplyError::Memory) => Err(ReplyError::Memory),
     }
 }
 
@@ -206,20 +209,20 @@ fn print_error<E: Sink>(
 fn print_end_frame<O: Sink, E: Sink>(
     stream: &mut UnixStream,
     len: u32,
-    unfinished: &mut Unfinished,
+    unfinished: &mut PartialLines,
     out: &mut O,
     err: &mut E,
-) -> Result<u8, WhyReplyEnded>
+) -> Result<u8, ReplyError>
     requires out { O.failed out.old < 2 ^ 64 - 1 }
     requires err { E.failed err.old < 2 ^ 64 - 1 }
     ensures { OnErr result (E.failed err.new ≡ E.failed err.old) }
 {
     let mut status = [0];
     if stream.read_exact(&mut status).is_err() {
-        return Err(WhyReplyEnded::Server);
+        return Err(ReplyError::Server);
     }
     if put_all(out, unfinished.out.as_slice()).is_err() {
-        return Err(WhyReplyEnded::Output);
+        return Err(ReplyError::Output);
     }
     if !print_error(stream, len.saturating_sub(1), &mut unfinished.err, err)? {
         return Ok(3);
@@ -237,12 +240,12 @@ fn print_frames<O: Sink, E: Sink>(
     first: FrameHead,
     out: &mut O,
     err: &mut E,
-) -> Result<u8, WhyReplyEnded>
+) -> Result<u8, ReplyError>
     requires out { O.failed out.old < 2 ^ 64 - 1 }
     requires err { E.failed err.old < 2 ^ 64 - 1 }
     ensures { OnErr result (E.failed err.new ≡ E.failed err.old) }
 {
-    let mut unfinished = Unfinished {
+    let mut unfinished = PartialLines {
         out: Vec::new(alloc),
         err: Vec::new(alloc),
     };
@@ -259,10 +262,10 @@ fn print_frames<O: Sink, E: Sink>(
         }
         frame = match frame_in(stream) {
             Ok(next) => next,
-            Err(_) => return Err(WhyReplyEnded::Server),
+            Err(_) => return Err(ReplyError::Server),
         };
     }
-    Err(WhyReplyEnded::Server)
+    Err(ReplyError::Server)
 }
 
 /// Sends a message, preceded by its length.
@@ -273,7 +276,7 @@ fn send(stream: &mut UnixStream, message: &[u8]) -> io::Result<()> {
 
 /// The reply to an order: its connection, and its first frame.
 #[derive(Drop)]
-pub struct FrameReader {
+pub struct OrderReply {
     stream: UnixStream,
     first: FrameHead,
 }
@@ -282,7 +285,7 @@ pub struct FrameReader {
 #[derive(Drop)]
 pub enum Sent {
     /// A server has begun to reply.
-    Begun(FrameReader),
+    Replying(OrderReply),
     /// No program serves the database; or the server closed the connection before it had read all of the order, so it can't have
     /// performed it.
     Unread,
@@ -294,7 +297,7 @@ pub enum Sent {
 /// message.
 fn reply_in(mut stream: UnixStream) -> Sent {
     match frame_in(&mut stream) {
-        Ok(first) => Sent::Begun(FrameReader { stream, first }),
+        Ok(first) => Sent::Replying(OrderReply { stream, first }),
         Err(error) if error.kind() == ErrorKind::ConnectionReset => Sent::Unread,
         Err(_) => Sent::Failed(Fault::Store),
     }
@@ -318,18 +321,18 @@ pub fn send_order(rt: &HostRuntime, database: &str, order_files: &OrderFiles) ->
 /// order should be sent again.
 pub fn print_reply<O: Sink, E: Sink>(
     alloc: Global,
-    reply: FrameReader,
+    reply: OrderReply,
     out: &mut O,
     err: &mut E,
 ) -> u8
     requires out { O.failed out.old < 2 ^ 64 - 1 }
     requires err { E.failed err.old < 2 ^ 64 - 1 }
 {
-    let FrameReader { mut stream, first } = reply;
+    let OrderReply { mut stream, first } = reply;
     match print_frames(alloc, &mut stream, first, out, err) {
         Ok(status) => status,
-        Err(WhyReplyEnded::Memory) => tell_failure(Failure::Office(Fault::Memory), err),
-        Err(WhyReplyEnded::Server) => tell_failure(Failure::Office(Fault::Store), err),
-        Err(WhyReplyEnded::Output) => tell_failure(Failure::Output, err),
+        Err(ReplyError::Memory) => tell_failure(Failure::Office(Fault::Memory), err),
+        Err(ReplyError::Server) => tell_failure(Failure::Office(Fault::Store), err),
+        Err(ReplyError::Output) => tell_failure(Failure::Output, err),
     }
 }

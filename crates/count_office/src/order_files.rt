@@ -124,7 +124,11 @@ fn order_files_of(
 
 /// Reads what is sent of an order with these words. An error is that an allocation failed, or that a file is longer than a message may
 /// be.
-pub fn pack(rt: &HostRuntime, words: &[&str], order: &Order<'_>) -> Result<OrderFiles, Fault> {
+pub fn read_order_and_files(
+    rt: &HostRuntime,
+    words: &[&str],
+    order: &Order<'_>,
+) -> Result<OrderFiles, Fault> {
     match order_files_of(rt, words, order) {
         Ok(order_files) if order_files.files.iter().all(|file| file.is_whole()) => Ok(order_files),
         Ok(_) => Err(Fault::Store),

@@ -5,9 +5,11 @@ ghost use Rattle.std.specs.Prelude.{◌≡◌, ◌-◌, ◌^◌, ◌<◌, OnErr,
 
 use crate::file_lock::FileLock;
 use crate::localhost::Localhost;
-use crate::notices::{LockHolder, say_foreign_log, say_if_open_to_others, say_waited, say_waiting};
-use crate::order_client::{FrameReader, Sent, print_reply, send_order};
-use crate::order_files::{OrderFiles, pack};
+use crate::notices::{
+    LockHolder, warn_foreign_log, warn_if_open_to_others, warn_waited, warn_waiting,
+};
+use crate::order_client::{OrderReply, Sent, print_reply, send_order};
+use crate::order_files::{OrderFiles, read_order_and_files};
 use crate::path_state::{PathKind, PathState};
 use crate::{LockedDatabase, close, dispatch_order, is_busy, order_socket, wants_progress};
 use desk::{Failure, Order, ProgressSink, Task, tell_failure};
@@ -84,7 +86,7 @@ fn refuse_log<E: Sink>(rt: &HostRuntime, path: &str, err: &mut E) -> u8
     requires { E.failed err.old < 2 ^ 64 - 1 }
 {
     let status = tell_failure(Failure::Office(Fault::Store), err);
-    say_foreign_log(rt, path);
+    warn_foreign_log(rt, path);
     status
 }
 
@@ -92,20 +94,20 @@ fn refuse_log<E: Sink>(rt: &HostRuntime, path: &str, err: &mut E) -> u8
 /// order finds no office there.
 fn why_unopened(kind: PathKind, order: &Order<'_>) -> Option<Fault>
     ensures alone { kind ≡ PathKind.LogAlone → result ≡ Some Fault.WrongDatabase }
-    ensures unseen { kind ≡ PathKind.LogUnseen → result ≡ Some Fault.Store }
+    ensures unseen { kind ≡ PathKind.LogUnreadable → result ≡ Some Fault.Store }
 {
     match kind {
         PathKind::Taken => None,
         PathKind::Free | PathKind::Empty if matches!(order, Order::Perform(Task::Init)) => None,
         PathKind::Free | PathKind::Empty | PathKind::LogAlone => Some(Fault::WrongDatabase),
-        PathKind::LogUnseen => Some(Fault::Store),
+        PathKind::LogUnreadable => Some(Fault::Store),
     }
 }
 
 /// Prints a reply, with progress if a person watches.
 fn print_watched<O: Sink, E: Sink>(
     request: OrderRun<'_>,
-    reply: FrameReader,
+    reply: OrderReply,
     out: &mut O,
     err: &mut E,
 ) -> u8
@@ -128,7 +130,7 @@ fn read_order_files(
     brought: &mut Option<OrderFiles>,
 ) -> Result<(), Fault> {
     if brought.is_none() && order_socket::is_served(request.rt, database) {
-        *brought = Some(pack(request.rt, request.words, request.order)?);
+        *brought = Some(read_order_and_files(request.rt, request.words, request.order)?);
     }
     Ok(())
 }
@@ -154,7 +156,7 @@ fn hand_over<O: Sink, E: Sink>(
         return Err(LockHolder::Order);
     };
     match send_order(request.rt, database, order_files) {
-        Sent::Begun(reply) => Ok(print_watched(request, reply, out, err)),
+        Sent::Replying(reply) => Ok(print_watched(request, reply, out, err)),
         Sent::Unread => Err(LockHolder::Order),
         Sent::Failed(fault) => Ok(tell_failure(Failure::Office(fault), err)),
     }
@@ -255,7 +257,7 @@ pub fn perform_with_retries<O: Sink, E: Sink>(request: OrderRun<'_>, out: &mut O
     requires err { E.failed err.old < 2 ^ 64 - 1 }
 {
     let OrderRun { rt, path, .. } = request;
-    say_if_open_to_others(rt, path);
+    warn_if_open_to_others(rt, path);
     let mut brought = None;
     let mut holder = LockHolder::Order;
     for pauses in 0..=PAUSES {
@@ -264,11 +266,11 @@ pub fn perform_with_retries<O: Sink, E: Sink>(request: OrderRun<'_>, out: &mut O
             Err(found) => holder = found,
         }
         if pauses == PAUSES_UNSEEN {
-            say_waiting(rt, path, holder);
+            warn_waiting(rt, path, holder);
         }
         rt.sleep(Duration::from_millis(PAUSE));
     }
     let status = tell_failure(Failure::Office(Fault::Store), err);
-    say_waited(rt, path, holder);
+    warn_waited(rt, path, holder);
     status
 }

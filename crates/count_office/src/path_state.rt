@@ -82,7 +82,7 @@ pub enum PathKind {
     /// No file, or an empty one, and next to it a log that may contain something.
     LogAlone,
     /// No file, or an empty one, and what has the name of its log can't be examined.
-    LogUnseen,
+    LogUnreadable,
     /// A file that may contain an office, or that can't be examined.
     Taken,
 }
@@ -116,7 +116,7 @@ fn kind_with_log(
         (Ok(log), Ok(journal)) => kind_of(database, *log, *journal),
         _ => match database {
             Some(length) if length > MAX_EMPTY => PathKind::Taken,
-            _ => PathKind::LogUnseen,
+            _ => PathKind::LogUnreadable,
         },
     }
 }

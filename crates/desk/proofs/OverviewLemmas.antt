@@ -6,9 +6,9 @@ use Rattle.sqlite.specs.State.{State}
 use Rattle.register.specs.Offices.{OfficeState}
 use Rattle.register.specs.declared.refusal.Reason.{Reason}
 use Rattle.tables.specs.declared.fault.Fault.TheVariants.{Memory}
-use Rattle.office.specs.Reads.{Read, StopsBy}
-use Rattle.office.specs.declared.answers.Stop.{Stop}
-use Rattle.office.specs.declared.answers.Stop.TheVariants.{Refused, Fault}
+use Rattle.office.specs.Reads.{Read, ReadFailsBy}
+use Rattle.office.specs.declared.answers.ReadError.{ReadError}
+use Rattle.office.specs.declared.answers.ReadError.TheVariants.{Refused, Fault}
 use Rattle.desk.specs.Parts.{IsFound}
 use Rattle.desk.specs.Overviews.{lines_of}
 use Rattle.desk.specs.Pages.{Page, failed, line, page_found, page_stopped, printed}
@@ -21,11 +21,11 @@ lines_viewed text view (x ∷ xs) = ap (λ rest. line (text (view x)) ++ rest) (
 
 -- the lines of what was read, or why there are none, are what is printed
 pub lines_found : {W X V : Type 0} (items : W → List X) (text : V → Text) (view : X → V) (s : OfficeState) (told : Result (List V) Reason)
-    (found : Result W Stop) (page : Page) (closed : Bool) (old st : State)
+    (found : Result W ReadError) (page : Page) (closed : Bool) (old st : State)
     → Read (λ w. map view (items w)) s told found closed st
     → IfOk found (λ w. (page ≡ printed (flat_map (λ x. line (text (view x))) (items w))) ⊎ (page ≡ failed (Office Memory)))
     → IfErr found (λ stop. page ≡ page_stopped stop)
-    → IfErr found (StopsBy old st)
+    → IfErr found (ReadFailsBy old st)
     → IsFound s (λ views. printed (lines_of text views)) told page closed old st
 lines_found items text view s told (Ok w) page closed old st read (inl is) stops cause =
     inl (is ∙ ap printed (lines_viewed text view (items w)) ∙ sym (ap (page_found (λ views. printed (lines_of text views))) read.0), read.1)
@@ -34,8 +34,8 @@ lines_found items text view s told (Err (Refused why)) page closed old st read l
 lines_found items text view s told (Err (Fault fault)) page closed old st read lines is cause = inr (fault, is, (cause, read))
 
 -- why nothing was found is printed
-pub stop_found : {X Y : Type 0} (view : Y → X) (shown : X → Page) (s : OfficeState) (told : Result X Reason) (stop : Stop) (page : Page) (closed : Bool) (old st : State)
-    → Read view s told (Err stop) closed st → StopsBy old st stop
+pub stop_found : {X Y : Type 0} (view : Y → X) (shown : X → Page) (s : OfficeState) (told : Result X Reason) (stop : ReadError) (page : Page) (closed : Bool) (old st : State)
+    → Read view s told (Err stop) closed st → ReadFailsBy old st stop
     → page ≡ page_stopped stop → IsFound s shown told page closed old st
 stop_found view shown s told (Refused why) page closed old st read cause is = inl (is ∙ sym (ap (page_found shown) read.0), read.1)
 stop_found view shown s told (Fault fault) page closed old st read cause is = inr (fault, is, (cause, read))

@@ -11,7 +11,7 @@ use Rattle.clap.specs.Words.{Text}
 use Rattle.streams.proofs.Beginnings.{AppendsBeginning-front, AppendsBeginning-behind}
 use Rattle.desk.specs.declared.lines.Failure.TheVariants.{Output}
 use Rattle.desk.specs.Pages.{Cut, uncut, cut_behind, cut_error, IsErrorTold, IsOutputBroken, IsPut, IsShown, IsWhole, Outputs}
-use Rattle.desk.specs.Pages.{Page, Shows, behind_front, below, cut_below, empty_page, failed, fronted, line_front, outputs_of, printed, status_behind}
+use Rattle.desk.specs.Pages.{Page, Shows, after_prefix, below, cut_below, empty_page, failed, fronted, line_front, outputs_of, printed, combined_status}
 
 -- the pieces of one more element
 pieces_more : {X : Type 0} (f : X → Text) (xs : List X) (i : ℕ) (d : X) → i < length xs → flat_map f (take (i + 1) xs) ≡ flat_map f (take i xs) ++ f (get_or xs i d)
@@ -101,30 +101,30 @@ broken_ends broken = elim broken.told [
 -- ---- pages in sequence
 
 -- the status after an empty page
-status_first : (status : ℕ) → status_behind 0 status ≡ status
+status_first : (status : ℕ) → combined_status 0 status ≡ status
 status_first status = by (status == 0) refl
   where
-    by : (b : Bool) → (status == 0) ≡ b → status_behind 0 status ≡ status
+    by : (b : Bool) → (status == 0) ≡ b → combined_status 0 status ≡ status
     by true e = rw e (sym (eqb-true status 0 e))
     by false e = rw e refl
 
 -- a status other than 0 stays, whatever the one before it
-status_stays : (before status : ℕ) → status ≢ 0 → status_behind before status ≡ status
+status_stays : (before status : ℕ) → status ≢ 0 → combined_status before status ≡ status
 status_stays before status other = let e : (status == 0) ≡ false = ne_eqb status 0 other in rw e refl
 
-status_joined : (a b c : ℕ) → status_behind (status_behind a b) c ≡ status_behind a (status_behind b c)
+status_joined : (a b c : ℕ) → combined_status (combined_status a b) c ≡ combined_status a (combined_status b c)
 status_joined a b c = by (c == 0) refl
   where
-    by : (t : Bool) → (c == 0) ≡ t → status_behind (status_behind a b) c ≡ status_behind a (status_behind b c)
+    by : (t : Bool) → (c == 0) ≡ t → combined_status (combined_status a b) c ≡ combined_status a (combined_status b c)
     by true e =
-        let left : status_behind (status_behind a b) c ≡ status_behind a b = rw e refl in
-        let inner : status_behind b c ≡ b = rw e refl in
-        left ∙ sym (ap (status_behind a) inner)
+        let left : combined_status (combined_status a b) c ≡ combined_status a b = rw e refl in
+        let inner : combined_status b c ≡ b = rw e refl in
+        left ∙ sym (ap (combined_status a) inner)
     by false e =
-        let left : status_behind (status_behind a b) c ≡ c = rw e refl in
-        let inner : status_behind b c ≡ c = rw e refl in
-        let right : status_behind a c ≡ c = rw e refl in
-        left ∙ sym (ap (status_behind a) inner ∙ right)
+        let left : combined_status (combined_status a b) c ≡ c = rw e refl in
+        let inner : combined_status b c ≡ c = rw e refl in
+        let right : combined_status a c ≡ c = rw e refl in
+        left ∙ sym (ap (combined_status a) inner ∙ right)
 
 abbrev made : Text → Text → ℕ → Page
 made out err status = record { out = out; err = err; status = status }
@@ -138,19 +138,19 @@ below_last page = ap (λ out. made out (page.err ++ []) page.status) (append-nil
 
 pub below_joined : (a b c : Page) → below (below a b) c ≡ below a (below b c)
 below_joined a b c =
-    ap (λ out. made out ((a.err ++ b.err) ++ c.err) (status_behind (status_behind a.status b.status) c.status)) (append_assoc a.out b.out c.out)
-    ∙ ap (λ err. made (a.out ++ (b.out ++ c.out)) err (status_behind (status_behind a.status b.status) c.status)) (append_assoc a.err b.err c.err)
+    ap (λ out. made out ((a.err ++ b.err) ++ c.err) (combined_status (combined_status a.status b.status) c.status)) (append_assoc a.out b.out c.out)
+    ∙ ap (λ err. made (a.out ++ (b.out ++ c.out)) err (combined_status (combined_status a.status b.status) c.status)) (append_assoc a.err b.err c.err)
     ∙ ap (made (a.out ++ (b.out ++ c.out)) (a.err ++ (b.err ++ c.err))) (status_joined a.status b.status c.status)
 
 -- two pages that were written whole, one after the other
 pub whole_more : (old mid new : Outputs) (above page : Page) (before status : ℕ) → IsWhole old mid above before → IsWhole mid new page status
-    → IsWhole old new (below above page) (status_behind before status)
+    → IsWhole old new (below above page) (combined_status before status)
 whole_more old mid new above page before status first next = record {
   out = Appends-trans _ _ _ _ _ first.out next.out;
   out_failed = next.out_failed ∙ first.out_failed;
   err = Appends-trans _ _ _ _ _ first.err next.err;
   err_failed = next.err_failed ∙ first.err_failed;
-  ends = ap (λ n. status_behind n status) first.ends ∙ ap (status_behind above.status) next.ends;
+  ends = ap (λ n. combined_status n status) first.ends ∙ ap (combined_status above.status) next.ends;
 }
 
 -- a text on the error output, after one that was written whole
@@ -198,7 +198,7 @@ fronted_out (Some number) page = refl
 -- what goes to the error output follows the number
 pub fronted_err : (line : Option ℕ) (page : Page) (byte : ℕ) (bytes : Text) → page.err ≡ byte ∷ bytes → (fronted line page).err ≡ line_front line ++ page.err
 fronted_err None page byte bytes is = refl
-fronted_err (Some number) page byte bytes is = ap (behind_front (line_front (Some number))) is ∙ ap (λ text. line_front (Some number) ++ text) (sym is)
+fronted_err (Some number) page byte bytes is = ap (after_prefix (line_front (Some number))) is ∙ ap (λ text. line_front (Some number) ++ text) (sym is)
 
 -- a text on the output is printed without it
 pub printed_shown : (line : Option ℕ) (old new : Outputs) (text : Text) (status : ℕ) → Shows old new (printed text) status → Shows old new (fronted line (printed text)) status

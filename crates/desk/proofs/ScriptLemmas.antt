@@ -10,7 +10,7 @@ use Rattle.std.specs.Borrow.{Bor}
 use Rattle.std.specs.Str.{is_utf8}
 use Rattle.clap.specs.Words.{Kinds, Text}
 use Rattle.desk.specs.Words.{status_of_kind}
-use Rattle.desk.specs.Scripts.{AreTurns, IsFirstFlaw, IsFlawOf, IsTurn, Typed}
+use Rattle.desk.specs.Scripts.{AreTurns, IsFirstFlaw, IsFlawOf, IsStep, Typed}
 use Rattle.desk.specs.declared.scripts.LineFlaw.{LineFlaw}
 use Rattle.desk.specs.declared.scripts.ScriptFault.{ScriptFault}
 use Rattle.desk.specs.declared.scripts.ScriptFault.TheVariants as script
@@ -19,7 +19,7 @@ use Rattle.desk.specs.Lexing.{IsFaultOfLine, IsFaultOfLines}
 use Rattle.desk.proofs.CourseLemmas.{next_left}
 
 -- one more line
-pub turns_more : (lines : List Typed) (turns : List ScriptStep) (line : Typed) (turn : ScriptStep) → AreTurns lines turns → IsTurn line turn → AreTurns (lines ++ line ∷ []) (turns ++ turn ∷ [])
+pub turns_more : (lines : List Typed) (turns : List ScriptStep) (line : Typed) (turn : ScriptStep) → AreTurns lines turns → IsStep line turn → AreTurns (lines ++ line ∷ []) (turns ++ turn ∷ [])
 turns_more [] turns line turn none is = (turn, [], ap (λ ts. ts ++ turn ∷ []) none, is, refl)
 turns_more (l ∷ ls) turns line turn are is = (are.0, are.1 ++ turn ∷ [], ap (λ ts. ts ++ turn ∷ []) are.2, are.3, turns_more ls are.1 line turn are.4 is)
 
@@ -62,7 +62,7 @@ module _ {X : Type 0} (f : X → Typed) where
   line_more xs i x within is = ap (map f) (take_more xs i x within) ∙ (map-append f (take i xs) (get_or xs i x ∷ []) ∙ ap (λ y. map f (take i xs) ++ f y ∷ []) (sym is))
 
   -- one more of them is a step
-  pub turns_so : (xs : List X) (i : ℕ) (x : X) (turns new : List ScriptStep) (turn : ScriptStep) → i < length xs → x ≡ get_or xs i x → AreTurns (map f (take i xs)) turns → IsTurn (f x) turn
+  pub turns_so : (xs : List X) (i : ℕ) (x : X) (turns new : List ScriptStep) (turn : ScriptStep) → i < length xs → x ≡ get_or xs i x → AreTurns (map f (take i xs)) turns → IsStep (f x) turn
       → new ≡ turns ++ turn ∷ []
       → AreTurns (map f (take (i + 1) xs)) new
   turns_so xs i x turns new turn within is so one more =

@@ -6,7 +6,7 @@ use Rattle.register.specs.declared.command.Request.{Request}
 use Rattle.tables.specs.declared.fault.Fault.TheVariants.{Memory}
 use Rattle.store.specs.Overviews.{BatchView}
 use Rattle.office.specs.Answers.{IsOpenAt}
-use Rattle.office.specs.Overviews.{batches_told}
+use Rattle.office.specs.Overviews.{batches_answer}
 use Rattle.desk.specs.Orders.{Sent, sent_as}
 use Rattle.desk.specs.Pages.{Page, failed, unsealed}
 use Rattle.desk.specs.Parts.{IsSealRead}
@@ -16,7 +16,7 @@ use Rattle.desk.specs.declared.orders.ExpectedSeal.{ExpectedSeal}
 
 -- the batches are shown, and so many papers were given out to them
 pub seal_read : {O : Type 0} (s : OfficeState) (e : ExpectedSeal) (shown : O → Page) (r : Result Request O) (n : ℕ) (views : List BatchView) (closed : Bool) (old st : State)
-    → batches_told s e.ward ≡ Ok views → n ≡ given_out views → IsOpenAt s closed st
+    → batches_answer s e.ward ≡ Ok views → n ≡ given_out views → IsOpenAt s closed st
     → IfOk r (λ request. (n ≡ e.papers) × (sent_as request ≡ seal_request e))
     → IfErr r (λ outcome. ((n ≢ e.papers) × (shown outcome ≡ unsealed n e.papers)) ⊎ (shown outcome ≡ failed (Office Memory)))
     → IsSealRead s e shown r closed old st

@@ -4,7 +4,7 @@ use Rattle.std.specs.Prelude.{◌==◌}
 use Rattle.std.proofs.KnownBytes.{Appends-nil}
 use Rattle.std.proofs.lemmas.List.{append_assoc}
 use Rattle.clap.specs.Words.{Text}
-use Rattle.desk.specs.Pages.{Cut, uncut, cut_behind, cut_error, IsShown, IsWhole, Outputs, Page, below, cut_below, empty_page, goes_on, status_behind}
+use Rattle.desk.specs.Pages.{Cut, uncut, cut_behind, cut_error, IsShown, IsWhole, Outputs, Page, below, cut_below, empty_page, goes_on, combined_status}
 use Rattle.desk.proofs.PageLemmas.{below_last, broken_ends}
 
 -- the pages so far were written whole, one after the other, with this status
@@ -27,31 +27,31 @@ not_after_fault true status three = rw three refl
 not_after_fault false status three = rw three refl
 
 -- if it continues after each of two statuses, it does after the two in sequence
-pub goes_after_both : (keep : Bool) (a b : ℕ) → goes_on keep a ≡ true → goes_on keep b ≡ true → goes_on keep (status_behind a b) ≡ true
+pub goes_after_both : (keep : Bool) (a b : ℕ) → goes_on keep a ≡ true → goes_on keep b ≡ true → goes_on keep (combined_status a b) ≡ true
 goes_after_both keep a b first last = by (b == 0) refl
   where
-    by : (t : Bool) → (b == 0) ≡ t → goes_on keep (status_behind a b) ≡ true
-    by true e = let same : status_behind a b ≡ a = rw e refl in ap (goes_on keep) same ∙ first
-    by false e = let same : status_behind a b ≡ b = rw e refl in ap (goes_on keep) same ∙ last
+    by : (t : Bool) → (b == 0) ≡ t → goes_on keep (combined_status a b) ≡ true
+    by true e = let same : combined_status a b ≡ a = rw e refl in ap (goes_on keep) same ∙ first
+    by false e = let same : combined_status a b ≡ b = rw e refl in ap (goes_on keep) same ∙ last
 
-pub goes_after_last : (keep : Bool) (a b : ℕ) → goes_on keep (status_behind a b) ≡ true → goes_on keep b ≡ true
+pub goes_after_last : (keep : Bool) (a b : ℕ) → goes_on keep (combined_status a b) ≡ true → goes_on keep b ≡ true
 goes_after_last keep a b both = by (b == 0) refl
   where
     by : (t : Bool) → (b == 0) ≡ t → goes_on keep b ≡ true
     by true e = rw e refl
-    by false e = let same : status_behind a b ≡ b = rw e refl in ap (goes_on keep) (sym same) ∙ both
+    by false e = let same : combined_status a b ≡ b = rw e refl in ap (goes_on keep) (sym same) ∙ both
 
 -- it continues after 0
 pub goes_after_zero : (keep : Bool) (status : ℕ) → status ≡ 0 → goes_on keep status ≡ true
 goes_after_zero keep status zero = rw zero refl
 
 -- if the status after two pages is 0, so is that of the last
-pub zero_last : (a b : ℕ) → status_behind a b ≡ 0 → b ≡ 0
+pub zero_last : (a b : ℕ) → combined_status a b ≡ 0 → b ≡ 0
 zero_last a b both = by (b == 0) refl
   where
     by : (t : Bool) → (b == 0) ≡ t → b ≡ 0
     by true e = eqb-true b 0 e
-    by false e = let same : status_behind a b ≡ b = rw e refl in sym same ∙ both
+    by false e = let same : combined_status a b ≡ b = rw e refl in sym same ∙ both
 
 -- if it doesn't continue, the status isn't 0
 pub stops_by : (keep : Bool) (status : ℕ) → goes_on keep status ≡ false → status ≢ 0

@@ -13,11 +13,11 @@ use Rattle.tables.specs.Presence.{IsOurs, has_some_table}
 use Rattle.tables.specs.Reading.{FailsBy, FailsToList, OnlyReads}
 use Rattle.tables.specs.declared.fault.Fault.{Fault}
 use Rattle.store.specs.Copies.{LeavesNoneOrAll, holdings_of}
-use Rattle.store.specs.declared.copying.Holdings.{Holdings}
+use Rattle.store.specs.declared.copying.OfficeCounts.{OfficeCounts}
 use Rattle.store.specs.declared.copying.CopyFault.{CopyFault}
 use Rattle.store.specs.declared.copying.CopyFault.TheVariants as uncopied
 use Rattle.store.specs.StateTables.{IsAt, LeavesState, StoresState}
-use Rattle.store.specs.Openings.{HoldsNoState, IsBlank, IsLeftAt, IsToldBy}
+use Rattle.store.specs.Openings.{HoldsNoState, IsBlank, IsLeftAt, IsFaultOf}
 use Rattle.desk.specs.declared.copying.CopyState.{CopyState}
 use Rattle.desk.specs.declared.copying.CopyState.TheVariants.{Whole, Untouched, Unknown}
 use Rattle.desk.specs.Pages.{Page, failed, replied}
@@ -25,7 +25,7 @@ use Rattle.desk.specs.declared.lines.Failure.{Failure}
 use Rattle.desk.specs.declared.lines.Failure.TheVariants.{Office, CopyTaken, CopyFailed, Output, BeingServed, FileGone}
 
 -- the line that says how much a copy contains
-unfoldable pub copied_text : Holdings → Text
+unfoldable pub copied_text : OfficeCounts → Text
 copied_text h =
     codes "copied " ++ (decimal h.wards ++ (codes " wards, " ++ (decimal h.batches ++ (codes " batches, "
     ++ (decimal h.keyings ++ (codes " keyings, " ++ (decimal h.receipts ++ codes " receipts")))))))
@@ -49,7 +49,7 @@ state_behind (uncopied.Copy fault) = Unknown
 -- written; or a stop leaves what it could leave before, or a complete office.
 abbrev pub HoldsCopy : CopyState → Page → State → State → Type 0
 HoldsCopy Whole page copy_old copy_new =
-    (h : Holdings) × (page ≡ replied (copied_text h)) × (HasCleanDisk copy_new → IsBlank copy_old → (s : OfficeState) × (h ≡ holdings_of s) × IsAt s copy_new)
+    (h : OfficeCounts) × (page ≡ replied (copied_text h)) × (HasCleanDisk copy_new → IsBlank copy_old → (s : OfficeState) × (h ≡ holdings_of s) × IsAt s copy_new)
 HoldsCopy Untouched page copy_old copy_new = (failure : Failure) × (page ≡ failed failure) × OnlyReads copy_old copy_new
 HoldsCopy Unknown page copy_old copy_new =
     (failure : Failure) × (page ≡ failed failure)
@@ -67,7 +67,7 @@ IsCopiedAt s page left old new copy_old copy_new =
 pub record IsNoneCopied (db : Database) (page : Page) (left : CopyState) (old new : State) : Type 0 where
   pub fault : Fault
   pub told : page ≡ failed (Office fault)
-  pub given : IsToldBy db fault
+  pub given : IsFaultOf db fault
   pub cause : FailsToList db old new fault
   pub untouched : left ≡ Untouched
 

@@ -6,11 +6,11 @@ use Rattle.register.specs.{Machine.after, Machine.after_one, Machine.is_accepted
 use Rattle.tables.specs.{Contents.RestsAt, Contents.Stores, Presence.IsOurs, Presence.IsOlderSchema, Presence.has_some_table, Reading.FailsBy, Reading.FailsToList, Reading.OnlyReads}
 use Rattle.tables.specs.declared.fault.Fault.{Fault, TheVariants.WrongDatabase}
 use Rattle.store.specs.StateTables.{IsAt, LeavesState, tables_of}
-use Rattle.store.specs.{Openings.HoldsNoState, Openings.IsBlank, Openings.IsLeftAt, Openings.IsToldBy, declared.older.OlderForm.OlderForm}
+use Rattle.store.specs.{Openings.HoldsNoState, Openings.IsBlank, Openings.IsLeftAt, Openings.IsFaultOf, declared.older.OlderForm.OlderForm}
 use Rattle.store.specs.Migrations.{HoldsNoOlder, IsToldInMigration, LeavesOldOrNew, RestsOlder}
 use Rattle.store.specs.declared.migration.Migrated.TheVariants.{Already, Done}
 use Rattle.office.specs.{Answers.IsClosedIn, Answers.IsKeptOpen, Answers.IsMemoryOrStore, Answers.IsOpenAt, Answers.Told, Answers.told_of, Reads.IsClosedReading, Runs.Keeps}
-use Rattle.desk.specs.{Folders.File, Folders.Folder, Folders.IsFileAt, Requests.Sends, Requests.file_of, Scripts.HasTurns, Scripts.keeps_going, Told.IsNoScript, Told.IsTold, Told.page_answered}
+use Rattle.desk.specs.{Folders.File, Folders.Folder, Folders.IsFileAt, Requests.Sends, Requests.file_of, Scripts.HasSteps, Scripts.keeps_going, Told.IsNoScript, Told.IsTold, Told.page_answered}
 use Rattle.desk.specs.Pages.{Cut, Page, below, cut_below, empty_page, failed, fronted, goes_on, migrated_text, replied, uncut}
 use Rattle.desk.specs.declared.{lines.Failure.TheVariants.Office, orders.Job.Job, orders.Task.Task, scripts.ScriptStep.ScriptStep}
 use Rattle.desk.specs.declared.orders.Task.TheVariants as task
@@ -77,7 +77,7 @@ module _ (old : State) (closed : Bool) (st : State) where
 
   -- A job is done in the open office: its steps are run, with `keep_going` past refusals. Or the page says why its text isn't a script. Or the page has a fault.
   abbrev pub IsDone : Folder → OfficeState → Job → Course → Type 0
-  IsDone folder s job course = ((turns : List ScriptStep) × HasTurns folder job turns
+  IsDone folder s job course = ((turns : List ScriptStep) × HasSteps folder job turns
       × IsPlayed (keeps_going job) folder s turns course) ⊎ IsUnsent false None (IsNoScript folder job) (λ rest. ⊥) s course
 
 -- Nothing is sent, and a stop leaves the state as it was.
@@ -118,7 +118,7 @@ abbrev pub Elsewhere : Task → Page → State → State → Type 0
 Elsewhere task.Init page old new = Makes page old new
 Elsewhere task.Migrate page old new = BringsOver page old new
 Elsewhere (task.InOffice job) page old new = (db : Database) → IsOurs db.schema → RestsAt db old → HoldsNoState db
-    → IsFailed (λ fault. IsToldBy db fault × FailsToList db old new fault) page × OnlyReads old new
+    → IsFailed (λ fault. IsFaultOf db fault × FailsToList db old new fault) page × OnlyReads old new
 
 -- The outcome of a task on any connection: the page, how much of it was written, and the exit status.
 pub record Headline (folder : Folder) (task : Task) (cut : Cut) (page : Page) (ends : ℕ) (old new : State) : Type 0 where

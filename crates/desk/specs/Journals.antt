@@ -10,7 +10,7 @@ use Rattle.tables.specs.Contents.{RestsAt}
 use Rattle.tables.specs.Presence.{IsOurs}
 use Rattle.tables.specs.Reading.{FailsToList, OnlyReads}
 use Rattle.store.specs.StateTables.{LeavesState}
-use Rattle.store.specs.Openings.{HoldsNoState, IsBlank, IsLeftAt, IsToldBy}
+use Rattle.store.specs.Openings.{HoldsNoState, IsBlank, IsLeftAt, IsFaultOf}
 use Rattle.office.specs.Answers.{IsMemoryOrStore}
 use Rattle.office.specs.Runs.{LeadTo}
 use Rattle.desk.specs.Headline.{IsFailed}
@@ -39,7 +39,7 @@ IsJournalTold s page = ((text : Text) × (page ≡ printed text) × IsJournalOf 
 
 -- The page if the database of its connection contains no office: the fault for the database, with its cause.
 abbrev pub IsToldElsewhere : Page → State → State → Type 0
-IsToldElsewhere page old new = (db : Database) → IsOurs db.schema → RestsAt db old → HoldsNoState db → IsFailed (λ fault. IsToldBy db fault × FailsToList db old new fault) page
+IsToldElsewhere page old new = (db : Database) → IsOurs db.schema → RestsAt db old → HoldsNoState db → IsFailed (λ fault. IsFaultOf db fault × FailsToList db old new fault) page
 
 -- The outcome of the order, by the database of its own connection. Suppose that this is an office, and that the other connection has an empty database, whose disk is
 -- clean after the journal was replayed in it. Then the page has a journal of the office, or says why there is none. The order's own office is only read, and a stop

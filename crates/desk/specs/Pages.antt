@@ -18,20 +18,22 @@ use Rattle.codes.specs.declared.fault.CodesFault.{CodesFault}
 use Rattle.keyfile.specs.Faults.{flaw_number, flaw_text, is_stop}
 use Rattle.keyfile.specs.declared.fault.FileFault.{FileFault}
 use Rattle.office.specs.Answers.{Told, again, done, no}
-use Rattle.office.specs.declared.answers.Stop.{Stop}
-use Rattle.office.specs.declared.answers.Stop.TheVariants.{Refused, Fault}
+use Rattle.office.specs.declared.answers.ReadError.{ReadError}
+use Rattle.office.specs.declared.answers.ReadError.TheVariants.{Refused, Fault}
 use Rattle.store.specs.declared.copying.CopyFault.{CopyFault}
 use Rattle.store.specs.declared.copying.CopyFault.TheVariants as uncopied
 use Rattle.store.specs.declared.migration.Migrated.{Migrated}
 use Rattle.store.specs.declared.migration.Migrated.TheVariants.{Done, Already}
 use Rattle.desk.specs.Scripts.{line_flaw_text}
-use Rattle.desk.specs.Words.{bad_digest, bad_origin, bad_title}
+use Rattle.desk.specs.Words.{bad_digest, bad_form, bad_origin, bad_title}
 use Rattle.desk.specs.declared.scripts.ScriptFault.{ScriptFault}
 use Rattle.desk.specs.declared.scripts.ScriptFault.TheVariants as script
 use Rattle.desk.specs.declared.lines.Failure.{Failure}
 use Rattle.desk.specs.declared.lines.Failure.TheVariants.{Office, Output, CopyTaken, CopyFailed, BeingServed, FileGone}
 use Rattle.desk.specs.declared.words.WordsFault.{WordsFault}
 use Rattle.desk.specs.declared.words.WordsFault.TheVariants as words
+use Rattle.desk.specs.declared.lines.NoForm.{NoForm}
+use Rattle.desk.specs.declared.lines.NoForm.TheVariants as no_form
 use Rattle.desk.specs.declared.lines.LineOutcome.{LineOutcome}
 use Rattle.desk.specs.declared.lines.LineOutcome.TheVariants as outcome
 
@@ -151,6 +153,15 @@ unsealed given_out expected = record {
   status = 1;
 }
 
+-- why there is no form, in words
+abbrev pub no_form_text : NoForm → Text
+no_form_text no_form.NoLot = codes "no lot is due"
+no_form_text no_form.Undeclared = codes "the ward is not declared"
+
+-- that there is no form
+abbrev pub unformed : NoForm → Page
+unformed why = record { out = []; err = joined (codes "no form: " ∷ no_form_text why ∷ codes "\n" ∷ []); status = 1 }
+
 -- the note that a request was accepted before, and that its content now had no effect
 abbrev pub note_line : Text → Text
 note_line id = joined (codes "note: " ∷ id ∷ codes " was kept before with other words; nothing was changed\n" ∷ [])
@@ -188,7 +199,7 @@ page_found page (Ok x) = page x
 page_found page (Err why) = refused why
 
 -- why nothing was found: a refusal, or a fault
-abbrev pub page_stopped : Stop → Page
+abbrev pub page_stopped : ReadError → Page
 page_stopped (Refused why) = refused why
 page_stopped (Fault fault) = failed (Office fault)
 
@@ -212,6 +223,7 @@ page_of (outcome.Failed fault) = failed (Office fault)
 page_of (outcome.Uncopied why) = failed (failure_of why)
 page_of outcome.Unjournalled = unjournalled
 page_of (outcome.Unsealed given_out expected) = unsealed given_out expected
+page_of (outcome.Unformed why) = unformed why
 
 -- why words aren't an order: help goes to the output, and what isn't understood to the error output
 abbrev pub words_page : WordsFault → Page
@@ -219,6 +231,7 @@ words_page words.Memory = failed (Office fault.Memory)
 words_page words.Origin = record { out = []; err = bad_origin; status = 2 }
 words_page words.Digest = record { out = []; err = bad_digest; status = 2 }
 words_page words.TitleAlone = record { out = []; err = bad_title; status = 2 }
+words_page words.Form = record { out = []; err = bad_form; status = 2 }
 words_page words.Verdict = record { out = []; err = codes "bad verdict word\n"; status = 2 }
 words_page (words.Words text status) = if status == 0 then printed (string_bytes text) else record { out = []; err = string_bytes text; status = status }
 
@@ -230,14 +243,14 @@ line_front None = []
 line_front (Some number) = joined (codes "line " ∷ decimal number ∷ codes ": " ∷ [])
 
 -- a text after a prefix, if it isn't empty
-abbrev pub behind_front : Text → Text → Text
-behind_front front [] = []
-behind_front front (byte ∷ bytes) = front ++ (byte ∷ bytes)
+abbrev pub after_prefix : Text → Text → Text
+after_prefix front [] = []
+after_prefix front (byte ∷ bytes) = front ++ (byte ∷ bytes)
 
 -- a page; if it is that of a script's line, its number precedes what goes to the error output
 abbrev pub fronted : Option ℕ → Page → Page
 fronted None page = page
-fronted (Some number) page = record { out = page.out; err = behind_front (line_front (Some number)) page.err; status = page.status }
+fronted (Some number) page = record { out = page.out; err = after_prefix (line_front (Some number)) page.err; status = page.status }
 
 -- why a text isn't a script
 abbrev pub script_page : ScriptFault → Page
@@ -251,12 +264,12 @@ abbrev pub goes_on : Bool → ℕ → Bool
 goes_on keep status = status == 0 || (keep && status == 1)
 
 -- the status after one more page: the last one other than 0
-abbrev pub status_behind : ℕ → ℕ → ℕ
-status_behind before status = if status == 0 then before else status
+abbrev pub combined_status : ℕ → ℕ → ℕ
+combined_status before status = if status == 0 then before else status
 
 -- a page after another one
 abbrev pub below : Page → Page → Page
-below above page = record { out = above.out ++ page.out; err = above.err ++ page.err; status = status_behind above.status page.status }
+below above page = record { out = above.out ++ page.out; err = above.err ++ page.err; status = combined_status above.status page.status }
 
 -- ---- a text that is written to one output
 

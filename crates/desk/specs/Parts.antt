@@ -8,8 +8,8 @@ use Rattle.register.specs.declared.command.Request.{Request}
 use Rattle.register.specs.declared.refusal.Reason.{Reason}
 use Rattle.tables.specs.declared.fault.Fault.TheVariants.{Memory}
 use Rattle.office.specs.Answers.{IsOpenAt}
-use Rattle.office.specs.Overviews.{batches_told}
-use Rattle.office.specs.Reads.{columns_told}
+use Rattle.office.specs.Overviews.{batches_answer}
+use Rattle.office.specs.Reads.{columns_answer}
 use Rattle.keyfile.specs.Files.{Format}
 use Rattle.desk.specs.Folders.{File}
 use Rattle.desk.specs.Headline.{Course, IsAnswered, IsSent, IsStopped, ended}
@@ -59,10 +59,10 @@ IsUnreadScript page = (page ≡ unopened) ⊎ (page ≡ failed (Office Memory))
 
 -- the keying of a batch in a file, at a state; or why there is none
 abbrev pub IsKeyingRead : {O : Type 0} → OfficeState → KeyingFile → File → (O → Page) → Result Request O → Bool → State → State → Type 0
-IsKeyingRead s k file page_of (Ok request) closed old st = HoldsKeying (columns_told s k.batch) k file (request ∷ []) × IsOpenAt s closed st
-IsKeyingRead s k file page_of (Err outcome) closed old st = (IsRefusedKeying (columns_told s k.batch) k file (page_of outcome) × IsOpenAt s closed st) ⊎ IsStopped old closed st s (page_of outcome)
+IsKeyingRead s k file page_of (Ok request) closed old st = HoldsKeying (columns_answer s k.batch) k file (request ∷ []) × IsOpenAt s closed st
+IsKeyingRead s k file page_of (Err outcome) closed old st = (IsRefusedKeying (columns_answer s k.batch) k file (page_of outcome) × IsOpenAt s closed st) ⊎ IsStopped old closed st s (page_of outcome)
 
 -- the seal of a ward of which so many papers are expected, at a state; or why it isn't sent
 abbrev pub IsSealRead : {O : Type 0} → OfficeState → ExpectedSeal → (O → Page) → Result Request O → Bool → State → State → Type 0
 IsSealRead s e page_of (Ok request) closed old st = IsSealSent s e (request ∷ []) × IsOpenAt s closed st
-IsSealRead s e page_of (Err outcome) closed old st = (IsUnsealed (batches_told s e.ward) e.papers (page_of outcome) × IsOpenAt s closed st) ⊎ IsStopped old closed st s (page_of outcome)
+IsSealRead s e page_of (Err outcome) closed old st = (IsUnsealed (batches_answer s e.ward) e.papers (page_of outcome) × IsOpenAt s closed st) ⊎ IsStopped old closed st s (page_of outcome)

@@ -9,7 +9,7 @@ use Rattle.register.specs.Offices.{OfficeState}
 use Rattle.register.specs.Ranges.{last_lot_stage}
 use Rattle.register.specs.declared.command.Request.{Request}
 use Rattle.register.specs.declared.refusal.Reason.{Reason}
-use Rattle.office.specs.Reads.{columns_told}
+use Rattle.office.specs.Reads.{columns_answer}
 use Rattle.keyfile.specs.Batches.{BatchRowEntry, batches}
 use Rattle.keyfile.specs.Candidates.{CandidateEntry, candidates}
 use Rattle.keyfile.specs.Digests.{asked_digest}
@@ -129,6 +129,6 @@ Sends s (errand.Send request) file requests = map sent_as requests ≡ sent_as r
 Sends s (errand.ImportCandidates path id digest) file requests = HoldsRequests candidates (requests_for candidate_asked id.now) (asked_digest digest) file requests
 Sends s (errand.ImportBatches path id digest) file requests = HoldsRequests batches (requests_for batch_asked id.now) (asked_digest digest) file requests
 Sends s (errand.SealExpected seal) file requests = IsSealSent s seal requests
-Sends s (errand.ImportKeying keying) file requests = HoldsKeying (columns_told s keying.batch) keying file requests
+Sends s (errand.ImportKeying keying) file requests = HoldsKeying (columns_answer s keying.batch) keying file requests
 Sends s (errand.Count ward id) file requests = AreAdvances s ward id.now 1 requests
 Sends s other file requests = ⊥

@@ -5,8 +5,8 @@ use Rattle.std.specs.List.{list_all, list_any}
 use Rattle.std.specs.Str.{is_utf8}
 use Rattle.clap.specs.Words.{Text, subcommand_of}
 use Rattle.desk.specs.Folders.{File, Folder, HoldsText, IsFileAt}
-use Rattle.desk.specs.Orders.{no_digest, no_origin, no_verdict, title_alone, told}
-use Rattle.desk.specs.Words.{IsToldOf, bad_digest, bad_origin, bad_title, meaning, office_words, status_of_kind, wrong_with}
+use Rattle.desk.specs.Orders.{no_digest, no_form, no_origin, no_verdict, title_alone, told}
+use Rattle.desk.specs.Words.{IsToldOf, bad_digest, bad_form, bad_origin, bad_title, meaning, office_words, status_of_kind, wrong_with}
 use Rattle.desk.specs.declared.orders.Errand.{Errand}
 use Rattle.desk.specs.declared.orders.Errand.TheVariants as errand
 use Rattle.desk.specs.declared.orders.Order.{Order}
@@ -140,9 +140,9 @@ sends_requests (errand.Count ward id) = true
 sends_requests other = false
 
 -- whether an order can be in a script: its errand sends requests
-abbrev pub stands_in_script : Order → Bool
-stands_in_script (order.Perform (task.InOffice (job.Run errand))) = sends_requests errand
-stands_in_script other = false
+abbrev pub is_allowed_in_script : Order → Bool
+is_allowed_in_script (order.Perform (task.InOffice (job.Run errand))) = sends_requests errand
+is_allowed_in_script other = false
 
 -- the words are those of an order that can be in a script, and this is its errand
 pub record Means (words : List Text) (errand : Errand) : Type 0 where
@@ -151,19 +151,19 @@ pub record Means (words : List Text) (errand : Errand) : Type 0 where
   pub sends : sends_requests errand ≡ true
 
 -- a line is this step
-pub record IsTurn (line : Typed) (turn : ScriptStep) : Type 0 where
+pub record IsStep (line : Typed) (turn : ScriptStep) : Type 0 where
   pub line_number : turn.line ≡ Some line.number
   pub means : IsOkAnd line.words (λ words. Means words turn.errand)
 
 -- the lines are these steps, one each
 abbrev pub AreTurns : List Typed → List ScriptStep → Type 0
 AreTurns [] turns = turns ≡ []
-AreTurns (line ∷ lines) turns = (turn : ScriptStep) × (others : List ScriptStep) × (turns ≡ turn ∷ others) × IsTurn line turn × AreTurns lines others
+AreTurns (line ∷ lines) turns = (turn : ScriptStep) × (others : List ScriptStep) × (turns ≡ turn ∷ others) × IsStep line turn × AreTurns lines others
 
 -- the steps of a job: an errand alone is one step, without a line; the steps of a script are the errands that its lines mean
-abbrev pub HasTurns : Folder → Job → List ScriptStep → Type 0
-HasTurns folder (job.Run errand) turns = turns ≡ record { line = None; errand = errand } ∷ []
-HasTurns folder (job.Replay path keep_going) turns = (file : File) × IsFileAt folder (Some path.now) file × HoldsText file (λ text. AreTurns (script_lines text) turns)
+abbrev pub HasSteps : Folder → Job → List ScriptStep → Type 0
+HasSteps folder (job.Run errand) turns = turns ≡ record { line = None; errand = errand } ∷ []
+HasSteps folder (job.Replay path keep_going) turns = (file : File) × IsFileAt folder (Some path.now) file × HoldsText file (λ text. AreTurns (script_lines text) turns)
 
 -- whether a job continues after refusals: a script does if it is to keep going
 abbrev pub keeps_going : Job → Bool
@@ -180,21 +180,23 @@ line_flaw_text flaw.Verdict = codes "bad verdict word\n"
 line_flaw_text flaw.Origin = bad_origin
 line_flaw_text flaw.Digest = bad_digest
 line_flaw_text flaw.TitleAlone = bad_title
+line_flaw_text flaw.Form = bad_form
 line_flaw_text (flaw.Words text) = string_bytes text
-line_flaw_text flaw.Elsewhere = codes "error: this order stands in no script\n"
+line_flaw_text flaw.Elsewhere = codes "error: this order can't be used in a script\n"
 
--- what is wrong with its words. Though `clap` accepts them, the word of a verdict, an origin or a digest is invalid, or a title is given for nothing. Or it is what `clap`
--- says of them. Or the order can't be in a script, such as one that asks for help.
+-- what is wrong with its words. Though `clap` accepts them, the word of a verdict, an origin or a digest is invalid, a title is given for nothing, or words name no form. Or
+-- it is what `clap` says of them. Or the order can't be in a script, such as one that asks for help.
 abbrev pub IsFlawOfWords : List Text → LineFlaw → Type 0
 IsFlawOfWords words (flaw.NoWords why) = ⊥
 IsFlawOfWords words flaw.Verdict = (wrong_with words ≡ []) × (meaning (subcommand_of office_words words) ≡ Some no_verdict)
 IsFlawOfWords words flaw.Origin = (wrong_with words ≡ []) × (meaning (subcommand_of office_words words) ≡ Some no_origin)
 IsFlawOfWords words flaw.Digest = (wrong_with words ≡ []) × (meaning (subcommand_of office_words words) ≡ Some no_digest)
 IsFlawOfWords words flaw.TitleAlone = (wrong_with words ≡ []) × (meaning (subcommand_of office_words words) ≡ Some title_alone)
+IsFlawOfWords words flaw.Form = (wrong_with words ≡ []) × (meaning (subcommand_of office_words words) ≡ Some no_form)
 IsFlawOfWords words (flaw.Words text) = (status : ℕ) × (status ≢ 0) × IsToldOf (wrong_with words) (words_fault.Words text status)
 IsFlawOfWords words flaw.Elsewhere =
     (list_any (λ kind. status_of_kind kind == 0) (wrong_with words) ≡ true)
-    ⊎ ((o : Order) × (meaning (subcommand_of office_words words) ≡ Some (told o)) × (stands_in_script o ≡ false))
+    ⊎ ((o : Order) × (meaning (subcommand_of office_words words) ≡ Some (told o)) × (is_allowed_in_script o ≡ false))
 
 -- what is wrong with a line
 abbrev pub IsFlawOf : Result (List Text) Garbled → LineFlaw → Type 0
@@ -204,4 +206,4 @@ IsFlawOf (Ok words) found = IsFlawOfWords words found
 -- this is wrong with the line of some number, and nothing is with those before it
 abbrev pub IsFirstFlaw : List Typed → ℕ → LineFlaw → Type 0
 IsFirstFlaw [] k found = ⊥
-IsFirstFlaw (line ∷ lines) k found = ((line.number ≡ k) × IsFlawOf line.words found) ⊎ ((turn : ScriptStep) × IsTurn line turn × IsFirstFlaw lines k found)
+IsFirstFlaw (line ∷ lines) k found = ((line.number ≡ k) × IsFlawOf line.words found) ⊎ ((turn : ScriptStep) × IsStep line turn × IsFirstFlaw lines k found)

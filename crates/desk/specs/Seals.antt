@@ -5,7 +5,7 @@ use Rattle.register.specs.Offices.{OfficeState}
 use Rattle.register.specs.declared.command.Request.{Request}
 use Rattle.register.specs.declared.refusal.Reason.{Reason}
 use Rattle.store.specs.Overviews.{BatchView}
-use Rattle.office.specs.Overviews.{batches_told}
+use Rattle.office.specs.Overviews.{batches_answer}
 use Rattle.desk.specs.Orders.{Sent, by_office, sent_as, ward_to_seal}
 use Rattle.desk.specs.Pages.{Page, refused, unsealed}
 use Rattle.desk.specs.declared.orders.ExpectedSeal.{ExpectedSeal}
@@ -25,7 +25,7 @@ AreAsExpected (Err why) papers = ⊥
 
 -- the requests are the seal's, if as many papers as expected were given out
 abbrev pub IsSealSent : OfficeState → ExpectedSeal → List Request → Type 0
-IsSealSent s e requests = AreAsExpected (batches_told s e.ward) e.papers × (map sent_as requests ≡ seal_request e ∷ [])
+IsSealSent s e requests = AreAsExpected (batches_answer s e.ward) e.papers × (map sent_as requests ≡ seal_request e ∷ [])
 
 -- why the seal isn't sent: more or fewer papers were given out than expected; or the batches of the ward aren't shown, for this reason
 abbrev pub IsUnsealed : Result (List BatchView) Reason → ℕ → Page → Type 0

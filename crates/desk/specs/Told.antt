@@ -4,10 +4,10 @@ use Rattle.register.specs.Offices.{OfficeState}
 use Rattle.register.specs.declared.command.Request.{Request}
 use Rattle.register.specs.declared.refusal.Reason.{Reason}
 use Rattle.office.specs.Answers.{Told}
-use Rattle.office.specs.Reads.{columns_told, next_told, status_told}
-use Rattle.office.specs.Index.{index_told}
-use Rattle.office.specs.Overviews.{batches_told}
-use Rattle.office.specs.Sheets.{text_told}
+use Rattle.office.specs.Reads.{columns_answer, next_answer, status_answer}
+use Rattle.office.specs.Index.{index_answer}
+use Rattle.office.specs.Overviews.{batches_answer}
+use Rattle.office.specs.Sheets.{text_answer}
 use Rattle.keyfile.specs.Batches.{batches}
 use Rattle.keyfile.specs.Candidates.{candidates}
 use Rattle.keyfile.specs.Digests.{IsFaultBy, asked_digest}
@@ -57,13 +57,13 @@ abbrev pub IsTold : OfficeState → Errand → File → Page → Type 0
 IsTold s (errand.Send request) file page = ⊥
 IsTold s (errand.ImportCandidates path id digest) file page = IsRefusedFile candidates (asked_digest digest) file page
 IsTold s (errand.ImportBatches path id digest) file page = IsRefusedFile batches (asked_digest digest) file page
-IsTold s (errand.SealExpected seal) file page = IsUnsealed (batches_told s seal.ward) seal.papers page
-IsTold s (errand.ImportKeying k) file page = IsRefusedKeying (columns_told s k.batch) k file page
+IsTold s (errand.SealExpected seal) file page = IsUnsealed (batches_answer s seal.ward) seal.papers page
+IsTold s (errand.ImportKeying k) file page = IsRefusedKeying (columns_answer s k.batch) k file page
 IsTold s (errand.Count ward id) file page = ⊥
-IsTold s (errand.TellNext ward) file page = page ≡ page_found (λ step. replied (step_text ward step)) (next_told s ward)
-IsTold s (errand.TellStatus ward) file page = page ≡ page_found (λ status. replied (status_text status)) (status_told s ward)
-IsTold s (errand.Print ward text) file page = page ≡ page_found printed (text_told text s ward)
-IsTold s (errand.PrintIndex title) file page = page ≡ page_found printed (index_told title.now s)
+IsTold s (errand.PrintNext ward) file page = page ≡ page_found (λ step. replied (step_text ward step)) (next_answer s ward)
+IsTold s (errand.PrintStatus ward) file page = page ≡ page_found (λ status. replied (status_text status)) (status_answer s ward)
+IsTold s (errand.Print ward text) file page = page ≡ page_found printed (text_answer text s ward)
+IsTold s (errand.PrintIndex title) file page = page ≡ page_found printed (index_answer title.now s)
 IsTold s (errand.Ask question) file page = page ≡ page_asked s question
 
 -- why a file is refused as a script: it can't be opened or read, or this is wrong with the first line that isn't understood

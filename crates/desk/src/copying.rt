@@ -12,7 +12,7 @@ ghost use Rattle.desk.specs.Copying.{HoldsCopy, IsCopied, IsCopiedOpen, copied_t
 ghost use Rattle.desk.specs.Pages.{Tells, closed_page, outputs_of, page_of};
 
 use crate::lines::{LineOutcome, tell};
-use office::{Holdings, Office};
+use office::{Office, OfficeCounts};
 use sqlite::{Alter, Connection};
 use std::alloc::{AllocError, Global};
 use store::{CopyFault, Fault};
@@ -20,7 +20,7 @@ use streams::Sink;
 
 #[tactic(auto, unfolding(crate::specs::Copying::copied_text))]
 /// Returns how much a copy contains, as a line without its end.
-fn copied_text(alloc: Global, holdings: Holdings) -> Result<String, AllocError>
+fn copied_text(alloc: Global, holdings: OfficeCounts) -> Result<String, AllocError>
     ensures { IfOk result (λ text. string_bytes text ≡ copied_text holdings) }
 {
     let (wards, batches) = (holdings.wards, holdings.batches);

@@ -19,7 +19,7 @@ use streams::Sink;
 
 /// Returns the outcome of a request for one more stage that was refused. That the count rests is a reply. After the first request, a
 /// ward in another phase is one that was declared meanwhile.
-fn at_rest(is_first: bool, refusal: Refusal) -> LineOutcome
+fn outcome_of_refused_stage(is_first: bool, refusal: Refusal) -> LineOutcome
     ensures { page_of result ≡ page_at_rest is_first refusal }
 {
     match refusal.reason() {
@@ -45,7 +45,7 @@ fn stage_of<S: Alter>(
     match office.handle(request.actor, request.id.as_str(), &request.command) {
         Ok(Answer::Done(reply)) => (LineOutcome::Replied(reply), true),
         Ok(Answer::Kept(reply)) => (LineOutcome::Replied(reply), true),
-        Ok(Answer::Refused(refusal)) => (at_rest(is_first, refusal), false),
+        Ok(Answer::Refused(refusal)) => (outcome_of_refused_stage(is_first, refusal), false),
         Err(fault) => (LineOutcome::Failed(fault), false),
     }
 }

@@ -16,7 +16,7 @@ use crate::lines::LineOutcome;
 use crate::orders::KeyingFile;
 use crate::requests::{keying_request, requests_for};
 use keyfile::{FileDigest, FileFault, Flaw, read_batches, read_candidates, read_keying};
-use office::{Office, Stop};
+use office::{Office, ReadError};
 use paper::Columns;
 use register::Request;
 use sqlite::Alter;
@@ -121,7 +121,7 @@ pub(crate) fn keying_of<S: Alter, R: Read + Drop>(
 {
     match office.columns(keyed.batch) {
         Ok(columns) => keying_in(alloc, keyed, columns, file),
-        Err(Stop::Refused(refusal)) => Err(LineOutcome::Refused(refusal)),
-        Err(Stop::Fault(fault)) => Err(LineOutcome::Failed(fault)),
+        Err(ReadError::Refused(refusal)) => Err(LineOutcome::Refused(refusal)),
+        Err(ReadError::Fault(fault)) => Err(LineOutcome::Failed(fault)),
     }
 }

@@ -15,7 +15,7 @@ ghost use Rattle.desk.specs.Pages.{Tells, closed_page, outputs_of, page_of};
 use crate::journal::journal_text;
 use crate::lines::{LineOutcome, tell};
 use crate::orders::Errand;
-use crate::scripts::{ScriptFault, ScriptStep, all_said, lines_in, turns_in};
+use crate::scripts::{ScriptFault, ScriptStep, lines_in, script_steps, typed_lines};
 use office::Office;
 use register::Request;
 use rowcheck::Rows;
@@ -54,8 +54,8 @@ fn requests_in(alloc: Global, text: &str) -> Result<Option<Vec<Request>>, AllocE
     ensures { IfOk result (λ found. IfSome found (λ requests. IsScriptOf text.now requests.items)) }
 {
     let lines = lines_in(alloc, text.as_bytes())?;
-    let said = all_said(alloc, &lines)?;
-    match turns_in(alloc, &said) {
+    let said = typed_lines(alloc, &lines)?;
+    match script_steps(alloc, &said) {
         Ok(turns) => requests_of(alloc, turns),
         Err(ScriptFault::Memory) => Err(AllocError),
         Err(ScriptFault::ScriptLine(_, _)) => Ok(None),

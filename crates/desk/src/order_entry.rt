@@ -77,7 +77,7 @@ pub(crate) const WARD: Word = word!(Number "WARD", "The ward's number, 1 to 99")
 pub(crate) const SEATS: Word = word!(Number "SEATS", "How many candidates it elects, 1 to 15");
 
 pub(crate) const NAME: Word =
-    word!(Text "NAME", "The name, 1 to 120 bytes of UTF-8; in quotes where it has spaces");
+    word!(Text "NAME", "The name, 1 to 120 bytes of UTF-8; in quotes if it contains spaces");
 
 pub(crate) const CANDIDATE: Word =
     word!(Number "CANDIDATE", "The candidate's number in the ward, 1 to 30");
@@ -95,39 +95,48 @@ pub(crate) const SECOND_CLERK: Word =
 pub(crate) const CLERK: Word = word!(Number "CLERK", "The clerk who keys it, 1 to 999");
 
 pub(crate) const ACTOR: Word =
-    word!(NumberOrNone "ACTOR", "Whose receipts, a clerk's number, 1 to 999, or 0 for the office;\nleft out, those of all");
+    word!(NumberOrNone "ACTOR", "Whose receipts, a clerk's number, 1 to 999, or 0 for the office;\nwithout it, those of all");
 
 pub(crate) const ROUND: Word =
     word!(Number "ROUND", "The round that the batch is in, 1 to 99; it begins with 1");
 
 pub(crate) const MARKS: Word =
-    word!(Texts "MARKS", "The marks of its papers in turn, a word a paper: a field for each candidate,\nparted by commas, or D where the paper is doubtful");
+    word!(Texts "MARKS", "The marks of its papers in order, one word per paper: a field for each candidate,\nseparated by commas, or D if the paper is doubtful");
 
 pub(crate) const PAPERS: Word =
-    word!(Papers "papers", "How many papers the ward is to have, by the count of its boxes;\nwhere as many weren't given out, nothing is sent");
+    word!(Papers "papers", "How many papers the ward is to have, by the count of its boxes;\nif as many weren't given out, nothing is sent");
 
 pub(crate) const PAPER: Word = word!(Number "PAPER", "The paper's number in the batch, 1 to 500");
 
 pub(crate) const VERDICT: Word =
-    word!(Verdict "VERDICT", "accept: and the marks, a field for each candidate, parted by commas; or\nreject: and 3 no official mark, 4 voter identifiable, 5 void for uncertainty");
+    word!(Verdict "VERDICT", "accept: and the marks, a field for each candidate, separated by commas; or\nreject: and 3 no official mark, 4 voter identifiable, 5 void for uncertainty");
 
 pub(crate) const STAGE: Word =
     word!(Number "STAGE", "The stage of the count that waits for the lot, 2 to 31");
 
 pub(crate) const FILE: Word =
-    word!(Text "FILE", "The path of an import file; docs/IMPORTS.md has its form");
+    word!(Text "FILE", "The path of an import file; docs/formats/files.md has its form");
+
+pub(crate) const FORM: Word =
+    word!(Text "FORM", "Which form: covers, adjudication, lots or declaration, of a ward; or slips");
+
+pub(crate) const SOURCE: Word =
+    word!(Text "SOURCE", "The ward's number, 1 to 99; for slips, the path of a file of codes");
+
+pub(crate) const ADDRESS: Word =
+    word!(Origin "address", "For slips, where clerks reach the office, as http://127.0.0.1:8080");
 
 pub(crate) const NEW: Word =
     word!(Text "NEW", "The path of the copy; there must be nothing at it yet");
 
 pub(crate) const SCRIPT: Word =
-    word!(Text "FILE", "The path of a script; docs/IMPORTS.md has its form");
+    word!(Text "FILE", "The path of a script; docs/formats/files.md has its form");
 
 pub(crate) const KEEP_GOING: Word =
-    word!(Flag "keep-going", "Goes past refusals, each printed with its line, and ends with status 1 then");
+    word!(Flag "keep-going", "Continues after refusals, each printed with its line, and then ends with status 1");
 
 pub(crate) const ID: Word =
-    word!(Id "id", "An id that you choose for this order, 1 to 40 of a-z, 0-9 and -;\nsent again under the same id, it does nothing twice");
+    word!(Id "id", "An id that you choose for this order, 1 to 40 of a-z, 0-9 and -;\nan order sent again under the same id is done only once");
 
 /// The highest port.
 pub(crate) const MAX_PORT: i64 = 65535;
@@ -138,28 +147,28 @@ pub(crate) const PORT: Word = word!(Port "PORT", "The port of this machine, 1 to
 pub(crate) const MAX_CONNECTIONS: i64 = 1_000_000;
 
 pub(crate) const CONNECTIONS: Word =
-    word!(Connections "CONNECTIONS", "How many connections are answered, 1 to 1000000;\nleft out, there is no limit");
+    word!(Connections "CONNECTIONS", "The number of connections to serve, 1 to 1000000;\nwithout it, no limit");
 
 pub(crate) const ORIGIN: Word =
-    word!(Origin "origin", "The origin of pages that ask through a proxy, as https://count.example.org;\nleft out, no page of another machine is answered");
+    word!(Origin "origin", "The origin of pages that ask through a proxy, such as https://count.example.org;\nwithout it, pages from other machines are rejected");
 
 pub(crate) const CODES: Word =
-    word!(CodesFile "codes", "The path of a file of clerks' codes, by which each gets his page to key on;\nleft out, a clerk is known by his number alone");
+    word!(CodesFile "codes", "The path of a file of codes; with it, each clerk signs in with a code;\nwithout it, a clerk needs only a number");
 
 pub(crate) const CODES_FILE: Word =
     word!(Text "FILE", "The path of the file of codes; there must be nothing at it yet");
 
 pub(crate) const CLERKS: Word =
-    word!(Text "CLERKS", "The clerks from one number to another, 1 to 999, as 1-40");
+    word!(Text "CLERKS", "The clerks from one number to another, 1 to 999, such as 1-40");
 
 pub(crate) const WITH_OFFICE: Word =
     word!(Flag "office", "Also writes a code for the office, for its console in the browser");
 
 pub(crate) const PUBLIC: Word =
-    word!(Flag "public", "Shows the count to everyone: /, /screen and the page of each ward;\nleft out, none of them is there");
+    word!(Flag "public", "Shows the count to everyone: /, /screen and the page of each ward;\nwithout it, none of them is there");
 
 pub(crate) const TITLE: Word =
-    word!(Title "title", "What stands above, as the names of the election and of the council;\nin quotes where it has spaces");
+    word!(Title "title", "The title, such as the names of the election and the council;\nin quotes if it contains spaces");
 
 pub(crate) const DIGEST: Word =
-    word!(Digest "sha256", "The SHA-256 of FILE, 64 hexadecimal digits, as sha256sum prints it;\nwhere FILE has another, nothing of it is sent");
+    word!(Digest "sha256", "The SHA-256 of FILE, 64 hexadecimal digits, as sha256sum prints it;\nif FILE has another, nothing of it is sent");

@@ -22,10 +22,10 @@ use crate::overviews::answer_to;
 use crate::printing::{index_of, text_of};
 use crate::requests::advances;
 use crate::scripts::{
-    ScriptFault, ScriptLine, ScriptStep, TypedLine, all_said, lines_in, turns_in,
+    ScriptFault, ScriptLine, ScriptStep, TypedLine, lines_in, script_steps, typed_lines,
 };
 use crate::sealing::seal_of;
-use crate::sending::{goes_on, send_all, status_behind};
+use crate::sending::{combined_status, goes_on, send_all};
 use crate::steps::next_of;
 use crate::ward_status::standing_of;
 use office::Office;
@@ -96,8 +96,8 @@ fn run<S: Alter, F: Folder, O: Sink, E: Sink>(
             Ok(requests) => count_stages(office, line, &requests, out, err),
             Err(_) => tell(line, &LineOutcome::Failed(Fault::Memory), out, err),
         },
-        Errand::TellNext { ward } => tell(line, &next_of(alloc, office, *ward), out, err),
-        Errand::TellStatus { ward } => tell(line, &standing_of(alloc, office, *ward), out, err),
+        Errand::PrintNext { ward } => tell(line, &next_of(alloc, office, *ward), out, err),
+        Errand::PrintStatus { ward } => tell(line, &standing_of(alloc, office, *ward), out, err),
         Errand::Print { ward, text } => tell(line, &text_of(office, *ward, *text), out, err),
         Errand::PrintIndex { title } => tell(line, &index_of(office, title), out, err),
         Errand::Ask(question) => tell(line, &answer_to(alloc, office, *question), out, err),
@@ -107,7 +107,7 @@ fn run<S: Alter, F: Folder, O: Sink, E: Sink>(
 /// Runs steps in turn, and prints each reply. A refusal or a fault is printed after its line's number. The first fault ends it; so
 /// does the first output that fails, and, without `keep_going`, the first refusal. A file is opened when its step is run. The status
 /// is the last one other than 0.
-fn send_parsed<S: Alter, F: Folder, O: Sink, E: Sink>(
+fn run_steps<S: Alter, F: Folder, O: Sink, E: Sink>(
     alloc: Global,
     office: &mut Office<S>,
     keep_going: bool,
@@ -139,14 +139,14 @@ fn send_parsed<S: Alter, F: Folder, O: Sink, E: Sink>(
         if !goes_on(keep_going, status) {
             return status;
         }
-        ends = status_behind(ends, status);
+        ends = combined_status(ends, status);
     }
     ends
 }
 
 /// Sends the orders in the lines of a script, once each line has been understood. If one isn't, it prints what is wrong with the first
 /// such line, and sends none.
-fn send_lines<S: Alter, F: Folder, O: Sink, E: Sink>(
+fn run_script<S: Alter, F: Folder, O: Sink, E: Sink>(
     alloc: Global,
     office: &mut Office<S>,
     keep_going: bool,
@@ -163,8 +163,8 @@ fn send_lines<S: Alter, F: Folder, O: Sink, E: Sink>(
     ensures keeps_connection { KeepsConnection (state S.Store office.old.held) (state S.Store office.new.held) }
     ensures clean { HasCleanDisk (state S.Store office.new.held) → HasCleanDisk (state S.Store office.old.held) }
 {
-    match turns_in(alloc, lines) {
-        Ok(turns) => send_parsed(alloc, office, keep_going, &turns, folder, out, err),
+    match script_steps(alloc, lines) {
+        Ok(turns) => run_steps(alloc, office, keep_going, &turns, folder, out, err),
         Err(fault) => tell_script_fault(&fault, err),
     }
 }
@@ -225,8 +225,8 @@ fn replay<S: Alter, F: Folder, O: Sink, E: Sink>(
         Ok(lines) => lines,
         Err(outcome) => return tell(None, &outcome, out, err),
     };
-    match all_said(alloc, &lines) {
-        Ok(said) => send_lines(alloc, office, keep_going, &said, folder, out, err),
+    match typed_lines(alloc, &lines) {
+        Ok(said) => run_script(alloc, office, keep_going, &said, folder, out, err),
         Err(_) => tell_script_fault(&ScriptFault::Memory, err),
     }
 }

@@ -7,23 +7,25 @@
 
 ghost use Rattle.std.specs.Prelude.{◌≡◌, ◌⊎◌, false, Err, None, Some, codes, drop, map, take, IfErr, IfOk, option_map, string_bytes};
 ghost use Rattle.clap.specs.Words.{all_of, first_of, found_of, rows_of, subcommand_rows_of};
-ghost use Rattle.desk.specs.Orders.{ask, no_digest, no_origin, no_verdict, orders, print, title_alone, told, told_errand, told_text, words_of};
+ghost use Rattle.desk.specs.Orders.{ask, form_meant, form_of_ward, no_digest, no_form, no_origin, no_verdict, orders, print, title_alone, told, told_errand, told_text, ward_form_in, words_of};
+ghost use Rattle.desk.specs.Numbers.{number_in as number_of};
 ghost use Rattle.keyfile.specs.Digests.{digest_bytes};
 ghost use Rattle.origins.specs.Origins.{origin_text};
 ghost use Rattle.desk.specs.Words.{digest_at, is_command_name, is_order_name, meaning, meaning_of, names_order, number_at, number_found, origin_at, sent, text_at};
 ghost use Rattle.desk.specs.Words.{flag_at, public_at, texts_at};
 
 use crate::order_entry::{
-    ACTOR, BATCH, CANDIDATE, CLERK, CLERKS, CODES, CODES_FILE, CONNECTIONS, DIGEST, Entry, FILE,
-    FIRST_CLERK, Heading, ID, KEEP_GOING, MARKS, NAME, NEW, ORIGIN, PAPER, PAPERS, PORT, PUBLIC,
-    ROUND, SCRIPT, SEATS, SECOND_CLERK, SIZE, STAGE, TITLE, VERDICT, WARD, WITH_OFFICE, Word,
+    ACTOR, ADDRESS, BATCH, CANDIDATE, CLERK, CLERKS, CODES, CODES_FILE, CONNECTIONS, DIGEST, Entry,
+    FILE, FIRST_CLERK, FORM, Heading, ID, KEEP_GOING, MARKS, NAME, NEW, ORIGIN, PAPER, PAPERS,
+    PORT, PUBLIC, ROUND, SCRIPT, SEATS, SECOND_CLERK, SIZE, SOURCE, STAGE, TITLE, VERDICT, WARD,
+    WITH_OFFICE, Word,
 };
-use crate::orders::{Errand, ExpectedSeal, Job, KeyingFile, Order, Question, Task};
+use crate::orders::{Errand, ExpectedSeal, Form, Job, KeyingFile, Order, Question, Task};
 use crate::requests::{by_clerk, by_office};
 use crate::verdicts::verdict_in;
 use clap::ArgMatches;
 use keyfile::FileDigest;
-use office::Text;
+use office::WardText;
 use origins::Origin;
 use register::{
     BatchCommand, CandidateCommand, Command, CountCommand, KeyingCommand, VerdictCommand,
@@ -53,13 +55,13 @@ const ORDERS_TO_SEAL: [Entry; 13] = [
     order!(Election "ward" [WARD, SEATS, NAME, ID], "Adds a ward, its nominations open:\ncount-office town.db ward 7 2 Harbour --id w1"),
     order!(Election "candidate" [WARD, CANDIDATE, NAME, ID], "Adds a candidate to a ward:\ncount-office town.db candidate 7 1 Ann --id c1"),
     order!(Election "import-candidates" [FILE, ID, DIGEST], "Adds the candidates of a file, the first under ID-1:\ncount-office town.db import-candidates names.csv --id c"),
-    order!(Election "withdraw" [WARD, CANDIDATE, ID], "Takes a candidate off a ward, while nominations are open:\ncount-office town.db withdraw 7 5 --id x1"),
+    order!(Election "withdraw" [WARD, CANDIDATE, ID], "Withdraws a candidate, while nominations are open:\ncount-office town.db withdraw 7 5 --id x1"),
     order!(Election "close" [WARD, ID], "Closes the nominations of a ward:\ncount-office town.db close 7 --id n1"),
     order!(Election "batch" [BATCH, WARD, SIZE, FIRST_CLERK, SECOND_CLERK, ID], "Gives out a batch of papers of a ward to two clerks, who key it:\ncount-office town.db batch 12 7 8 4 9 --id b1"),
     order!(Election "import-batches" [FILE, ID, DIGEST], "Gives out the batches of a file, the first under ID-1:\ncount-office town.db import-batches batches.csv --id b"),
     order!(Election "import-keying" [CLERK, BATCH, ROUND, FILE, ID, DIGEST],
-        "Keeps a clerk's keying of a batch, in a round, from a file:\ncount-office town.db import-keying 4 12 1 k4-12.csv --id k1"),
-    order!(Election "key" [CLERK, BATCH, ROUND, MARKS, ID], "Keeps a clerk's keying of a batch, in a round, a word a paper:\ncount-office town.db key 4 14 1 1,2,, ,1,,2 D --id k3"),
+        "Stores a clerk's keying of a batch, in a round, from a file:\ncount-office town.db import-keying 4 12 1 k4-12.csv --id k1"),
+    order!(Election "key" [CLERK, BATCH, ROUND, MARKS, ID], "Stores a clerk's keying of a batch, in a round, one word per paper:\ncount-office town.db key 4 14 1 1,2,, ,1,,2 D --id k3"),
     order!(Election "again" [BATCH, ID], "Opens the next round of a batch whose keyings differ:\ncount-office town.db again 13 --id r1"),
     order!(Election "third" [BATCH, CLERK, ID], "Gives a batch whose keyings differ to a third clerk too:\ncount-office town.db third 13 5 --id t1"),
     order!(Election "judge" [BATCH, PAPER, VERDICT, ID], "Keeps the verdict on a doubtful paper of a batch that is taken:\ncount-office town.db judge 12 6 accept:1,,, --id v1"),
@@ -67,32 +69,33 @@ const ORDERS_TO_SEAL: [Entry; 13] = [
 
 /// The other orders: those from the seal on in the same sequence, then `migrate`, those for the office alone, and those for everyone.
 #[rattlefmt::skip]
-const ORDERS_FROM_SEAL: [Entry; 25] = [
+const ORDERS_FROM_SEAL: [Entry; 26] = [
     order!(Election "seal" [WARD, ID, PAPERS], "Seals a ward whose papers are all agreed and judged:\ncount-office town.db seal 7 --id s1"),
     order!(Election "advance" [WARD, ID], "Counts the one stage that is due in a sealed ward:\ncount-office town.db advance 7 --id a1"),
     order!(Election "count" [WARD, ID], "Counts a sealed ward up to a lot or the end, its first stage under ID-1:\ncount-office town.db count 7 --id a"),
     order!(Election "lot" [WARD, STAGE, CANDIDATE, ID], "Records the candidate whom the lot for a stage named:\ncount-office town.db lot 7 3 4 --id l1"),
     order!(Election "declare" [WARD, ID], "Declares the result of a ward whose count is finished:\ncount-office town.db declare 7 --id d1"),
-    order!(Election "status" [WARD], "Prints how a ward stands, at any moment:\ncount-office town.db status 7"),
+    order!(Election "status" [WARD], "Prints the status of a ward:\ncount-office town.db status 7"),
     order!(Election "next" [WARD], "Prints what comes next in a ward, with names:\ncount-office town.db next 7"),
     order!(Election "sheet" [WARD], "Prints the stage sheet of a sealed ward:\ncount-office town.db sheet 7"),
     order!(Election "result" [WARD], "Prints the declaration of a declared ward:\ncount-office town.db result 7"),
     order!(Election "serve" [PORT, CONNECTIONS, ORIGIN, CODES, PUBLIC, TITLE], "Serves clerks over HTTP on this machine, until it is stopped:\ncount-office town.db serve 8080"),
-    order!(Election "migrate" [], "Brings an office of an earlier program over to this one:\ncount-office town.db migrate"),
-    order!(Office "wards" [], "Prints how each ward stands, and what is left to do:\ncount-office town.db wards"),
-    order!(Office "batches" [WARD], "Prints of each batch of a ward who has keyed it, and how it stands:\ncount-office town.db batches 7"),
+    order!(Election "migrate" [], "Migrates an office that an earlier version made:\ncount-office town.db migrate"),
+    order!(Office "wards" [], "Prints the status of each ward, and what is left to do:\ncount-office town.db wards"),
+    order!(Office "batches" [WARD], "Prints each batch of a ward: who has keyed it, and its status:\ncount-office town.db batches 7"),
     order!(Office "doubtful" [WARD], "Prints the doubtful papers of a ward, each open or with its verdict:\ncount-office town.db doubtful 7"),
-    order!(Office "differences" [BATCH], "Prints on which papers a batch differs, which no clerk is to see:\ncount-office town.db differences 13"),
+    order!(Office "differences" [BATCH], "Prints on which papers a batch differs, which no clerk may see:\ncount-office town.db differences 13"),
     order!(Office "papers" [BATCH], "Prints how each paper of a taken batch counts, with the candidates' names:\ncount-office town.db papers 12"),
-    order!(Office "receipts" [ACTOR], "Prints what was kept, under which id, of an actor or of all:\ncount-office town.db receipts 0"),
+    order!(Office "receipts" [ACTOR], "Prints what was accepted, under which id, of an actor or of all:\ncount-office town.db receipts 0"),
     order!(Office "journal" [], "Prints the accepted orders of the office as a script, whole:\ncount-office town.db journal"),
-    order!(Office "replay" [SCRIPT, KEEP_GOING], "Sends the orders of a text file, a line each, up to a refusal:\ncount-office town.db replay evening.txt"),
+    order!(Office "replay" [SCRIPT, KEEP_GOING], "Sends the orders of a text file, one per line, up to a refusal:\ncount-office town.db replay evening.txt"),
     order!(Office "copy" [NEW], "Makes a copy of the office, in a file that isn't there yet:\ncount-office town.db copy evening.db"),
     order!(Office "codes" [CODES_FILE, CLERKS, WITH_OFFICE], "Writes a new file of codes, one for each of these clerks:\ncount-office town.db codes codes.txt 1-40"),
+    order!(Office "forms" [FORM, SOURCE, ADDRESS], "Prints a form of a ward, or slips of clerks, as a page for a browser:\ncount-office town.db forms covers 7"),
     order!(Everyone "ballots" [WARD], "Prints the ballots of a sealed ward, in a form that counting programs read:\ncount-office town.db ballots 7"),
     order!(Everyone "page" [WARD, TITLE], "Prints the result of a sealed ward as a page for a browser, to print and sign:\ncount-office town.db page 7"),
     order!(Everyone "table" [WARD], "Prints the stages of a sealed ward as a table for a spreadsheet:\ncount-office town.db table 7"),
-    order!(Everyone "index" [TITLE], "Prints how all wards stand, and who is elected, as a page to hang at the door:\ncount-office town.db index"),
+    order!(Everyone "index" [TITLE], "Prints the status of all wards, and who is elected, as a page to hang at the door:\ncount-office town.db index"),
 ];
 
 /// Returns the orders up to the seal, the first 13 of all.
@@ -124,6 +127,8 @@ pub(crate) enum NoOrder {
     BadDigest,
     /// There is a title, but nothing is shown in public.
     TitleAlone,
+    /// The words after `forms` name no form.
+    BadForm,
     /// An allocation failed.
     Memory,
 }
@@ -204,11 +209,11 @@ fn flag_in(matches: &ArgMatches<'_>, word: Word) -> bool
 }
 
 /// Returns the origin that was matched, if any.
-fn origin_in<'a>(matches: &ArgMatches<'a>) -> Result<Option<Origin<'a>>, NoOrder>
-    ensures ok { IfOk result (λ found. origin_at (codes "origin") (rows_of (found_of matches.now)) ≡ option_map (λ o. Some (origin_text o)) found) }
-    ensures err { IfErr result (λ why. (why ≡ NoOrder.BadOrigin) × (origin_at (codes "origin") (rows_of (found_of matches.now)) ≡ Some None)) }
+fn origin_in<'a>(matches: &ArgMatches<'a>, word: Word) -> Result<Option<Origin<'a>>, NoOrder>
+    ensures ok { IfOk result (λ found. origin_at word.name.now (rows_of (found_of matches.now)) ≡ option_map (λ o. Some (origin_text o)) found) }
+    ensures err { IfErr result (λ why. (why ≡ NoOrder.BadOrigin) × (origin_at word.name.now (rows_of (found_of matches.now)) ≡ Some None)) }
 {
-    let Some(text) = text_found_in(matches, ORIGIN) else {
+    let Some(text) = text_found_in(matches, word) else {
         return Ok(None);
     };
     match Origin::parse(text) {
@@ -282,6 +287,7 @@ fn command_named(alloc: Global, name: &str, matches: &ArgMatches<'_>) -> Result<
     ensures bad_origin { result ≡ Err NoOrder.BadOrigin → meaning_of name.now (rows_of (found_of matches.now)) ≡ Some no_origin }
     ensures bad_digest { result ≡ Err NoOrder.BadDigest → meaning_of name.now (rows_of (found_of matches.now)) ≡ Some no_digest }
     ensures title_alone { result ≡ Err NoOrder.TitleAlone → meaning_of name.now (rows_of (found_of matches.now)) ≡ Some title_alone }
+    ensures bad_form { result ≡ Err NoOrder.BadForm → meaning_of name.now (rows_of (found_of matches.now)) ≡ Some no_form }
 {
     let ward = number_in(matches, WARD);
     let candidate = number_in(matches, CANDIDATE);
@@ -433,14 +439,14 @@ fn serve<'a>(matches: &ArgMatches<'a>) -> Result<Order<'a>, NoOrder>
     Ok(Order::Serve {
         port: number_in(matches, PORT),
         connections: number_found_in(matches, CONNECTIONS),
-        origin: origin_in(matches)?,
+        origin: origin_in(matches, ORIGIN)?,
         codes: text_found_in(matches, CODES),
         public: public_in(matches)?,
     })
 }
 
 /// Returns the order that prints a text of the ward that was matched.
-fn printing<'a>(matches: &ArgMatches<'a>, text: Text<'a>) -> Order<'a>
+fn printing<'a>(matches: &ArgMatches<'a>, text: WardText<'a>) -> Order<'a>
     ensures { told result ≡ told_text (number_at (codes "WARD") (rows_of (found_of matches.now))) text.entry }
 {
     in_office(Errand::Print {
@@ -452,7 +458,7 @@ fn printing<'a>(matches: &ArgMatches<'a>, text: Text<'a>) -> Order<'a>
 fn page<'a>(matches: &ArgMatches<'a>) -> Order<'a>
     ensures { meaning_of (codes "page") (rows_of (found_of matches.now)) ≡ Some (told result) }
 {
-    printing(matches, Text::Page(text_in(matches, TITLE)))
+    printing(matches, WardText::Page(text_in(matches, TITLE)))
 }
 
 fn index<'a>(matches: &ArgMatches<'a>) -> Order<'a>
@@ -469,6 +475,75 @@ fn asking<'a>(question: Question) -> Order<'a>
     in_office(Errand::Ask(question))
 }
 
+/// Returns the form of a ward that has a name.
+fn ward_form_in(name: &str) -> Option<Form>
+    ensures { result ≡ ward_form_in name.now }
+{
+    match name {
+        "covers" => Some(Form::Covers),
+        "adjudication" => Some(Form::Adjudication),
+        "lots" => Some(Form::Lots),
+        "declaration" => Some(Form::Declaration),
+        _ => None,
+    }
+}
+
+/// Parses a number.
+fn number_of(text: &str) -> Option<u32>
+    ensures { result ≡ number_of text.now }
+{
+    match text.parse::<u32>() {
+        Ok(number) => Some(number),
+        Err(_) => None,
+    }
+}
+
+/// Returns the order for a form of a ward. No address belongs to it.
+fn form_of_ward<'a>(
+    form: Option<Form>,
+    ward: Option<u32>,
+    address: Option<Origin<'a>>,
+) -> Result<Order<'a>, NoOrder>
+    ensures ok { IfOk result (λ o. told o ≡ form_of_ward form ward (option_map origin_text address)) }
+    ensures err { IfErr result (λ why. (why ≡ NoOrder.BadForm) × (form_of_ward form ward (option_map origin_text address) ≡ no_form)) }
+{
+    match (form, ward, address) {
+        (Some(form), Some(ward), None) => Ok(asking(Question::Form { form, ward })),
+        _ => Err(NoOrder::BadForm),
+    }
+}
+
+/// Returns the order for a form, by its name, the word after that, and the address, if one is given.
+fn form_named<'a>(
+    name: &str,
+    word: &'a str,
+    address: Option<Origin<'a>>,
+) -> Result<Order<'a>, NoOrder>
+    ensures ok { IfOk result (λ o. told o ≡ form_meant name.now word.now (option_map origin_text address)) }
+    ensures err { IfErr result (λ why. (why ≡ NoOrder.BadForm) × (form_meant name.now word.now (option_map origin_text address) ≡ no_form)) }
+{
+    if name == "slips" {
+        return match address {
+            Some(address) => Ok(Order::Slips {
+                path: word,
+                address,
+            }),
+            None => Err(NoOrder::BadForm),
+        };
+    }
+    form_of_ward(ward_form_in(name), number_of(word), address)
+}
+
+fn forms<'a>(matches: &ArgMatches<'a>) -> Result<Order<'a>, NoOrder>
+    ensures ok { IfOk result (λ o. meaning_of (codes "forms") (rows_of (found_of matches.now)) ≡ Some (told o)) }
+    ensures bad_origin { result ≡ Err NoOrder.BadOrigin → meaning_of (codes "forms") (rows_of (found_of matches.now)) ≡ Some no_origin }
+    ensures bad_form { result ≡ Err NoOrder.BadForm → meaning_of (codes "forms") (rows_of (found_of matches.now)) ≡ Some no_form }
+    ensures err { IfErr result (λ why. (why ≡ NoOrder.BadOrigin) ⊎ (why ≡ NoOrder.BadForm)) }
+{
+    let address = origin_in(matches, ADDRESS)?;
+    form_named(text_in(matches, FORM), text_in(matches, SOURCE), address)
+}
+
 /// Returns the order of this name, with the values that were matched.
 fn order_named<'a>(
     alloc: Global,
@@ -481,6 +556,7 @@ fn order_named<'a>(
     ensures bad_origin { result ≡ Err NoOrder.BadOrigin → meaning_of name.now (rows_of (found_of matches.now)) ≡ Some no_origin }
     ensures bad_digest { result ≡ Err NoOrder.BadDigest → meaning_of name.now (rows_of (found_of matches.now)) ≡ Some no_digest }
     ensures title_alone { result ≡ Err NoOrder.TitleAlone → meaning_of name.now (rows_of (found_of matches.now)) ≡ Some title_alone }
+    ensures bad_form { result ≡ Err NoOrder.BadForm → meaning_of name.now (rows_of (found_of matches.now)) ≡ Some no_form }
 {
     let ward = number_in(matches, WARD);
     let batch = number_in(matches, BATCH);
@@ -494,13 +570,13 @@ fn order_named<'a>(
         "key" => key(alloc, matches),
         "seal" => seal(alloc, matches),
         "count" => Ok(counting(matches)),
-        "next" => Ok(in_office(Errand::TellNext { ward })),
-        "status" => Ok(in_office(Errand::TellStatus { ward })),
-        "sheet" => Ok(printing(matches, Text::Sheet)),
-        "result" => Ok(printing(matches, Text::Declaration)),
-        "ballots" => Ok(printing(matches, Text::Ballots)),
+        "next" => Ok(in_office(Errand::PrintNext { ward })),
+        "status" => Ok(in_office(Errand::PrintStatus { ward })),
+        "sheet" => Ok(printing(matches, WardText::Sheet)),
+        "result" => Ok(printing(matches, WardText::Declaration)),
+        "ballots" => Ok(printing(matches, WardText::Ballots)),
         "page" => Ok(page(matches)),
-        "table" => Ok(printing(matches, Text::Table)),
+        "table" => Ok(printing(matches, WardText::Table)),
         "index" => Ok(index(matches)),
         "serve" => serve(matches),
         "wards" => Ok(asking(Question::Wards)),
@@ -509,6 +585,7 @@ fn order_named<'a>(
         "differences" => Ok(asking(Question::Differences { batch })),
         "papers" => Ok(asking(Question::Papers { batch })),
         "receipts" => Ok(asking(Question::Receipts { actor })),
+        "forms" => forms(matches),
         "journal" => Ok(Order::Journal),
         "replay" => Ok(replay(matches)),
         "copy" => Ok(Order::Copy {
@@ -531,6 +608,7 @@ pub(crate) fn order_in<'a>(alloc: Global, matches: &ArgMatches<'a>) -> Result<Or
     ensures bad_origin { result ≡ Err NoOrder.BadOrigin → meaning (subcommand_rows_of matches.now) ≡ Some no_origin }
     ensures bad_digest { result ≡ Err NoOrder.BadDigest → meaning (subcommand_rows_of matches.now) ≡ Some no_digest }
     ensures title_alone { result ≡ Err NoOrder.TitleAlone → meaning (subcommand_rows_of matches.now) ≡ Some title_alone }
+    ensures bad_form { result ≡ Err NoOrder.BadForm → meaning (subcommand_rows_of matches.now) ≡ Some no_form }
 {
     match matches.subcommand() {
         Some((name, inner)) => order_named(alloc, name, inner),

@@ -5,7 +5,7 @@ ghost use Rattle.desk.specs.Requests.{file_of, file_of_task};
 ghost use Rattle.desk.specs.Scripts.{sends_requests};
 
 use keyfile::FileDigest;
-use office::Text;
+use office::WardText;
 use origins::Origin;
 use register::Request;
 
@@ -29,6 +29,19 @@ pub struct ExpectedSeal<'a> {
     pub id: &'a str,
 }
 
+/// A form of a ward, to be printed and filled in.
+#[derive(Clone, Copy, Debug)]
+pub enum Form {
+    /// A cover for each batch.
+    Covers,
+    /// The doubtful papers, with room for the verdicts.
+    Adjudication,
+    /// The lot that the count waits for.
+    Lots,
+    /// The words of the declaration.
+    Declaration,
+}
+
 /// A question that only the office asks.
 #[derive(Clone, Copy, Debug)]
 pub enum Question {
@@ -44,6 +57,8 @@ pub enum Question {
     Papers { batch: u32 },
     /// The receipts of an actor, or of all.
     Receipts { actor: Option<u32> },
+    /// A form of a ward.
+    Form { form: Form, ward: u32 },
 }
 
 /// A task in an existing office. The numbers are as given, in range or not.
@@ -75,17 +90,17 @@ pub enum Errand<'a> {
         id: &'a str,
     },
     /// Print the status of a ward.
-    TellStatus {
+    PrintStatus {
         ward: u32,
     },
     /// Print what comes next in a ward.
-    TellNext {
+    PrintNext {
         ward: u32,
     },
     /// Print a text of a ward.
     Print {
         ward: u32,
-        text: Text<'a>,
+        text: WardText<'a>,
     },
     /// Print the page of all wards, under this title.
     PrintIndex {
@@ -174,6 +189,11 @@ pub enum Order<'a> {
         path: &'a str,
         clerks: &'a str,
         with_office: bool,
+    },
+    /// Print a slip for each clerk of a file of codes, with the address at which the clerk reaches the office.
+    Slips {
+        path: &'a str,
+        address: Origin<'a>,
     },
     /// Serve connections on a port of this machine, and pages of an origin through a proxy, if one is given. It ends after this many
     /// connections, or never if no number is given. Clerks need codes if the path of a file of codes is given. If a title is given,

@@ -17,8 +17,9 @@ ghost use Rattle.desk.specs.Pages.{failed, line, page_of, page_stopped, printed}
 use crate::lines::{Failure, LineOutcome};
 use crate::orders::Question;
 use crate::papers::{doubtful_lines, paper_lines};
+use crate::ward_forms::form_of;
 use crate::ward_status::phase_word;
-use office::{Office, Stop};
+use office::{Office, ReadError};
 use paper::Columns;
 use register::Receipt;
 use sqlite::Alter;
@@ -256,17 +257,17 @@ fn lines_of<T: Lined>(alloc: Global, found: &[T]) -> Result<String, AllocError>
 }
 
 /// Returns what is printed if nothing was found.
-fn stopped(stop: Stop) -> LineOutcome
+pub(crate) fn stopped(stop: ReadError) -> LineOutcome
     ensures { page_of result ≡ page_stopped stop }
 {
     match stop {
-        Stop::Refused(refusal) => LineOutcome::Refused(refusal),
-        Stop::Fault(fault) => LineOutcome::Failed(fault),
+        ReadError::Refused(refusal) => LineOutcome::Refused(refusal),
+        ReadError::Fault(fault) => LineOutcome::Failed(fault),
     }
 }
 
 /// Returns what is printed for the values found, or why there are none; or that an allocation failed.
-fn outcome_of<T: Lined + Drop>(alloc: Global, found: Result<Vec<T>, Stop>) -> LineOutcome
+fn outcome_of<T: Lined + Drop>(alloc: Global, found: Result<Vec<T>, ReadError>) -> LineOutcome
     ensures lines { IfOk found (λ all. (page_of result ≡ printed (flat_map (λ t. line (T.text t)) all.items)) ⊎ (page_of result ≡ failed (Failure.Office Fault.Memory))) }
     ensures stop { IfErr found (λ stop. page_of result ≡ page_stopped stop) }
 {
@@ -341,6 +342,7 @@ pub(crate) fn answer_to<S: Alter>(
         Question::Doubtful { ward } => doubtful_of(alloc, office, ward),
         Question::Differences { batch } => differences_of(alloc, office, batch),
         Question::Papers { batch } => papers_of(alloc, office, batch),
+        Question::Form { form, ward } => form_of(alloc, office, form, ward),
         Question::Receipts { actor } => outcome_of(alloc, office.receipts(actor)),
     }
 }

@@ -3,7 +3,7 @@
 ghost use Rattle.std.specs.Prelude.{◌≡◌, IfOk, map, string_bytes};
 ghost use Rattle.desk.specs.ScriptFiles.{AreNamedIn, files_of};
 
-use crate::scripts::{ScriptFault, ScriptStep, all_said, lines_in, turns_in};
+use crate::scripts::{ScriptFault, ScriptStep, lines_in, script_steps, typed_lines};
 use std::alloc::{AllocError, Global};
 
 /// Returns the paths of the files that steps read, in order and with repetitions.
@@ -25,8 +25,8 @@ pub fn files_named_in(alloc: Global, script: &[u8]) -> Result<Vec<String>, Alloc
     ensures { IfOk result (λ paths. AreNamedIn script.now (map string_bytes paths.items)) }
 {
     let lines = lines_in(alloc, script)?;
-    let said = all_said(alloc, &lines)?;
-    match turns_in(alloc, &said) {
+    let said = typed_lines(alloc, &lines)?;
+    match script_steps(alloc, &said) {
         Ok(turns) => files_of(alloc, &turns),
         Err(ScriptFault::Memory) => Err(AllocError),
         Err(ScriptFault::ScriptLine(_, _)) => Ok(Vec::new(alloc)),

@@ -2,11 +2,11 @@
 
 ghost use Rattle.std.specs.Prelude.{◌≡◌, false, map, IfErr, IfNone, IfOk, IfSome, Some};
 ghost use Rattle.desk.specs.Lexing.{IsFaultOfLine, IsFaultOfLines, line_entry, typed_line_entry, said_words};
-ghost use Rattle.desk.specs.Scripts.{AreTurns, IsFlawOfWords, IsTurn, Means, line_flaw_text, lines_of, numbered_from, stands_in_script, typed, typed_line};
+ghost use Rattle.desk.specs.Scripts.{AreTurns, IsFlawOfWords, IsStep, Means, line_flaw_text, lines_of, numbered_from, is_allowed_in_script, typed, typed_line};
 
 use crate::lexer;
 use crate::orders::{Errand, Job, Order, Task};
-use crate::words::{BAD_DIGEST, BAD_ORIGIN, BAD_TITLE, WordsFault, order};
+use crate::words::{BAD_DIGEST, BAD_FORM, BAD_ORIGIN, BAD_TITLE, WordsFault, order};
 use std::alloc::{AllocError, Global};
 use std::str;
 
@@ -32,6 +32,8 @@ pub(crate) enum LineFlaw {
     Digest,
     /// There is a title after `--title`, but no `--public`.
     TitleAlone,
+    /// The words after `forms` name no form.
+    Form,
     /// The words aren't an order; this is printed for them.
     Words(String),
     /// The order isn't allowed in a script.
@@ -39,7 +41,7 @@ pub(crate) enum LineFlaw {
 }
 
 impl LineFlaw {
-    /// Returns what is printed for it; its lines are terminated.
+    /// Returns the error message for this flaw.
     pub(crate) fn text(&self) -> &str
         ensures { result.now ≡ line_flaw_text self.now }
     {
@@ -50,8 +52,9 @@ impl LineFlaw {
             LineFlaw::Origin => BAD_ORIGIN,
             LineFlaw::Digest => BAD_DIGEST,
             LineFlaw::TitleAlone => BAD_TITLE,
+            LineFlaw::Form => BAD_FORM,
             LineFlaw::Words(text) => text.as_str(),
-            LineFlaw::Elsewhere => "error: this order stands in no script\n",
+            LineFlaw::Elsewhere => "error: this order can't be used in a script\n",
         }
     }
 }
@@ -141,7 +144,7 @@ fn as_typed<'a>(alloc: Global, line: &'a ScriptLine) -> Result<TypedLine<'a>, Al
 }
 
 /// Returns lines as they would be typed.
-pub(crate) fn all_said<'a>(
+pub(crate) fn typed_lines<'a>(
     alloc: Global,
     lines: &'a [ScriptLine],
 ) -> Result<Vec<TypedLine<'a>>, AllocError>
@@ -157,13 +160,14 @@ pub(crate) fn all_said<'a>(
 /// Returns the errand of an order, if it has one.
 fn errand_of(order: Order<'_>) -> Option<Errand<'_>>
     ensures some { IfSome result (λ errand. order.entry ≡ Order.Perform (Task.InOffice (Job.Run errand))) }
-    ensures none { IfNone result (stands_in_script order.entry ≡ false) }
+    ensures none { IfNone result (is_allowed_in_script order.entry ≡ false) }
 {
     match order {
         Order::Perform(Task::InOffice(Job::Run(errand))) => Some(errand),
         Order::Perform(Task::InOffice(Job::Replay { .. })) => None,
         Order::Perform(Task::Init | Task::Migrate) => None,
-        Order::Copy { .. } | Order::Journal | Order::Codes { .. } | Order::Serve { .. } => None,
+        Order::Copy { .. } | Order::Journal | Order::Serve { .. } => None,
+        Order::Codes { .. } | Order::Slips { .. } => None,
     }
 }
 
@@ -183,6 +187,7 @@ fn errand_in<'a>(alloc: Global, words: &'a [&'a str]) -> Result<Errand<'a>, Opti
         Err(WordsFault::Origin) => Err(Some(LineFlaw::Origin)),
         Err(WordsFault::Digest) => Err(Some(LineFlaw::Digest)),
         Err(WordsFault::TitleAlone) => Err(Some(LineFlaw::TitleAlone)),
+        Err(WordsFault::Form) => Err(Some(LineFlaw::Form)),
         Err(WordsFault::Words { status: 0, .. }) => Err(Some(LineFlaw::Elsewhere)),
         Err(WordsFault::Words { text, .. }) => Err(Some(LineFlaw::Words(text))),
     }
@@ -190,7 +195,7 @@ fn errand_in<'a>(alloc: Global, words: &'a [&'a str]) -> Result<Errand<'a>, Opti
 
 /// Returns the step of a line, or what is wrong with it.
 fn turn_in<'a, 'b>(alloc: Global, said: &'a TypedLine<'b>) -> Result<ScriptStep<'a>, ScriptFault>
-    ensures ok { IfOk result (λ turn. IsTurn (typed_line_entry said.entry.now) turn) }
+    ensures ok { IfOk result (λ turn. IsStep (typed_line_entry said.entry.now) turn) }
     ensures err { IfErr result (λ fault. IsFaultOfLine (typed_line_entry said.entry.now) fault) }
 {
     let words = match &said.words {
@@ -208,7 +213,7 @@ fn turn_in<'a, 'b>(alloc: Global, said: &'a TypedLine<'b>) -> Result<ScriptStep<
 }
 
 /// Returns the steps of a script, one per line; or what is wrong with the first line that isn't one.
-pub(crate) fn turns_in<'a, 'b>(
+pub(crate) fn script_steps<'a, 'b>(
     alloc: Global,
     lines: &'a [TypedLine<'b>],
 ) -> Result<Vec<ScriptStep<'a>>, ScriptFault>

@@ -13,7 +13,7 @@ ghost use Rattle.desk.specs.Seals.{given_out, seal_request};
 use crate::lines::{Failure, LineOutcome};
 use crate::orders::ExpectedSeal;
 use crate::requests::seal_request;
-use office::{Office, Stop};
+use office::{Office, ReadError};
 use register::Request;
 use sqlite::Alter;
 use std::alloc::{AllocError, Global};
@@ -60,7 +60,7 @@ pub(crate) fn seal_of<S: Alter>(
 {
     match office.batches(seal.ward) {
         Ok(batches) => seal_for(alloc, seal, given_out(&batches)),
-        Err(Stop::Refused(refusal)) => Err(LineOutcome::Refused(refusal)),
-        Err(Stop::Fault(fault)) => Err(LineOutcome::Failed(fault)),
+        Err(ReadError::Refused(refusal)) => Err(LineOutcome::Refused(refusal)),
+        Err(ReadError::Fault(fault)) => Err(LineOutcome::Failed(fault)),
     }
 }

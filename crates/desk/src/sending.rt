@@ -8,11 +8,11 @@ ghost use Rattle.tables.specs.Reading.{OnlyReads};
 ghost use Rattle.store.specs.StateTables.{KeepsConnection};
 ghost use Rattle.office.specs.Answers.{WhenOpenAt};
 ghost use Rattle.desk.specs.Headline.{IsAnswered, IsSent};
-ghost use Rattle.desk.specs.Pages.{Tells, goes_on, outputs_of, page_for, page_kept, page_of, status_behind};
+ghost use Rattle.desk.specs.Pages.{Tells, goes_on, outputs_of, page_for, page_kept, page_of, combined_status};
 ghost use Rattle.desk.specs.Parts.{ComesTo, IsFound, IsOver};
 
 use crate::lines::{LineOutcome, tell};
-use office::{Answer, Office, Stop};
+use office::{Answer, Office, ReadError};
 use register::{Reply, Request};
 use sqlite::Alter;
 use store::Fault;
@@ -26,8 +26,8 @@ pub(crate) fn goes_on(keep_going: bool, status: u8) -> bool
 }
 
 /// Returns the status after one more page: the last one other than 0.
-pub(crate) fn status_behind(before: u8, status: u8) -> u8
-    ensures { result ≡ status_behind before status }
+pub(crate) fn combined_status(before: u8, status: u8) -> u8
+    ensures { result ≡ combined_status before status }
 {
     if status == 0 { before } else { status }
 }
@@ -46,8 +46,8 @@ fn kept_before<S: Alter>(office: &mut Office<S>, request: &Request, reply: Reply
             Ok(id) => LineOutcome::Noted { reply, id },
             Err(_) => LineOutcome::Failed(Fault::Memory),
         },
-        Err(Stop::Refused(refusal)) => LineOutcome::Refused(refusal),
-        Err(Stop::Fault(fault)) => LineOutcome::Failed(fault),
+        Err(ReadError::Refused(refusal)) => LineOutcome::Refused(refusal),
+        Err(ReadError::Fault(fault)) => LineOutcome::Failed(fault),
     }
 }
 
@@ -93,7 +93,7 @@ pub(crate) fn send_all<S: Alter, O: Sink, E: Sink>(
         if !goes_on(keep_going, status) {
             return status;
         }
-        ends = status_behind(ends, status);
+        ends = combined_status(ends, status);
     }
     ends
 }

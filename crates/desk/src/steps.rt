@@ -6,7 +6,7 @@ ghost use Rattle.register.specs.Offices.{candidate_entry};
 ghost use Rattle.register.specs.Status.{status_entry};
 ghost use Rattle.register.specs.NextSteps.{step_entry};
 ghost use Rattle.tables.specs.Reading.{OnlyReads};
-ghost use Rattle.office.specs.Reads.{next_told};
+ghost use Rattle.office.specs.Reads.{next_answer};
 ghost use Rattle.office.specs.Answers.{WhenOpenAt};
 ghost use Rattle.desk.specs.Parts.{IsFound};
 ghost use Rattle.desk.specs.Pages.{page_of, replied};
@@ -15,7 +15,7 @@ ghost use Rattle.desk.specs.Steps.{action_words, all_named, due_words, lot_words
 use crate::candidate_names::candidate_in;
 use crate::lines::LineOutcome;
 use count::{Action, Due, TiedFor};
-use office::{Office, Stop};
+use office::{Office, ReadError};
 use paper::Columns;
 use register::{Candidate, NextStep, Status};
 use sqlite::Alter;
@@ -210,7 +210,7 @@ fn step_text(alloc: Global, ward: u32, step: &NextStep) -> Result<String, AllocE
 /// Returns what comes next in a ward, in words; or why it isn't available.
 pub(crate) fn next_of<S: Alter>(alloc: Global, office: &mut Office<S>, ward: u32) -> LineOutcome
     ensures found { WhenOpenAt (state S.Store) office.old office.new
-        (λ s. IsFound s (λ step. replied (step_text ward step)) (next_told s ward) (page_of result) office.new.closed (state S.Store office.old.held) (state S.Store office.new.held)) }
+        (λ s. IsFound s (λ step. replied (step_text ward step)) (next_answer s ward) (page_of result) office.new.closed (state S.Store office.old.held) (state S.Store office.new.held)) }
     ensures same { OnlyReads (state S.Store office.old.held) (state S.Store office.new.held) }
 {
     match office.next_step(ward) {
@@ -218,7 +218,7 @@ pub(crate) fn next_of<S: Alter>(alloc: Global, office: &mut Office<S>, ward: u32
             Ok(text) => LineOutcome::Replied(text),
             Err(_) => LineOutcome::Failed(Fault::Memory),
         },
-        Err(Stop::Refused(refusal)) => LineOutcome::Refused(refusal),
-        Err(Stop::Fault(fault)) => LineOutcome::Failed(fault),
+        Err(ReadError::Refused(refusal)) => LineOutcome::Refused(refusal),
+        Err(ReadError::Fault(fault)) => LineOutcome::Failed(fault),
     }
 }

@@ -4,14 +4,14 @@ ghost use Rattle.std.specs.Prelude.{◌≡◌, IfOk, string_bytes};
 ghost use Rattle.sqlite.specs.Held.{state};
 ghost use Rattle.register.specs.Status.{status_entry};
 ghost use Rattle.tables.specs.Reading.{OnlyReads};
-ghost use Rattle.office.specs.Reads.{status_told};
+ghost use Rattle.office.specs.Reads.{status_answer};
 ghost use Rattle.office.specs.Answers.{WhenOpenAt};
 ghost use Rattle.desk.specs.Parts.{IsFound};
 ghost use Rattle.desk.specs.Pages.{page_of, replied};
 ghost use Rattle.desk.specs.WardStatus.{batch_words, count_words, phase_word, status_text, ward_words};
 
 use crate::lines::LineOutcome;
-use office::{Office, Stop};
+use office::{Office, ReadError};
 use register::{Phase, Status};
 use sqlite::Alter;
 use std::alloc::{AllocError, Global};
@@ -70,7 +70,7 @@ pub(crate) fn status_text(alloc: Global, status: &Status) -> Result<String, Allo
 /// Returns the status of a ward in words, or why it isn't available.
 pub(crate) fn standing_of<S: Alter>(alloc: Global, office: &mut Office<S>, ward: u32) -> LineOutcome
     ensures found { WhenOpenAt (state S.Store) office.old office.new
-        (λ s. IsFound s (λ status. replied (status_text status)) (status_told s ward) (page_of result) office.new.closed (state S.Store office.old.held) (state S.Store office.new.held)) }
+        (λ s. IsFound s (λ status. replied (status_text status)) (status_answer s ward) (page_of result) office.new.closed (state S.Store office.old.held) (state S.Store office.new.held)) }
     ensures same { OnlyReads (state S.Store office.old.held) (state S.Store office.new.held) }
 {
     match office.status(ward) {
@@ -78,7 +78,7 @@ pub(crate) fn standing_of<S: Alter>(alloc: Global, office: &mut Office<S>, ward:
             Ok(text) => LineOutcome::Replied(text),
             Err(_) => LineOutcome::Failed(Fault::Memory),
         },
-        Err(Stop::Refused(refusal)) => LineOutcome::Refused(refusal),
-        Err(Stop::Fault(fault)) => LineOutcome::Failed(fault),
+        Err(ReadError::Refused(refusal)) => LineOutcome::Refused(refusal),
+        Err(ReadError::Fault(fault)) => LineOutcome::Failed(fault),
     }
 }

@@ -3,7 +3,7 @@
 ghost use Rattle.std.specs.Prelude.{◌≡◌, ◌≢◌, ◌⊎◌, ◌∷◌, true, false, [], Some, map, string_bytes, IfOk, IfErr};
 ghost use Rattle.clap.specs.Words.{app_of, rule_of, subcommand_of, takes, with_rule, with_subcommand};
 ghost use Rattle.clap.specs.declared.builder.command.Command.TheViews.{out-Command as fields_of};
-ghost use Rattle.desk.specs.Orders.{no_digest, no_origin, no_verdict, title_alone, told, words_of};
+ghost use Rattle.desk.specs.Orders.{no_digest, no_form, no_origin, no_verdict, title_alone, told, words_of};
 ghost use Rattle.desk.specs.Versions.{version_text};
 ghost use Rattle.desk.specs.Words.{IsNoneMeant, IsOwnText, IsToldOf, TellsOwnText, TellsRefusal, meaning, status_of_kind, wrong_with};
 ghost use Rattle.desk.specs.Words.{office_words, order_words, rule_of_kind, start_words, with_orders};
@@ -28,34 +28,36 @@ changes nothing.";
 
 /// The end of the help: the orders of [`Heading::Office`] and of [`Heading::Everyone`], and the outcomes of orders.
 const END_OF_HELP: &str =
-    "For the office alone. The first seven change nothing, and no clerk is to see what they print:
-  wards              How each ward stands, and what is left to do
-  batches WARD       Who has keyed each batch of a ward, how it stands, and which other
+    "For the office alone. The first seven change nothing, and no clerk may see what they print:
+  wards              The status of each ward, and what is left to do
+  batches WARD       Who has keyed each batch of a ward, its status, and which other
                      batch has the very same papers
   doubtful WARD      Which papers of a ward are doubtful, each open or with its verdict
   differences BATCH  On which papers a batch differs
   papers BATCH       How each paper of a taken batch counts, with the candidates' names
-  receipts [ACTOR]   What was kept, under which id: of an actor, 0 for the office, or of all
-  journal            What was kept, as a script of orders that makes the same office anew
-  replay FILE        Sends the orders of a text file, a line each, up to a refusal
+  receipts [ACTOR]   What was accepted, by id: of an actor, 0 for the office, or of all
+  journal            What was accepted, as a script of orders that makes the same office
+  replay FILE        Sends the orders of a text file, one per line, up to a refusal
   copy NEW           Makes a copy of the office, in a file that isn't there yet
-  codes FILE CLERKS  Writes a new file of codes for clerks, as 1-40, to be cut into slips
+  codes FILE CLERKS  Writes a new file of codes for clerks, such as 1-40, to cut into slips
+  forms FORM SOURCE  A form as a page to print (HTML): covers, adjudication, lots or declaration
+                     of a ward, or slips of a file of codes
 
 For everyone who wants to see or check a count, once the ward is sealed:
   ballots WARD       Its ballots, in a form that counting programs read (BLT)
   page WARD          Its result as a page for a browser, to print and sign (HTML)
   table WARD         Its stages as a table for a spreadsheet (CSV)
-  index              How all wards stand, sealed or not, and who is elected, as a page
+  index              The status of all wards, sealed or not, and who is elected, as a page
                      to hang at the door (HTML)
 
-An example stands under each order. Its words, with their ranges, are shown by
+Each order's help ends with an example. Its words, with their ranges, are shown by
   count-office DB ORDER --help
 
 A reply goes to standard output, with status 0. What the office refuses goes to standard
 error, with status 1; words that are not understood with 2, and faults with 3.
 
-docs/ELECTION.md leads through an election, order by order. docs/REFUSALS.md says what each
-refusal and each fault means, and what to do about it.";
+docs/officer/by-words.md leads through an election, order by order.
+docs/officer/when-it-says-no.md says what refusals and faults mean, and what to do.";
 
 /// What is printed for words that aren't understood, if nothing else is.
 const NOT_UNDERSTOOD: &str = "error: the words are not understood\n";
@@ -72,6 +74,10 @@ pub(crate) const BAD_DIGEST: &str =
 pub(crate) const BAD_TITLE: &str =
     "error: --title is the title of what is shown in public, so it needs --public\n";
 
+/// What is printed if the words after `forms` name no form.
+pub(crate) const BAD_FORM: &str =
+    "error: a form is covers, adjudication, lots or declaration, and a ward's number; or slips, a file of codes, and --address\n";
+
 /// Why the words aren't an order.
 #[derive(Drop)]
 pub enum WordsFault {
@@ -85,6 +91,8 @@ pub enum WordsFault {
     Digest,
     /// There is a title after `--title`, but no `--public`.
     TitleAlone,
+    /// The words after `forms` name no form.
+    Form,
     /// The text to print, and the exit status: 0 if help was asked for, and 2 if the words aren't understood.
     Words { text: String, status: u8 },
 }
@@ -269,8 +277,8 @@ fn denied(alloc: Global, kind: ErrorKind, error: &Error) -> WordsFault
 /// Parses the words, the first of which is DB, to an order.
 ///
 /// The order and its values are those that `clap` matches in the words, according to the table of orders. Words that `clap` accepts
-/// are refused only if an allocation fails, if the word of a verdict, an origin or a digest is invalid, or if `serve` has a title and
-/// shows nothing in public. Words that it rejects aren't an order. A text that isn't empty is printed for them. Its status is 0 if the
+/// are refused only if an allocation fails, if the word of a verdict, an origin or a digest is invalid, if those after `forms` name no
+/// form, or if `serve` has a title and shows nothing in public. Words that it rejects aren't an order. A text that isn't empty is printed for them. Its status is 0 if the
 /// first thing wrong with them is that they ask for help or the version, and else 2. Or an allocation failure is reported.
 pub fn order<'a>(alloc: Global, words: &'a [&'a str]) -> Result<Order<'a>, WordsFault>
     ensures accepts { IfOk result (λ _. wrong_with (map (λ s. s.now) words.entry.now) ≡ []) }
@@ -282,7 +290,8 @@ pub fn order<'a>(alloc: Global, words: &'a [&'a str]) -> Result<Order<'a>, Words
         ⊎ (((e ≡ WordsFault.Verdict) × (meaning (subcommand_of office_words (map (λ s. s.now) words.entry.now)) ≡ Some no_verdict))
         ⊎ (((e ≡ WordsFault.Origin) × (meaning (subcommand_of office_words (map (λ s. s.now) words.entry.now)) ≡ Some no_origin))
         ⊎ (((e ≡ WordsFault.Digest) × (meaning (subcommand_of office_words (map (λ s. s.now) words.entry.now)) ≡ Some no_digest))
-        ⊎ ((e ≡ WordsFault.TitleAlone) × (meaning (subcommand_of office_words (map (λ s. s.now) words.entry.now)) ≡ Some title_alone)))))) }
+        ⊎ (((e ≡ WordsFault.TitleAlone) × (meaning (subcommand_of office_words (map (λ s. s.now) words.entry.now)) ≡ Some title_alone))
+        ⊎ ((e ≡ WordsFault.Form) × (meaning (subcommand_of office_words (map (λ s. s.now) words.entry.now)) ≡ Some no_form))))))) }
 {
     let command = match office_command(alloc) {
         Ok(command) => command,
@@ -299,6 +308,7 @@ pub fn order<'a>(alloc: Global, words: &'a [&'a str]) -> Result<Order<'a>, Words
         Err(NoOrder::BadOrigin) => Err(WordsFault::Origin),
         Err(NoOrder::BadDigest) => Err(WordsFault::Digest),
         Err(NoOrder::TitleAlone) => Err(WordsFault::TitleAlone),
+        Err(NoOrder::BadForm) => Err(WordsFault::Form),
         Err(NoOrder::Unknown) => Err(WordsFault::Words {
             text: String::new(alloc),
             status: 2,

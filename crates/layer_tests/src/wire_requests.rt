@@ -11,7 +11,8 @@ use std::process::Abort;
 use std::test::Fail;
 use streams::{Counted, Source};
 use wire::{
-    ConsoleOrder, HttpRequest, HttpSettings, Keying, ReadFailure, RequestError, Show, read_request,
+    ConsoleOrder, FixedPage, HttpRequest, HttpSettings, Keying, ReadFailure, RequestError,
+    read_request,
 };
 
 /// The longest head, in bytes, the most headers, and the longest body.
@@ -62,13 +63,13 @@ fn rejection_words(alloc: Global, why: &RequestError) -> Result<String, AllocErr
 }
 
 /// What a clerk or the office is shown, in short.
-fn shown_words(alloc: Global, clerk: &str, what: &Show<'_>) -> Result<String, AllocError> {
+fn shown_words(alloc: Global, clerk: &str, what: &FixedPage<'_>) -> Result<String, AllocError> {
     match what {
-        Show::Page(page) => {
+        FixedPage::Page(page) => {
             let (text, policy) = (page.text, page.policy);
             format!(in alloc; "{clerk} sees {text} by {policy}")
         }
-        Show::Left => format!(in alloc; "{clerk} leaves"),
+        FixedPage::SignedOut => format!(in alloc; "{clerk} leaves"),
     }
 }
 
@@ -88,7 +89,7 @@ fn order_words(alloc: Global, order: &ConsoleOrder) -> Result<String, AllocError
 fn words_of(alloc: Global, came: &Result<HttpRequest, ReadFailure>) -> Result<String, AllocError> {
     match came {
         Ok(HttpRequest::Keying(keying)) => keying_words(alloc, keying),
-        Ok(HttpRequest::Shown(clerk, what)) => {
+        Ok(HttpRequest::ClerkPage(clerk, what)) => {
             shown_words(alloc, format!(in alloc; "{clerk}")?.as_str(), what)
         }
         Ok(HttpRequest::ConsolePage(what)) => shown_words(alloc, "office", what),

@@ -7,10 +7,10 @@ use Rattle.register.specs.StateConditions.{IsState}
 use Rattle.register.specs.Machine.{Outcome, state_after}
 use Rattle.register.specs.Tabulated.{AddsWhatIsCounted}
 use Rattle.register.specs.Views.{outcome_of}
-use Rattle.office.specs.Decisions.{LeadsOn}
+use Rattle.office.specs.Decisions.{LeadsToState}
 
 -- the state that the machine's step leads to, with all that is counted there
-pub leads_on : (s : OfficeState) (decision : Decision) (outcome : Outcome) → outcome_of s decision ≡ outcome → IsState (state_after s outcome) → AddsWhatIsCounted s decision → LeadsOn s decision
+pub leads_on : (s : OfficeState) (decision : Decision) (outcome : Outcome) → outcome_of s decision ≡ outcome → IsState (state_after s outcome) → AddsWhatIsCounted s decision → LeadsToState s decision
 leads_on s (Accepted change reply) outcome same is adds = (adds, subst (λ (o : Outcome). IsState (state_after s o)) (sym same) is)
 leads_on s (Kept reply) outcome same is adds = tt
 leads_on s (Refused why) outcome same is adds = tt

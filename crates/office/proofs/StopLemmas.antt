@@ -6,16 +6,16 @@ use Rattle.tables.specs.Reading.{OnlyReads}
 use Rattle.store.specs.StateTables.{IsAt}
 use Rattle.store.proofs.KeepLemmas.{is_at_read}
 use Rattle.office.specs.Answers.{IsReadAt}
-use Rattle.office.specs.declared.answers.Stop.{Stop}
-use Rattle.office.specs.declared.answers.Stop.TheVariants.{Refused, Fault as Failed}
-use Rattle.office.specs.Reads.{StopsBy}
+use Rattle.office.specs.declared.answers.ReadError.{ReadError}
+use Rattle.office.specs.declared.answers.ReadError.TheVariants.{Refused, Fault as Failed}
+use Rattle.office.specs.Reads.{ReadFailsBy}
 use Rattle.office.specs.Sheets.{IsOfMemory}
 
-pub stops_of_memory : (old new : State) (stop : Stop) → IsOfMemory stop → StopsBy old new stop
+pub stops_of_memory : (old new : State) (stop : ReadError) → IsOfMemory stop → ReadFailsBy old new stop
 stops_of_memory old new (Refused why) h = tt
 stops_of_memory old new (Failed f) h = inl h
 
-pub if_of_memory : {X : Type 0} (old new : State) (r : Result X Stop) → IfErr r IsOfMemory → IfErr r (StopsBy old new)
+pub if_of_memory : {X : Type 0} (old new : State) (r : Result X ReadError) → IfErr r IsOfMemory → IfErr r (ReadFailsBy old new)
 if_of_memory old new (Ok x) h = tt
 if_of_memory old new (Err stop) h = stops_of_memory old new stop h
 

@@ -14,11 +14,11 @@ use Rattle.register.specs.Tabulated.{IsCountedWard, IsSheetOf}
 use Rattle.register.proofs.MapLemmas.{found_number}
 use Rattle.store.specs.Elections.{IsCountedInFor, IsSheetFor}
 use Rattle.store.specs.StateTables.{IsAt}
-use Rattle.office.specs.declared.answers.Stop.{Stop}
-use Rattle.office.specs.declared.answers.Stop.TheVariants.{Refused, Fault as Failed}
-use Rattle.office.specs.declared.sheets.Text.{Text}
+use Rattle.office.specs.declared.answers.ReadError.{ReadError}
+use Rattle.office.specs.declared.answers.ReadError.TheVariants.{Refused, Fault as Failed}
+use Rattle.office.specs.declared.sheets.WardText.{WardText}
 use Rattle.office.specs.Reads.{Read}
-use Rattle.office.specs.Sheets.{is_told_in, text_shown, text_found, text_told, StopsText, IsTextual}
+use Rattle.office.specs.Sheets.{is_printable_in, text_shown, text_found, text_answer, FailsToPrint, IsTextual}
 
 -- ---- what was found
 
@@ -45,20 +45,23 @@ textual_at s ward w law there = law w (subst (λ (n : ℕ). ward_at s n ≡ Some
 
 -- ---- what is returned
 
-told_there : (text : Text) (s : OfficeState) (ward : ℕ) (w : WardEntry) → is_ward_number ward ≡ true → ward_at s ward ≡ Some w → text_told text s ward ≡ text_found text s (Some w)
+told_there : (text : WardText) (s : OfficeState) (ward : ℕ) (w : WardEntry) → is_ward_number ward ≡ true → ward_at s ward ≡ Some w → text_answer text s ward ≡ text_found text s (Some w)
 told_there text s ward w in_range there = cond-true (is_ward_number ward) _ _ in_range ∙ ap (text_found text s) there
 
 -- if a read of an existing ward returns a text, or a stop, that is the answer to a request for this text
-pub text_read : (text : Text) (Stands : ElectionEntry → Type 0) (s : OfficeState) (ward : ℕ) (w : WardEntry) (phase : Phase) (r : Result (String Global) Stop) (before closed : Bool) (st : State)
+pub text_read : (text : WardText) (Stands : ElectionEntry → Type 0) (s : OfficeState) (ward : ℕ) (w : WardEntry) (phase : Phase)
+    (r : Result (String Global) ReadError) (before closed : Bool) (st : State)
     → is_ward_number ward ≡ true → ward_at s ward ≡ Some w → phase ≡ w.phase → Stands (election_of s w) → before ≡ false → IsAt s st
-    → IfOk r (λ told. (is_told_in text phase ≡ true) × ((e : ElectionEntry) → Stands e → string_bytes told ≡ text_shown text e)) → OnOk r (closed ≡ before) → IfErr r (StopsText text phase closed)
-    → Read string_bytes s (text_told text s ward) r closed st
+    → IfOk r (λ told. (is_printable_in text phase ≡ true) × ((e : ElectionEntry) → Stands e → string_bytes told ≡ text_shown text e))
+    → OnOk r (closed ≡ before) → IfErr r (FailsToPrint text phase closed)
+    → Read string_bytes s (text_answer text s ward) r closed st
 text_read text Stands s ward w phase (Ok told) before closed st in_range there same stands is_open at tells still stops = (
-  told_there text s ward w in_range there ∙ cond-true (is_told_in text w.phase) _ _ (subst (λ (p : Phase). is_told_in text p ≡ true) same tells.0) ∙ ap Ok (sym (tells.1 (election_of s w) stands)),
+  told_there text s ward w in_range there ∙ cond-true (is_printable_in text w.phase) _ _ (subst (λ (p : Phase). is_printable_in text p ≡ true) same tells.0)
+      ∙ ap Ok (sym (tells.1 (election_of s w) stands)),
   record { is_open = still ∙ is_open; at = at },
 )
 text_read text Stands s ward w phase (Err (Refused why)) before closed st in_range there same stands is_open at tells still stops = (
-  told_there text s ward w in_range there ∙ cond-false (is_told_in text w.phase) _ _ (subst (λ (p : Phase). is_told_in text p ≡ false) same stops.1) ∙ ap Err (sym stops.0),
+  told_there text s ward w in_range there ∙ cond-false (is_printable_in text w.phase) _ _ (subst (λ (p : Phase). is_printable_in text p ≡ false) same stops.1) ∙ ap Err (sym stops.0),
   record { is_open = stops.2; at = at },
 )
 text_read text Stands s ward w phase (Err (Failed f)) before closed st in_range there same stands is_open at tells still stops = elim stops [

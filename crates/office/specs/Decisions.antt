@@ -8,7 +8,7 @@ use Rattle.register.specs.Effects.{change_entry, with_change}
 use Rattle.register.specs.Tabulated.{IsTabulated}
 
 -- from this state, an accepted decision leads to another state, and adds all that is counted there
-abbrev pub LeadsOn : OfficeState → Decision → Type 0
-LeadsOn s (Accepted change reply) = IsTabulated s change × IsState (with_change (change_entry change) s)
-LeadsOn s (Kept reply) = ⊤
-LeadsOn s (Refused why) = ⊤
+abbrev pub LeadsToState : OfficeState → Decision → Type 0
+LeadsToState s (Accepted change reply) = IsTabulated s change × IsState (with_change (change_entry change) s)
+LeadsToState s (Kept reply) = ⊤
+LeadsToState s (Refused why) = ⊤

@@ -38,5 +38,5 @@ abbrev pub index_of : List ℕ → OfficeState → List ℕ
 index_of title s = index title (map listed_shown (ward_views s))
 
 -- the answer to a request for the page: it is never refused
-abbrev pub index_told : List ℕ → OfficeState → Result (List ℕ) Reason
-index_told title s = Ok (index_of title s)
+abbrev pub index_answer : List ℕ → OfficeState → Result (List ℕ) Reason
+index_answer title s = Ok (index_of title s)

@@ -8,16 +8,16 @@ use Rattle.store.specs.Overviews.{BatchView, DifferencesView, DoubtfulPapersView
 use Rattle.office.specs.Reads.{found_or}
 
 -- the answer for all wards
-abbrev pub wards_told : OfficeState → Result (List WardView) Reason
-wards_told s = Ok (ward_views s)
+abbrev pub wards_answer : OfficeState → Result (List WardView) Reason
+wards_answer s = Ok (ward_views s)
 
 -- the answer for the batches of a ward
-abbrev pub batches_told : OfficeState → ℕ → Result (List BatchView) Reason
-batches_told s ward = if is_ward_number ward then found_or NoSuchWard (batch_views_at s ward) else Err NumberOutOfRange
+abbrev pub batches_answer : OfficeState → ℕ → Result (List BatchView) Reason
+batches_answer s ward = if is_ward_number ward then found_or NoSuchWard (batch_views_at s ward) else Err NumberOutOfRange
 
 -- the answer for their doubtful papers
-abbrev pub doubtful_told : OfficeState → ℕ → Result DoubtfulPapersView Reason
-doubtful_told s ward = if is_ward_number ward then found_or NoSuchWard (doubtful_at s ward) else Err NumberOutOfRange
+abbrev pub doubtful_answer : OfficeState → ℕ → Result DoubtfulPapersView Reason
+doubtful_answer s ward = if is_ward_number ward then found_or NoSuchWard (doubtful_at s ward) else Err NumberOutOfRange
 
 -- the papers of a batch on which its keyings differ, if they differ
 abbrev pub differing_or : Reason → Option DifferencesView → Result DifferencesView Reason
@@ -25,8 +25,8 @@ differing_or why None = Err why
 differing_or why (Some d) = if d.differs then Ok d else Err NoDifference
 
 -- the answer for these papers
-abbrev pub differences_told : OfficeState → ℕ → Result DifferencesView Reason
-differences_told s batch = if is_batch_number batch then differing_or NoSuchBatch (differences_at s batch) else Err NumberOutOfRange
+abbrev pub differences_answer : OfficeState → ℕ → Result DifferencesView Reason
+differences_answer s batch = if is_batch_number batch then differing_or NoSuchBatch (differences_at s batch) else Err NumberOutOfRange
 
 -- the papers of a batch as they count, if it is taken
 abbrev pub taken_or : Reason → Option PapersView → Result PapersView Reason
@@ -34,8 +34,8 @@ taken_or why None = Err why
 taken_or why (Some p) = if p.taken then Ok p else Err NotTaken
 
 -- the answer for these papers
-abbrev pub papers_told : OfficeState → ℕ → Result PapersView Reason
-papers_told s batch = if is_batch_number batch then taken_or NoSuchBatch (papers_at s batch) else Err NumberOutOfRange
+abbrev pub papers_answer : OfficeState → ℕ → Result PapersView Reason
+papers_answer s batch = if is_batch_number batch then taken_or NoSuchBatch (papers_at s batch) else Err NumberOutOfRange
 
 -- an actor that may have receipts, either the office or a clerk; or no actor, for all of them
 abbrev pub may_have_receipts : Option ℕ → Bool
@@ -43,5 +43,5 @@ may_have_receipts None = true
 may_have_receipts (Some actor) = is_office actor || is_clerk actor
 
 -- the answer for receipts
-abbrev pub receipts_told : OfficeState → Option ℕ → Result (List ReceiptEntry) Reason
-receipts_told s actor = if may_have_receipts actor then Ok (receipts_of s actor) else Err NumberOutOfRange
+abbrev pub receipts_answer : OfficeState → Option ℕ → Result (List ReceiptEntry) Reason
+receipts_answer s actor = if may_have_receipts actor then Ok (receipts_of s actor) else Err NumberOutOfRange

@@ -16,10 +16,10 @@ use Rattle.register.specs.declared.phase.Phase.{Phase}
 use Rattle.register.specs.declared.refusal.Reason.{Reason}
 use Rattle.register.specs.declared.refusal.Reason.TheVariants.{NumberOutOfRange, NoSuchWard, WrongPhase}
 use Rattle.tables.specs.declared.fault.Fault.TheVariants.{Memory, Store}
-use Rattle.office.specs.declared.answers.Stop.{Stop}
-use Rattle.office.specs.declared.answers.Stop.TheVariants.{Refused, Fault as Failed}
-use Rattle.office.specs.declared.sheets.Text.{Text}
-use Rattle.office.specs.declared.sheets.Text.TheVariants.{Sheet, Declaration, Ballots, Page, Table}
+use Rattle.office.specs.declared.answers.ReadError.{ReadError}
+use Rattle.office.specs.declared.answers.ReadError.TheVariants.{Refused, Fault as Failed}
+use Rattle.office.specs.declared.sheets.WardText.{WardText}
+use Rattle.office.specs.declared.sheets.WardText.TheVariants.{Sheet, Declaration, Ballots, Page, Table}
 use Rattle.register.specs.Ranges.{last_ward, is_ward_number, is_candidate_number}
 use Rattle.register.specs.Offices.{WardEntry, CandidateEntry, OfficeState, ward_at}
 use Rattle.register.specs.Elections.{ElectionEntry, election_of, has_count, contest_of, stages_of, elected_of, is_counted, is_declared}
@@ -93,15 +93,15 @@ abbrev pub table_of : ElectionEntry → List ℕ
 table_of e = spreadsheet (election_shown e) (stages_shown e)
 
 -- the text may be printed in this phase of the ward
-abbrev pub is_told_in : Text → Phase → Bool
-is_told_in Sheet phase = is_counted phase
-is_told_in Declaration phase = is_declared phase
-is_told_in Ballots phase = is_counted phase
-is_told_in (Page title) phase = is_counted phase
-is_told_in Table phase = is_counted phase
+abbrev pub is_printable_in : WardText → Phase → Bool
+is_printable_in Sheet phase = is_counted phase
+is_printable_in Declaration phase = is_declared phase
+is_printable_in Ballots phase = is_counted phase
+is_printable_in (Page title) phase = is_counted phase
+is_printable_in Table phase = is_counted phase
 
 -- the text of an election
-abbrev pub text_shown : Text → ElectionEntry → List ℕ
+abbrev pub text_shown : WardText → ElectionEntry → List ℕ
 text_shown Sheet e = sheet_of e
 text_shown Declaration e = declaration_of e
 text_shown Ballots e = ballots_of e
@@ -109,25 +109,25 @@ text_shown (Page title) e = result_page_of title.now e
 text_shown Table e = table_of e
 
 -- the text of the ward found
-abbrev pub text_found : Text → OfficeState → Option WardEntry → Result (List ℕ) Reason
+abbrev pub text_found : WardText → OfficeState → Option WardEntry → Result (List ℕ) Reason
 text_found text s None = Err NoSuchWard
-text_found text s (Some w) = if is_told_in text w.phase then Ok (text_shown text (election_of s w)) else Err WrongPhase
+text_found text s (Some w) = if is_printable_in text w.phase then Ok (text_shown text (election_of s w)) else Err WrongPhase
 
 -- the answer to a request for a text of the ward with this number: the declaration once it is declared, any other text once it is sealed
-abbrev pub text_told : Text → OfficeState → ℕ → Result (List ℕ) Reason
-text_told text s ward = if is_ward_number ward then text_found text s (ward_at s ward) else Err NumberOutOfRange
+abbrev pub text_answer : WardText → OfficeState → ℕ → Result (List ℕ) Reason
+text_answer text s ward = if is_ward_number ward then text_found text s (ward_at s ward) else Err NumberOutOfRange
 
 -- why a text isn't written: an allocation failed and the office stays open, or a fault closed it
-abbrev pub StopsWriting : Bool → Stop → Type 0
-StopsWriting closed (Refused why) = ⊥
-StopsWriting closed (Failed f) = ((f ≡ Memory) × (closed ≡ false)) ⊎ ((f ≡ Store) × (closed ≡ true))
+abbrev pub FailsToWrite : Bool → ReadError → Type 0
+FailsToWrite closed (Refused why) = ⊥
+FailsToWrite closed (Failed f) = ((f ≡ Memory) × (closed ≡ false)) ⊎ ((f ≡ Store) × (closed ≡ true))
 
 -- why there is no text of a ward in this phase: it may not be printed then, or an allocation failed and the office stays open, or a fault closed the office
-abbrev pub StopsText : Text → Phase → Bool → Stop → Type 0
-StopsText text phase closed (Refused why) = (why ≡ WrongPhase) × (is_told_in text phase ≡ false) × (closed ≡ false)
-StopsText text phase closed (Failed f) = StopsWriting closed (Failed f)
+abbrev pub FailsToPrint : WardText → Phase → Bool → ReadError → Type 0
+FailsToPrint text phase closed (Refused why) = (why ≡ WrongPhase) × (is_printable_in text phase ≡ false) × (closed ≡ false)
+FailsToPrint text phase closed (Failed f) = FailsToWrite closed (Failed f)
 
 -- if it is a fault, it is a failed allocation
-abbrev pub IsOfMemory : Stop → Type 0
+abbrev pub IsOfMemory : ReadError → Type 0
 IsOfMemory (Refused why) = ⊤
 IsOfMemory (Failed f) = f ≡ Memory

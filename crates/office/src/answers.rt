@@ -19,7 +19,7 @@ pub enum Answer {
 
 /// Why a read returns no value.
 #[derive(Drop)]
-pub enum Stop {
+pub enum ReadError {
     /// The state has no such value, for this reason.
     Refused(Refusal),
     /// The read met a fault.
@@ -28,18 +28,18 @@ pub enum Stop {
 
 /// The answers to a list of requests, in order, up to the first fault, and that fault.
 #[derive(Drop)]
-pub struct Run {
+pub struct RunOutcome {
     pub answers: Vec<Answer>,
     pub fault: Option<Fault>,
 }
 
-impl Run {
+impl RunOutcome {
     /// Returns a run that a fault ended.
-    pub(crate) fn stopped(answers: Vec<Answer>, fault: Fault) -> Run
+    pub(crate) fn stopped(answers: Vec<Answer>, fault: Fault) -> RunOutcome
         ensures answers { result.answers ≡ answers }
         ensures fault { result.fault ≡ Some fault }
     {
-        Run {
+        RunOutcome {
             answers,
             fault: Some(fault),
         }

@@ -14,7 +14,7 @@ ghost use Rattle.office.specs.Answers.{ClosedInCopying, IsReadAt, WhenOpenAt};
 use crate::open_office::Office;
 use sqlite::{Alter, Connection};
 use std::alloc::Global;
-use store::{CopyFault, Fault, Holdings};
+use store::{CopyFault, Fault, OfficeCounts};
 
 impl<S: Alter> Office<S> {
     /// Copies the office in a connection's database into that of another connection, which must be empty, in one
@@ -28,7 +28,7 @@ impl<S: Alter> Office<S> {
         alloc: Global,
         conn: &mut Connection<S>,
         copy: &mut Connection<T>,
-    ) -> Result<Holdings, CopyFault>
+    ) -> Result<OfficeCounts, CopyFault>
         ensures { CopiesTo S.Store T.Store conn.old conn.new copy.old copy.new result }
     {
         store::copy(alloc, conn, copy)
@@ -40,7 +40,10 @@ impl<S: Alter> Office<S> {
     /// `Office` is the reason why the office couldn't be read, either out of memory or a failed store; then nothing is
     /// copied. Any such fault but out of memory closes the office. `Taken` and `Copy` are those of `copy`. A closed
     /// office returns `Closed`.
-    pub fn copy_open<T: Alter>(&mut self, copy: &mut Connection<T>) -> Result<Holdings, CopyFault>
+    pub fn copy_open<T: Alter>(
+        &mut self,
+        copy: &mut Connection<T>,
+    ) -> Result<OfficeCounts, CopyFault>
         ensures copies { WhenOpenAt (state S.Store) self.old self.new
             (λ s. CopiesAt s (state T.Store copy.old) (state T.Store copy.new) result × IsReadAt s self.new.closed (state S.Store self.new.held)) }
         ensures cause { WhenOpenAt (state S.Store) self.old self.new (λ _. IsTrue (state S.Store self.old.held).is_open → IsBlank (state T.Store copy.old)

@@ -7,10 +7,10 @@ ghost use Rattle.register.specs.Seen.{seen_by};
 ghost use Rattle.tables.specs.Reading.{OnlyReads};
 ghost use Rattle.store.specs.EarlierKeyings.{earlier_at, keyed_round_entry};
 ghost use Rattle.office.specs.Answers.{WhenOpenAt};
-ghost use Rattle.office.specs.Reads.{ReadWhenOpen, StopsBy, ClosesAt};
+ghost use Rattle.office.specs.Reads.{ReadWhenOpen, ReadFailsBy, ClosesAt};
 ghost use Rattle.office.specs.EarlierKeyings.{earlier_told};
 
-use crate::answers::Stop;
+use crate::answers::ReadError;
 use crate::open_office::Office;
 use crate::reads::{read, refused};
 use register::Reason;
@@ -25,14 +25,18 @@ impl<S: Alter> Office<S> {
     /// It depends only on what the clerk sees of the state, whatever others keyed. Refused if a number is out of range,
     /// or the clerk is not one of such a batch. Changes nothing. `Memory` leaves the office open; any other fault closes
     /// it. A closed office returns `Closed`.
-    pub fn earlier_keying(&mut self, clerk: u32, batch: u32) -> Result<Option<KeyedRound>, Stop>
+    pub fn earlier_keying(
+        &mut self,
+        clerk: u32,
+        batch: u32,
+    ) -> Result<Option<KeyedRound>, ReadError>
         ensures reads { ReadWhenOpen (state S.Store) self.old self.new (option_map keyed_round_entry) (λ s. earlier_told s clerk batch) result }
         ensures blind { WhenOpenAt (state S.Store) self.old self.new
             (λ s. IfOk result (λ keyed. Some (option_map keyed_round_entry keyed) ≡ earlier_at (seen_by clerk s) clerk batch)) }
         ensures same { OnlyReads (state S.Store self.old.held) (state S.Store self.new.held) }
         ensures closes { IfErr result (ClosesAt self.new.closed) }
-        ensures cause { WhenOpenAt (state S.Store) self.old self.new (λ s. IfErr result (StopsBy (state S.Store self.old.held) (state S.Store self.new.held))) }
-        ensures closed { self.old.closed ≡ true → (result ≡ Err (Stop.Fault Fault.Closed)) × (self.new ≡ self.old) }
+        ensures cause { WhenOpenAt (state S.Store) self.old self.new (λ s. IfErr result (ReadFailsBy (state S.Store self.old.held) (state S.Store self.new.held))) }
+        ensures closed { self.old.closed ≡ true → (result ≡ Err (ReadError.Fault Fault.Closed)) × (self.new ≡ self.old) }
     {
         read!(self, is_clerk(clerk) && is_batch_number(batch) => load_earlier_keying(clerk, batch), Reason::NotItsClerk)
     }

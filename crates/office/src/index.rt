@@ -9,11 +9,11 @@ ghost use Rattle.sheet.specs.Index.{elected_shown, index, listed};
 ghost use Rattle.store.specs.Overviews.{ward_view};
 ghost use Rattle.tables.specs.Reading.{OnlyReads};
 ghost use Rattle.office.specs.Answers.{WhenOpenAt};
-ghost use Rattle.office.specs.Index.{index_told, is_among_elected, listed_shown, standing_in};
-ghost use Rattle.office.specs.Reads.{ReadWhenOpen, StopsBy, ClosesAt};
+ghost use Rattle.office.specs.Index.{index_answer, is_among_elected, listed_shown, standing_in};
+ghost use Rattle.office.specs.Reads.{ReadWhenOpen, ReadFailsBy, ClosesAt};
 ghost use Rattle.office.specs.Sheets.{candidate_shown};
 
-use crate::answers::Stop;
+use crate::answers::ReadError;
 use crate::open_office::Office;
 use paper::Columns;
 use register::{Candidate, Phase};
@@ -109,9 +109,9 @@ fn index_over(alloc: Global, title: &str, overviews: &[WardOverview]) -> Result<
 
 impl<S: Alter> Office<S> {
     /// Returns the page of all wards with these overviews. It fails only if an allocation fails, which leaves the office open.
-    fn index_of(&mut self, title: &str, overviews: &[WardOverview]) -> Result<String, Stop>
+    fn index_of(&mut self, title: &str, overviews: &[WardOverview]) -> Result<String, ReadError>
         ensures told { IfOk result (λ text. string_bytes text ≡ index title.now (map listed_shown (map ward_view overviews.now))) }
-        ensures stopped { IfErr result (λ stop. (stop ≡ Stop.Fault Fault.Memory) × (self.new.closed ≡ false)) }
+        ensures stopped { IfErr result (λ stop. (stop ≡ ReadError.Fault Fault.Memory) × (self.new.closed ≡ false)) }
         ensures held { self.new.held ≡ self.old.held }
         ensures open_still { OnOk result (self.new.closed ≡ self.old.closed) }
     {
@@ -125,12 +125,12 @@ impl<S: Alter> Office<S> {
     /// declared. An empty title is left out.
     ///
     /// Changes nothing. `Memory` leaves the office open; any other fault closes it. A closed office returns `Closed`.
-    pub fn index(&mut self, title: &str) -> Result<String, Stop>
-        ensures reads { ReadWhenOpen (state S.Store) self.old self.new string_bytes (λ s. index_told title.now s) result }
+    pub fn index(&mut self, title: &str) -> Result<String, ReadError>
+        ensures reads { ReadWhenOpen (state S.Store) self.old self.new string_bytes (λ s. index_answer title.now s) result }
         ensures same { OnlyReads (state S.Store self.old.held) (state S.Store self.new.held) }
         ensures closes { IfErr result (ClosesAt self.new.closed) }
-        ensures cause { WhenOpenAt (state S.Store) self.old self.new (λ s. IfErr result (StopsBy (state S.Store self.old.held) (state S.Store self.new.held))) }
-        ensures closed { self.old.closed ≡ true → (result ≡ Err (Stop.Fault Fault.Closed)) × (self.new ≡ self.old) }
+        ensures cause { WhenOpenAt (state S.Store) self.old self.new (λ s. IfErr result (ReadFailsBy (state S.Store self.old.held) (state S.Store self.new.held))) }
+        ensures closed { self.old.closed ≡ true → (result ≡ Err (ReadError.Fault Fault.Closed)) × (self.new ≡ self.old) }
     {
         let overviews = match self.wards() {
             Ok(overviews) => overviews,

@@ -25,7 +25,7 @@ mod copying;
 mod deciding;
 mod migration;
 pub mod open_office;
-mod playing;
+mod replaying;
 // What is read of the state.
 mod earlier_keyings;
 mod index;
@@ -33,8 +33,12 @@ mod overviews;
 mod reads;
 mod sheets;
 
-pub use answers::{Answer, Run, Stop};
+pub use answers::{Answer, ReadError, RunOutcome};
+/// The original name of [`ReadError`].
+pub use answers::ReadError as Stop;
+/// The original name of [`RunOutcome`].
+pub use answers::RunOutcome as Run;
 pub use open_office::Office;
 pub use register::{BallotPaper, NextStep, Receipt, Status, Work};
-pub use sheets::{Text, texts_are_there};
-pub use store::{CopyFault, Holdings, KeyedRound, Migrated, Rows};
+pub use sheets::{WardText, texts_are_there};
+pub use store::{CopyFault, KeyedRound, Migrated, OfficeCounts, Rows};

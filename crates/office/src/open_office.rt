@@ -15,24 +15,24 @@ ghost use Rattle.tables.specs.Contents.{RestsAt, SameContents, Stores};
 ghost use Rattle.tables.specs.Presence.{has_some_table, has_every_table, IsOurs};
 ghost use Rattle.tables.specs.Reading.{OnlyReads, FailsToList, FailsBy};
 ghost use Rattle.store.specs.StateTables.{tables_of, HoldsState, IsAt, LeavesState, KeepsConnection};
-ghost use Rattle.store.specs.Openings.{IsBlank, IsToldBy, IsLeftAt};
+ghost use Rattle.store.specs.Openings.{IsBlank, IsFaultOf, IsLeftAt};
 ghost use Rattle.register.specs.declared.command.Request.{Request};
 ghost use Rattle.office.specs.Answers.{WhenOpenAt, told, told_of, IsMemoryOrStore, IsOpenAt, Handled, HandledAgain};
 ghost use Rattle.office.specs.Clerks.{none_is_the_office, own_requests, own_answers};
 ghost use Rattle.office.specs.Runs.{outcomes, AnswersFirst, Keeps, StopsAfter};
 
-use crate::answers::{Answer, Run};
+use crate::answers::{Answer, RunOutcome};
 use crate::deciding::decision_of;
 use register::{Command, Decision, Request};
 use sqlite::{Alter, Connection};
 use std::alloc::Global;
 use std::marker::Model;
-use store::{Fault, Keeper};
+use store::{CachedStore, Fault};
 
 /// An office in a store. A fault inside a transaction closes it, and so does any fault but out of memory; then each
 /// call but `into_connection` returns `Closed`, until the office is reopened.
 pub struct Office<S: Alter> {
-    pub(crate) store: Keeper<S>,
+    pub(crate) store: CachedStore<S>,
     pub(crate) closed: bool,
     pub(crate) alloc: Global,
 }
@@ -65,7 +65,7 @@ impl<S: Alter> Office<S> {
         ensures wrong { has_some_table (state S.Store conn).now.schema ≡ true → conn.in_transaction ≡ false → IfErr result (λ e. e.0 ≡ Fault.WrongDatabase) }
         ensures told { IfErr result (λ e. (e.0 ≡ Fault.Memory) ⊎ ((e.0 ≡ Fault.Store) ⊎ ((e.0 ≡ Fault.WrongDatabase) × (has_some_table (state S.Store conn).now.schema ≡ true) × (e.1 ≡ conn)))) }
     {
-        match Keeper::create(alloc, conn) {
+        match CachedStore::create(alloc, conn) {
             Ok(store) => Ok(Office {
                 store,
                 closed: false,
@@ -84,7 +84,7 @@ impl<S: Alter> Office<S> {
     pub fn open_from(alloc: Global, conn: Connection<S>) -> Result<Self, (Fault, Connection<S>)>
         ensures opened { IfOk result (λ o. HasCleanDisk (state S.Store o.held) → (db : Database) → IsOurs db.schema → RestsAt db (state S.Store conn)
             → (s : OfficeState) × HoldsState db s × IsOpenAt s o.closed (state S.Store o.held)) }
-        ensures told { IfErr result (λ e. HasCleanDisk (state S.Store e.1) → (db : Database) → IsOurs db.schema → RestsAt db (state S.Store conn) → IsToldBy db e.0) }
+        ensures told { IfErr result (λ e. HasCleanDisk (state S.Store e.1) → (db : Database) → IsOurs db.schema → RestsAt db (state S.Store conn) → IsFaultOf db e.0) }
         ensures reopens { IfOk result (λ o. HasCleanDisk (state S.Store o.held) → (db : Database) → RestsAt db (state S.Store conn) → (s : OfficeState) → IsLeftAt s db
             → IsOpenAt s o.closed (state S.Store o.held)) }
         ensures refuses { IfErr result (λ e. HasCleanDisk (state S.Store e.1) → (db : Database) → RestsAt db (state S.Store conn) → (s : OfficeState) → IsLeftAt s db → IsMemoryOrStore e.0) }
@@ -99,7 +99,7 @@ impl<S: Alter> Office<S> {
         ensures alone { (db : Database) → (s t : OfficeState) → HoldsState db s → HoldsState db t → s ≡ t }
         ensures equal { (s t : OfficeState) → IsState s → IsState t → SameContents (tables_of s) (tables_of t) → s ≡ t }
     {
-        match Keeper::open_from(alloc, conn) {
+        match CachedStore::open_from(alloc, conn) {
             Ok(store) => Ok(Office {
                 store,
                 closed: false,
@@ -158,11 +158,16 @@ impl<S: Alter> Office<S> {
         ensures closed { self.old.closed ≡ true → (result ≡ Err Fault.Closed) × (self.new ≡ self.old) }
         ensures clean { HasCleanDisk (state S.Store self.new.held) → HasCleanDisk (state S.Store self.old.held) }
     {
-        self.answered(actor, id, command)
+        self.decide_and_commit(actor, id, command)
     }
 
     /// Returns the answer to one request, from the decision on what the store keeps and the commit of its change.
-    fn answered(&mut self, actor: u32, id: &str, command: &Command) -> Result<Answer, Fault>
+    fn decide_and_commit(
+        &mut self,
+        actor: u32,
+        id: &str,
+        command: &Command,
+    ) -> Result<Answer, Fault>
         ensures clean { HasCleanDisk (state S.Store self.new.held) → HasCleanDisk (state S.Store self.old.held) }
         ensures keeps_connection { KeepsConnection (state S.Store self.old.held) (state S.Store self.new.held) }
         ensures closed { self.old.closed ≡ true → (result ≡ Err Fault.Closed) × (self.new ≡ self.old) }
@@ -202,7 +207,7 @@ impl<S: Alter> Office<S> {
     ///
     /// In a list of clerks' requests each clerk gets the answers that the clerk's requests alone would get from what
     /// the clerk sees, whatever others keyed before or between.
-    pub fn run(&mut self, requests: &[Request]) -> Run
+    pub fn run(&mut self, requests: &[Request]) -> RunOutcome
         ensures answers { WhenOpenAt (state S.Store) self.old self.new (λ s. AnswersFirst s requests.now result.answers.items) }
         ensures all_answered { WhenOpenAt (state S.Store) self.old self.new
             (λ s. IfNone result.fault ((vec_len result.answers ≡ length requests.now) × IsOpenAt (after s requests.now) self.new.closed (state S.Store self.new.held))) }
@@ -219,18 +224,18 @@ impl<S: Alter> Office<S> {
         ensures clean { HasCleanDisk (state S.Store self.new.held) → HasCleanDisk (state S.Store self.old.held) }
     {
         if self.closed {
-            return Run::stopped(Vec::new(self.alloc), Fault::Closed);
+            return RunOutcome::stopped(Vec::new(self.alloc), Fault::Closed);
         }
         let Ok(mut answers) = Vec::with_capacity(self.alloc, requests.len()) else {
-            return Run::stopped(Vec::new(self.alloc), Fault::Memory);
+            return RunOutcome::stopped(Vec::new(self.alloc), Fault::Memory);
         };
         for request in requests {
             match self.handle(request.actor, request.id.as_str(), &request.command) {
                 Ok(answer) => put_answer(&mut answers, answer),
-                Err(fault) => return Run::stopped(answers, fault),
+                Err(fault) => return RunOutcome::stopped(answers, fault),
             }
         }
-        Run {
+        RunOutcome {
             answers,
             fault: None,
         }

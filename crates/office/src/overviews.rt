@@ -8,10 +8,10 @@ ghost use Rattle.register.specs.Offices.{receipt_entry};
 ghost use Rattle.tables.specs.Reading.{OnlyReads};
 ghost use Rattle.store.specs.Overviews.{ward_view, batch_view, doubtful_papers_view, differences_view, papers_view};
 ghost use Rattle.office.specs.Answers.{WhenOpenAt};
-ghost use Rattle.office.specs.Reads.{ReadWhenOpen, StopsBy, ClosesAt};
-ghost use Rattle.office.specs.Overviews.{wards_told, batches_told, doubtful_told, differences_told, papers_told, receipts_told, may_have_receipts};
+ghost use Rattle.office.specs.Reads.{ReadWhenOpen, ReadFailsBy, ClosesAt};
+ghost use Rattle.office.specs.Overviews.{wards_answer, batches_answer, doubtful_answer, differences_answer, papers_answer, receipts_answer, may_have_receipts};
 
-use crate::answers::Stop;
+use crate::answers::ReadError;
 use crate::open_office::Office;
 use crate::reads::{read, refused};
 use register::ranges::{is_batch_number, is_clerk, is_ward_number};
@@ -36,12 +36,12 @@ impl<S: Alter> Office<S> {
     /// Returns the overviews of all wards, in the order of their numbers, each with those elected once it is declared.
     ///
     /// Changes nothing. `Memory` leaves the office open; any other fault closes it. A closed office returns `Closed`.
-    pub fn wards(&mut self) -> Result<Vec<WardOverview>, Stop>
-        ensures reads { ReadWhenOpen (state S.Store) self.old self.new (λ wards. map ward_view wards.items) (λ s. wards_told s) result }
+    pub fn wards(&mut self) -> Result<Vec<WardOverview>, ReadError>
+        ensures reads { ReadWhenOpen (state S.Store) self.old self.new (λ wards. map ward_view wards.items) (λ s. wards_answer s) result }
         ensures same { OnlyReads (state S.Store self.old.held) (state S.Store self.new.held) }
         ensures closes { IfErr result (ClosesAt self.new.closed) }
-        ensures cause { WhenOpenAt (state S.Store) self.old self.new (λ s. IfErr result (StopsBy (state S.Store self.old.held) (state S.Store self.new.held))) }
-        ensures closed { self.old.closed ≡ true → (result ≡ Err (Stop.Fault Fault.Closed)) × (self.new ≡ self.old) }
+        ensures cause { WhenOpenAt (state S.Store) self.old self.new (λ s. IfErr result (ReadFailsBy (state S.Store self.old.held) (state S.Store self.new.held))) }
+        ensures closed { self.old.closed ≡ true → (result ≡ Err (ReadError.Fault Fault.Closed)) × (self.new ≡ self.old) }
     {
         read!(self, true => load_wards())
     }
@@ -50,12 +50,12 @@ impl<S: Alter> Office<S> {
     ///
     /// Refused if the number is outside 1 to 99 or no ward has it. Changes nothing. `Memory` leaves the office open;
     /// any other fault closes it. A closed office returns `Closed`.
-    pub fn batches(&mut self, ward: u32) -> Result<Vec<BatchOverview>, Stop>
-        ensures reads { ReadWhenOpen (state S.Store) self.old self.new (λ batches. map batch_view batches.items) (λ s. batches_told s ward) result }
+    pub fn batches(&mut self, ward: u32) -> Result<Vec<BatchOverview>, ReadError>
+        ensures reads { ReadWhenOpen (state S.Store) self.old self.new (λ batches. map batch_view batches.items) (λ s. batches_answer s ward) result }
         ensures same { OnlyReads (state S.Store self.old.held) (state S.Store self.new.held) }
         ensures closes { IfErr result (ClosesAt self.new.closed) }
-        ensures cause { WhenOpenAt (state S.Store) self.old self.new (λ s. IfErr result (StopsBy (state S.Store self.old.held) (state S.Store self.new.held))) }
-        ensures closed { self.old.closed ≡ true → (result ≡ Err (Stop.Fault Fault.Closed)) × (self.new ≡ self.old) }
+        ensures cause { WhenOpenAt (state S.Store) self.old self.new (λ s. IfErr result (ReadFailsBy (state S.Store self.old.held) (state S.Store self.new.held))) }
+        ensures closed { self.old.closed ≡ true → (result ≡ Err (ReadError.Fault Fault.Closed)) × (self.new ≡ self.old) }
     {
         read!(self, is_ward_number(ward) => load_batches(ward), Reason::NoSuchWard)
     }
@@ -65,12 +65,12 @@ impl<S: Alter> Office<S> {
     ///
     /// Refused if the number is outside 1 to 99 or no ward has it. Changes nothing. `Memory` leaves the office open;
     /// any other fault closes it. A closed office returns `Closed`.
-    pub fn doubtful(&mut self, ward: u32) -> Result<DoubtfulPapers, Stop>
-        ensures reads { ReadWhenOpen (state S.Store) self.old self.new doubtful_papers_view (λ s. doubtful_told s ward) result }
+    pub fn doubtful(&mut self, ward: u32) -> Result<DoubtfulPapers, ReadError>
+        ensures reads { ReadWhenOpen (state S.Store) self.old self.new doubtful_papers_view (λ s. doubtful_answer s ward) result }
         ensures same { OnlyReads (state S.Store self.old.held) (state S.Store self.new.held) }
         ensures closes { IfErr result (ClosesAt self.new.closed) }
-        ensures cause { WhenOpenAt (state S.Store) self.old self.new (λ s. IfErr result (StopsBy (state S.Store self.old.held) (state S.Store self.new.held))) }
-        ensures closed { self.old.closed ≡ true → (result ≡ Err (Stop.Fault Fault.Closed)) × (self.new ≡ self.old) }
+        ensures cause { WhenOpenAt (state S.Store) self.old self.new (λ s. IfErr result (ReadFailsBy (state S.Store self.old.held) (state S.Store self.new.held))) }
+        ensures closed { self.old.closed ≡ true → (result ≡ Err (ReadError.Fault Fault.Closed)) × (self.new ≡ self.old) }
     {
         read!(self, is_ward_number(ward) => load_doubtful(ward), Reason::NoSuchWard)
     }
@@ -79,12 +79,12 @@ impl<S: Alter> Office<S> {
     ///
     /// Refused if the number is outside 1 to 9999, no batch has it, or its keyings don't differ. Changes nothing.
     /// `Memory` leaves the office open; any other fault closes it. A closed office returns `Closed`.
-    pub fn differences(&mut self, batch: u32) -> Result<Differences, Stop>
-        ensures reads { ReadWhenOpen (state S.Store) self.old self.new differences_view (λ s. differences_told s batch) result }
+    pub fn differences(&mut self, batch: u32) -> Result<Differences, ReadError>
+        ensures reads { ReadWhenOpen (state S.Store) self.old self.new differences_view (λ s. differences_answer s batch) result }
         ensures same { OnlyReads (state S.Store self.old.held) (state S.Store self.new.held) }
         ensures closes { IfErr result (ClosesAt self.new.closed) }
-        ensures cause { WhenOpenAt (state S.Store) self.old self.new (λ s. IfErr result (StopsBy (state S.Store self.old.held) (state S.Store self.new.held))) }
-        ensures closed { self.old.closed ≡ true → (result ≡ Err (Stop.Fault Fault.Closed)) × (self.new ≡ self.old) }
+        ensures cause { WhenOpenAt (state S.Store) self.old self.new (λ s. IfErr result (ReadFailsBy (state S.Store self.old.held) (state S.Store self.new.held))) }
+        ensures closed { self.old.closed ≡ true → (result ≡ Err (ReadError.Fault Fault.Closed)) × (self.new ≡ self.old) }
     {
         if let Some(stop) = self.stop_before(is_batch_number(batch)) {
             return Err(stop);
@@ -102,12 +102,12 @@ impl<S: Alter> Office<S> {
     ///
     /// Refused if the number is outside 1 to 9999, no batch has it, or the batch isn't taken. Changes nothing. `Memory`
     /// leaves the office open; any other fault closes it. A closed office returns `Closed`.
-    pub fn papers(&mut self, batch: u32) -> Result<CountedPapers, Stop>
-        ensures reads { ReadWhenOpen (state S.Store) self.old self.new papers_view (λ s. papers_told s batch) result }
+    pub fn papers(&mut self, batch: u32) -> Result<CountedPapers, ReadError>
+        ensures reads { ReadWhenOpen (state S.Store) self.old self.new papers_view (λ s. papers_answer s batch) result }
         ensures same { OnlyReads (state S.Store self.old.held) (state S.Store self.new.held) }
         ensures closes { IfErr result (ClosesAt self.new.closed) }
-        ensures cause { WhenOpenAt (state S.Store) self.old self.new (λ s. IfErr result (StopsBy (state S.Store self.old.held) (state S.Store self.new.held))) }
-        ensures closed { self.old.closed ≡ true → (result ≡ Err (Stop.Fault Fault.Closed)) × (self.new ≡ self.old) }
+        ensures cause { WhenOpenAt (state S.Store) self.old self.new (λ s. IfErr result (ReadFailsBy (state S.Store self.old.held) (state S.Store self.new.held))) }
+        ensures closed { self.old.closed ≡ true → (result ≡ Err (ReadError.Fault Fault.Closed)) × (self.new ≡ self.old) }
     {
         if let Some(stop) = self.stop_before(is_batch_number(batch)) {
             return Err(stop);
@@ -124,12 +124,12 @@ impl<S: Alter> Office<S> {
     ///
     /// Refused if the number is above 999. Changes nothing. `Memory` leaves the office open; any other fault closes it.
     /// A closed office returns `Closed`.
-    pub fn receipts(&mut self, actor: Option<u32>) -> Result<Vec<Receipt>, Stop>
-        ensures reads { ReadWhenOpen (state S.Store) self.old self.new (λ receipts. map receipt_entry receipts.items) (λ s. receipts_told s actor) result }
+    pub fn receipts(&mut self, actor: Option<u32>) -> Result<Vec<Receipt>, ReadError>
+        ensures reads { ReadWhenOpen (state S.Store) self.old self.new (λ receipts. map receipt_entry receipts.items) (λ s. receipts_answer s actor) result }
         ensures same { OnlyReads (state S.Store self.old.held) (state S.Store self.new.held) }
         ensures closes { IfErr result (ClosesAt self.new.closed) }
-        ensures cause { WhenOpenAt (state S.Store) self.old self.new (λ s. IfErr result (StopsBy (state S.Store self.old.held) (state S.Store self.new.held))) }
-        ensures closed { self.old.closed ≡ true → (result ≡ Err (Stop.Fault Fault.Closed)) × (self.new ≡ self.old) }
+        ensures cause { WhenOpenAt (state S.Store) self.old self.new (λ s. IfErr result (ReadFailsBy (state S.Store self.old.held) (state S.Store self.new.held))) }
+        ensures closed { self.old.closed ≡ true → (result ≡ Err (ReadError.Fault Fault.Closed)) × (self.new ≡ self.old) }
     {
         read!(self, may_have_receipts(actor) => load_receipts(actor))
     }

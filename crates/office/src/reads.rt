@@ -12,12 +12,12 @@ ghost use Rattle.tables.specs.Reading.{OnlyReads};
 ghost use Rattle.register.specs.Elections.{ElectionEntry};
 ghost use Rattle.register.specs.Tabulated.{IsCountedWard, IsSheetOf};
 ghost use Rattle.office.specs.Answers.{WhenOpenAt};
-ghost use Rattle.office.specs.Reads.{ReadWhenOpen, status_told, next_told, columns_told, work_told, paper_told, StopsFor, StopsBy, ClosesAt};
-ghost use Rattle.office.specs.Sheets.{is_told_in, text_shown, text_told, StopsText, StopsWriting, IsTextual, IsOfMemory};
+ghost use Rattle.office.specs.Reads.{ReadWhenOpen, status_answer, next_answer, columns_answer, work_answer, paper_answer, FailsFor, ReadFailsBy, ClosesAt};
+ghost use Rattle.office.specs.Sheets.{is_printable_in, text_shown, text_answer, FailsToPrint, FailsToWrite, IsTextual, IsOfMemory};
 
-use crate::answers::Stop;
+use crate::answers::ReadError;
 use crate::open_office::Office;
-use crate::sheets::{Text, declaration, text_of, texts_are_there};
+use crate::sheets::{WardText, declaration, text_of, texts_are_there};
 use paper::Columns;
 use register::ranges::{is_batch_number, is_clerk, is_ward_number};
 use register::{
@@ -57,27 +57,27 @@ macro_rules! read {
 pub(crate) use read;
 
 /// Returns a refusal for a reason, or the fault `Memory` if an allocation fails.
-pub(crate) fn refused(alloc: Global, reason: Reason) -> Stop
-    ensures reason { StopsFor reason result }
+pub(crate) fn refused(alloc: Global, reason: Reason) -> ReadError
+    ensures reason { FailsFor reason result }
     ensures closes { (closed : Bool) → ClosesAt closed result }
     ensures memory { IsOfMemory result }
 {
     match Refusal::new(alloc, reason) {
-        Ok(refusal) => Stop::Refused(refusal),
-        Err(_) => Stop::Fault(Fault::Memory),
+        Ok(refusal) => ReadError::Refused(refusal),
+        Err(_) => ReadError::Fault(Fault::Memory),
     }
 }
 
 impl<S: Alter> Office<S> {
     /// Returns what stops a read before it queries the store: the office is closed, or the number is out of range.
-    pub(crate) fn stop_before(&self, is_in_range: bool) -> Option<Stop>
-        ensures closed { self.now.closed ≡ true → result ≡ Some (Stop.Fault Fault.Closed) }
-        ensures range { self.now.closed ≡ false → IfSome result (λ stop. (is_in_range ≡ false) × StopsFor Reason.NumberOutOfRange stop × IsOfMemory stop) }
+    pub(crate) fn stop_before(&self, is_in_range: bool) -> Option<ReadError>
+        ensures closed { self.now.closed ≡ true → result ≡ Some (ReadError.Fault Fault.Closed) }
+        ensures range { self.now.closed ≡ false → IfSome result (λ stop. (is_in_range ≡ false) × FailsFor Reason.NumberOutOfRange stop × IsOfMemory stop) }
         ensures none { IfNone result ((self.now.closed ≡ false) × (is_in_range ≡ true)) }
         ensures closes { IfSome result (ClosesAt self.now.closed) }
     {
         if self.closed {
-            return Some(Stop::Fault(Fault::Closed));
+            return Some(ReadError::Fault(Fault::Closed));
         }
         if !is_in_range {
             return Some(refused(self.alloc, Reason::NumberOutOfRange));
@@ -86,27 +86,27 @@ impl<S: Alter> Office<S> {
     }
 
     /// Returns a fault that a read met. Any fault but out of memory closes the office.
-    pub(crate) fn stopped_by(&mut self, fault: Fault) -> Stop
-        ensures told { result ≡ Stop.Fault fault }
+    pub(crate) fn stopped_by(&mut self, fault: Fault) -> ReadError
+        ensures told { result ≡ ReadError.Fault fault }
         ensures held { self.new.held ≡ self.old.held }
         ensures kept { fault ≡ Fault.Memory → self.new.closed ≡ false }
         ensures closes { (fault ≡ Fault.Memory) ⊎ (self.new.closed ≡ true) }
         ensures shuts { fault ≡ Fault.Store → self.new.closed ≡ true }
     {
         self.closed = fault != Fault::Memory;
-        Stop::Fault(fault)
+        ReadError::Fault(fault)
     }
 
     /// Returns the status of a ward.
     ///
     /// Refused if the number is outside 1 to 99 or no ward has it. Changes nothing. `Memory` leaves the office open;
     /// any other fault closes it. A closed office returns `Closed`.
-    pub fn status(&mut self, ward: u32) -> Result<Status, Stop>
-        ensures reads { ReadWhenOpen (state S.Store) self.old self.new status_entry (λ s. status_told s ward) result }
+    pub fn status(&mut self, ward: u32) -> Result<Status, ReadError>
+        ensures reads { ReadWhenOpen (state S.Store) self.old self.new status_entry (λ s. status_answer s ward) result }
         ensures same { OnlyReads (state S.Store self.old.held) (state S.Store self.new.held) }
         ensures closes { IfErr result (ClosesAt self.new.closed) }
-        ensures cause { WhenOpenAt (state S.Store) self.old self.new (λ s. IfErr result (StopsBy (state S.Store self.old.held) (state S.Store self.new.held))) }
-        ensures closed { self.old.closed ≡ true → (result ≡ Err (Stop.Fault Fault.Closed)) × (self.new ≡ self.old) }
+        ensures cause { WhenOpenAt (state S.Store) self.old self.new (λ s. IfErr result (ReadFailsBy (state S.Store self.old.held) (state S.Store self.new.held))) }
+        ensures closed { self.old.closed ≡ true → (result ≡ Err (ReadError.Fault Fault.Closed)) × (self.new ≡ self.old) }
     {
         read!(self, is_ward_number(ward) => load_status(ward), Reason::NoSuchWard)
     }
@@ -115,12 +115,12 @@ impl<S: Alter> Office<S> {
     ///
     /// Refused if the number is outside 1 to 99 or no ward has it. Changes nothing. `Memory` leaves the office open;
     /// any other fault closes it. A closed office returns `Closed`.
-    pub fn next_step(&mut self, ward: u32) -> Result<NextStep, Stop>
-        ensures reads { ReadWhenOpen (state S.Store) self.old self.new step_entry (λ s. next_told s ward) result }
+    pub fn next_step(&mut self, ward: u32) -> Result<NextStep, ReadError>
+        ensures reads { ReadWhenOpen (state S.Store) self.old self.new step_entry (λ s. next_answer s ward) result }
         ensures same { OnlyReads (state S.Store self.old.held) (state S.Store self.new.held) }
         ensures closes { IfErr result (ClosesAt self.new.closed) }
-        ensures cause { WhenOpenAt (state S.Store) self.old self.new (λ s. IfErr result (StopsBy (state S.Store self.old.held) (state S.Store self.new.held))) }
-        ensures closed { self.old.closed ≡ true → (result ≡ Err (Stop.Fault Fault.Closed)) × (self.new ≡ self.old) }
+        ensures cause { WhenOpenAt (state S.Store) self.old self.new (λ s. IfErr result (ReadFailsBy (state S.Store self.old.held) (state S.Store self.new.held))) }
+        ensures closed { self.old.closed ≡ true → (result ≡ Err (ReadError.Fault Fault.Closed)) × (self.new ≡ self.old) }
     {
         read!(self, is_ward_number(ward) => load_next(ward), Reason::NoSuchWard)
     }
@@ -129,12 +129,12 @@ impl<S: Alter> Office<S> {
     ///
     /// Refused if the number is outside 1 to 9999 or no batch has it. Changes nothing. `Memory` leaves the office open;
     /// any other fault closes it. A closed office returns `Closed`.
-    pub fn columns(&mut self, batch: u32) -> Result<Columns, Stop>
-        ensures reads { ReadWhenOpen (state S.Store) self.old self.new (λ columns. columns) (λ s. columns_told s batch) result }
+    pub fn columns(&mut self, batch: u32) -> Result<Columns, ReadError>
+        ensures reads { ReadWhenOpen (state S.Store) self.old self.new (λ columns. columns) (λ s. columns_answer s batch) result }
         ensures same { OnlyReads (state S.Store self.old.held) (state S.Store self.new.held) }
         ensures closes { IfErr result (ClosesAt self.new.closed) }
-        ensures cause { WhenOpenAt (state S.Store) self.old self.new (λ s. IfErr result (StopsBy (state S.Store self.old.held) (state S.Store self.new.held))) }
-        ensures closed { self.old.closed ≡ true → (result ≡ Err (Stop.Fault Fault.Closed)) × (self.new ≡ self.old) }
+        ensures cause { WhenOpenAt (state S.Store) self.old self.new (λ s. IfErr result (ReadFailsBy (state S.Store self.old.held) (state S.Store self.new.held))) }
+        ensures closed { self.old.closed ≡ true → (result ≡ Err (ReadError.Fault Fault.Closed)) × (self.new ≡ self.old) }
     {
         read!(self, is_batch_number(batch) => load_columns(batch), Reason::NoSuchBatch)
     }
@@ -144,13 +144,13 @@ impl<S: Alter> Office<S> {
     ///
     /// It depends only on what the clerk sees of the state, whatever others keyed. Refused if the number is outside 1
     /// to 999. Changes nothing. `Memory` leaves the office open; any other fault closes it. A closed office returns `Closed`.
-    pub fn work(&mut self, clerk: u32) -> Result<Vec<Work>, Stop>
-        ensures reads { ReadWhenOpen (state S.Store) self.old self.new (λ work. map work_entry work.items) (λ s. work_told s clerk) result }
+    pub fn work(&mut self, clerk: u32) -> Result<Vec<Work>, ReadError>
+        ensures reads { ReadWhenOpen (state S.Store) self.old self.new (λ work. map work_entry work.items) (λ s. work_answer s clerk) result }
         ensures blind { WhenOpenAt (state S.Store) self.old self.new (λ s. IfOk result (λ work. map work_entry work.items ≡ work_of (seen_by clerk s) clerk)) }
         ensures same { OnlyReads (state S.Store self.old.held) (state S.Store self.new.held) }
         ensures closes { IfErr result (ClosesAt self.new.closed) }
-        ensures cause { WhenOpenAt (state S.Store) self.old self.new (λ s. IfErr result (StopsBy (state S.Store self.old.held) (state S.Store self.new.held))) }
-        ensures closed { self.old.closed ≡ true → (result ≡ Err (Stop.Fault Fault.Closed)) × (self.new ≡ self.old) }
+        ensures cause { WhenOpenAt (state S.Store) self.old self.new (λ s. IfErr result (ReadFailsBy (state S.Store self.old.held) (state S.Store self.new.held))) }
+        ensures closed { self.old.closed ≡ true → (result ≡ Err (ReadError.Fault Fault.Closed)) × (self.new ≡ self.old) }
     {
         read!(self, is_clerk(clerk) => load_work(clerk))
     }
@@ -160,13 +160,13 @@ impl<S: Alter> Office<S> {
     /// It depends only on what the clerk sees of the state. Refused if a number is out of range, or the clerk is not
     /// one of such a batch. Changes nothing. `Memory` leaves the office open; any other fault closes it. A closed
     /// office returns `Closed`.
-    pub fn paper(&mut self, clerk: u32, batch: u32) -> Result<BallotPaper, Stop>
-        ensures reads { ReadWhenOpen (state S.Store) self.old self.new paper_entry (λ s. paper_told s clerk batch) result }
+    pub fn paper(&mut self, clerk: u32, batch: u32) -> Result<BallotPaper, ReadError>
+        ensures reads { ReadWhenOpen (state S.Store) self.old self.new paper_entry (λ s. paper_answer s clerk batch) result }
         ensures blind { WhenOpenAt (state S.Store) self.old self.new (λ s. IfOk result (λ paper. Some (paper_entry paper) ≡ paper_at (seen_by clerk s) clerk batch)) }
         ensures same { OnlyReads (state S.Store self.old.held) (state S.Store self.new.held) }
         ensures closes { IfErr result (ClosesAt self.new.closed) }
-        ensures cause { WhenOpenAt (state S.Store) self.old self.new (λ s. IfErr result (StopsBy (state S.Store self.old.held) (state S.Store self.new.held))) }
-        ensures closed { self.old.closed ≡ true → (result ≡ Err (Stop.Fault Fault.Closed)) × (self.new ≡ self.old) }
+        ensures cause { WhenOpenAt (state S.Store) self.old self.new (λ s. IfErr result (ReadFailsBy (state S.Store self.old.held) (state S.Store self.new.held))) }
+        ensures closed { self.old.closed ≡ true → (result ≡ Err (ReadError.Fault Fault.Closed)) × (self.new ≡ self.old) }
     {
         read!(self, is_clerk(clerk) && is_batch_number(batch) => load_paper(clerk, batch), Reason::NotItsClerk)
     }
@@ -176,12 +176,12 @@ impl<S: Alter> Office<S> {
     ///
     /// Never refused. Changes nothing. `Memory` leaves the office open; any other fault closes it. A closed office
     /// returns `Closed`.
-    pub fn differs_from_stored(&mut self, request: &Request) -> Result<bool, Stop>
+    pub fn differs_from_stored(&mut self, request: &Request) -> Result<bool, ReadError>
         ensures reads { ReadWhenOpen (state S.Store) self.old self.new (λ differs. differs) (λ s. Ok (is_kept_otherwise s request.now)) result }
         ensures same { OnlyReads (state S.Store self.old.held) (state S.Store self.new.held) }
         ensures closes { IfErr result (ClosesAt self.new.closed) }
-        ensures cause { WhenOpenAt (state S.Store) self.old self.new (λ s. IfErr result (StopsBy (state S.Store self.old.held) (state S.Store self.new.held))) }
-        ensures closed { self.old.closed ≡ true → (result ≡ Err (Stop.Fault Fault.Closed)) × (self.new ≡ self.old) }
+        ensures cause { WhenOpenAt (state S.Store) self.old self.new (λ s. IfErr result (ReadFailsBy (state S.Store self.old.held) (state S.Store self.new.held))) }
+        ensures closed { self.old.closed ≡ true → (result ≡ Err (ReadError.Fault Fault.Closed)) × (self.new ≡ self.old) }
     {
         read!(self, true => load_differs_from_stored(request))
     }
@@ -191,14 +191,14 @@ impl<S: Alter> Office<S> {
     ///
     /// Refused if the number is outside 1 to 99, no ward has it, or the ward isn't sealed yet. Changes nothing.
     /// `Memory` leaves the office open; any other fault closes it. A closed office returns `Closed`.
-    pub fn sheet(&mut self, ward: u32) -> Result<String, Stop>
-        ensures reads { ReadWhenOpen (state S.Store) self.old self.new string_bytes (λ s. text_told Text.Sheet s ward) result }
+    pub fn sheet(&mut self, ward: u32) -> Result<String, ReadError>
+        ensures reads { ReadWhenOpen (state S.Store) self.old self.new string_bytes (λ s. text_answer WardText.Sheet s ward) result }
         ensures same { OnlyReads (state S.Store self.old.held) (state S.Store self.new.held) }
         ensures closes { IfErr result (ClosesAt self.new.closed) }
-        ensures cause { WhenOpenAt (state S.Store) self.old self.new (λ s. IfErr result (StopsBy (state S.Store self.old.held) (state S.Store self.new.held))) }
-        ensures closed { self.old.closed ≡ true → (result ≡ Err (Stop.Fault Fault.Closed)) × (self.new ≡ self.old) }
+        ensures cause { WhenOpenAt (state S.Store) self.old self.new (λ s. IfErr result (ReadFailsBy (state S.Store self.old.held) (state S.Store self.new.held))) }
+        ensures closed { self.old.closed ≡ true → (result ≡ Err (ReadError.Fault Fault.Closed)) × (self.new ≡ self.old) }
     {
-        self.text(ward, Text::Sheet)
+        self.text(ward, WardText::Sheet)
     }
 
     /// Returns a text of a ward, written from the contents of its stage sheet: its papers and the stages that are done,
@@ -207,12 +207,12 @@ impl<S: Alter> Office<S> {
     /// Refused if the number is outside 1 to 99, no ward has it, or the text isn't available yet: the declaration
     /// before the ward is declared, any other before it is sealed. Changes nothing. `Memory` leaves the office open;
     /// any other fault closes it. A closed office returns `Closed`.
-    pub fn text(&mut self, ward: u32, text: Text) -> Result<String, Stop>
-        ensures reads { ReadWhenOpen (state S.Store) self.old self.new string_bytes (λ s. text_told text.entry s ward) result }
+    pub fn text(&mut self, ward: u32, text: WardText) -> Result<String, ReadError>
+        ensures reads { ReadWhenOpen (state S.Store) self.old self.new string_bytes (λ s. text_answer text.entry s ward) result }
         ensures same { OnlyReads (state S.Store self.old.held) (state S.Store self.new.held) }
         ensures closes { IfErr result (ClosesAt self.new.closed) }
-        ensures cause { WhenOpenAt (state S.Store) self.old self.new (λ s. IfErr result (StopsBy (state S.Store self.old.held) (state S.Store self.new.held))) }
-        ensures closed { self.old.closed ≡ true → (result ≡ Err (Stop.Fault Fault.Closed)) × (self.new ≡ self.old) }
+        ensures cause { WhenOpenAt (state S.Store) self.old self.new (λ s. IfErr result (ReadFailsBy (state S.Store self.old.held) (state S.Store self.new.held))) }
+        ensures closed { self.old.closed ≡ true → (result ≡ Err (ReadError.Fault Fault.Closed)) × (self.new ≡ self.old) }
     {
         texts_are_there();
         read!(self, is_ward_number(ward) => load_sheet(ward), Reason::NoSuchWard, sheet => self.read_text(&sheet, text))
@@ -222,21 +222,21 @@ impl<S: Alter> Office<S> {
     ///
     /// Refused if the number is outside 1 to 99, no ward has it, or the ward isn't declared yet. Changes nothing.
     /// `Memory` leaves the office open; any other fault closes it. A closed office returns `Closed`.
-    pub fn result(&mut self, ward: u32) -> Result<String, Stop>
-        ensures reads { ReadWhenOpen (state S.Store) self.old self.new string_bytes (λ s. text_told Text.Declaration s ward) result }
+    pub fn result(&mut self, ward: u32) -> Result<String, ReadError>
+        ensures reads { ReadWhenOpen (state S.Store) self.old self.new string_bytes (λ s. text_answer WardText.Declaration s ward) result }
         ensures same { OnlyReads (state S.Store self.old.held) (state S.Store self.new.held) }
         ensures closes { IfErr result (ClosesAt self.new.closed) }
-        ensures cause { WhenOpenAt (state S.Store) self.old self.new (λ s. IfErr result (StopsBy (state S.Store self.old.held) (state S.Store self.new.held))) }
-        ensures closed { self.old.closed ≡ true → (result ≡ Err (Stop.Fault Fault.Closed)) × (self.new ≡ self.old) }
+        ensures cause { WhenOpenAt (state S.Store) self.old self.new (λ s. IfErr result (ReadFailsBy (state S.Store self.old.held) (state S.Store self.new.held))) }
+        ensures closed { self.old.closed ≡ true → (result ≡ Err (ReadError.Fault Fault.Closed)) × (self.new ≡ self.old) }
     {
         texts_are_there();
         read!(self, is_ward_number(ward) => load_counted(ward), Reason::NoSuchWard, counted => self.declaration_of(&counted))
     }
 
     /// Returns a text that was written. If it couldn't be, the rows are those of no office, and the office is closed.
-    fn told(&mut self, written: Result<Option<String>, AllocError>) -> Result<String, Stop>
+    fn told(&mut self, written: Result<Option<String>, AllocError>) -> Result<String, ReadError>
         ensures told { IfOk result (λ text. written ≡ Ok (Some text)) }
-        ensures stopped { self.old.closed ≡ false → IfErr result (StopsWriting self.new.closed) }
+        ensures stopped { self.old.closed ≡ false → IfErr result (FailsToWrite self.new.closed) }
         ensures closes { IfErr result (ClosesAt self.new.closed) }
         ensures cause { IfOk written IsSome → IfErr result IsOfMemory }
         ensures held { self.new.held ≡ self.old.held }
@@ -251,15 +251,16 @@ impl<S: Alter> Office<S> {
 
     /// Returns a text of a ward that was read. If the ward's texts can be written, as those of every ward of an office
     /// can, it fails only if an allocation fails.
-    fn read_text(&mut self, sheet: &WardSheet, text: Text) -> Result<String, Stop>
-        ensures told { IfOk result (λ told. (is_told_in text.entry sheet.now.counted.ward.phase ≡ true) × ((e : ElectionEntry) → IsSheetOf e sheet.now → string_bytes told ≡ text_shown text.entry e)) }
-        ensures stopped { self.old.closed ≡ false → IfErr result (λ stop. StopsText text.entry sheet.now.counted.ward.phase self.new.closed stop) }
+    fn read_text(&mut self, sheet: &WardSheet, text: WardText) -> Result<String, ReadError>
+        ensures told { IfOk result (λ told. (is_printable_in text.entry sheet.now.counted.ward.phase ≡ true)
+            × ((e : ElectionEntry) → IsSheetOf e sheet.now → string_bytes told ≡ text_shown text.entry e)) }
+        ensures stopped { self.old.closed ≡ false → IfErr result (λ stop. FailsToPrint text.entry sheet.now.counted.ward.phase self.new.closed stop) }
         ensures closes { IfErr result (ClosesAt self.new.closed) }
         ensures cause { (e : ElectionEntry) → IsSheetOf e sheet.now → IsTextual e → IfErr result IsOfMemory }
         ensures held { self.new.held ≡ self.old.held }
         ensures open_still { OnOk result (self.new.closed ≡ self.old.closed) }
     {
-        if !text.is_told_in(sheet.counted.ward.phase) {
+        if !text.is_printable_in(sheet.counted.ward.phase) {
             return Err(refused(self.alloc, Reason::WrongPhase));
         }
         let written = text_of(self.alloc, sheet, text);
@@ -267,16 +268,16 @@ impl<S: Alter> Office<S> {
     }
 
     /// Returns the declaration of a ward that was read, in the same way.
-    fn declaration_of(&mut self, counted: &CountedWard) -> Result<String, Stop>
-        ensures told { IfOk result (λ text. (is_told_in Text.Declaration counted.now.ward.phase ≡ true)
-            × ((e : ElectionEntry) → IsCountedWard e counted.now → string_bytes text ≡ text_shown Text.Declaration e)) }
-        ensures stopped { self.old.closed ≡ false → IfErr result (λ stop. StopsText Text.Declaration counted.now.ward.phase self.new.closed stop) }
+    fn declaration_of(&mut self, counted: &CountedWard) -> Result<String, ReadError>
+        ensures told { IfOk result (λ text. (is_printable_in WardText.Declaration counted.now.ward.phase ≡ true)
+            × ((e : ElectionEntry) → IsCountedWard e counted.now → string_bytes text ≡ text_shown WardText.Declaration e)) }
+        ensures stopped { self.old.closed ≡ false → IfErr result (λ stop. FailsToPrint WardText.Declaration counted.now.ward.phase self.new.closed stop) }
         ensures closes { IfErr result (ClosesAt self.new.closed) }
         ensures cause { (e : ElectionEntry) → IsCountedWard e counted.now → IsTextual e → IfErr result IsOfMemory }
         ensures held { self.new.held ≡ self.old.held }
         ensures open_still { OnOk result (self.new.closed ≡ self.old.closed) }
     {
-        if !Text::Declaration.is_told_in(counted.ward.phase) {
+        if !WardText::Declaration.is_printable_in(counted.ward.phase) {
             return Err(refused(self.alloc, Reason::WrongPhase));
         }
         let written = declaration(self.alloc, counted);

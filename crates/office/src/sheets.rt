@@ -9,7 +9,8 @@ ghost use Rattle.register.specs.Elections.{ElectionEntry, election_of, is_counte
 ghost use Rattle.register.specs.Tabulated.{IsCountedWard, IsSheetOf};
 ghost use Rattle.sheet.specs.Entries.{shown};
 ghost use Rattle.sheet.specs.Wards.{HasFewPapers, CanBePrinted};
-ghost use Rattle.office.specs.Sheets.{is_numbered, IsTextual, candidate_shown, poll_shown, shown_with, election_shown, declaration_of, stages_shown, bundles_shown, lots_shown, text_shown, is_told_in};
+ghost use Rattle.office.specs.Sheets.{is_numbered, IsTextual, candidate_shown, poll_shown, shown_with, election_shown, declaration_of};
+ghost use Rattle.office.specs.Sheets.{stages_shown, bundles_shown, lots_shown, text_shown, is_printable_in};
 
 use count::{Bundles, Stage};
 use register::marks::columns_of;
@@ -31,12 +32,12 @@ pub fn texts_are_there()
 
 /// The texts of a ward.
 #[derive(Clone, Copy, Debug)]
-pub enum Text<'a> {
+pub enum WardText<'a> {
     /// The stage sheet, once the ward is sealed.
     Sheet,
     /// The declaration, once the ward is declared.
     Declaration,
-    /// The ballots, in a file format that counting programs share, once the ward is sealed.
+    /// The ballots in the BLT format, once the ward is sealed.
     Ballots,
     /// The result as a page to print and sign, under this title, once the ward is sealed; an empty title is left out.
     Page(&'a str),
@@ -44,15 +45,15 @@ pub enum Text<'a> {
     Table,
 }
 
-impl<'a> Text<'a> {
+impl<'a> WardText<'a> {
     /// Returns whether the text may be printed in a phase.
-    pub(crate) fn is_told_in(self, phase: Phase) -> bool
-        ensures is { result ≡ is_told_in self.entry phase }
+    pub(crate) fn is_printable_in(self, phase: Phase) -> bool
+        ensures is { result ≡ is_printable_in self.entry phase }
         ensures counted { result ≡ true → is_counted phase ≡ true }
     {
         match self {
-            Text::Declaration => matches!(phase, Phase::Declared),
-            Text::Sheet | Text::Ballots | Text::Page(_) | Text::Table => {
+            WardText::Declaration => matches!(phase, Phase::Declared),
+            WardText::Sheet | WardText::Ballots | WardText::Page(_) | WardText::Table => {
                 matches!(phase, Phase::Sealed | Phase::Declared)
             }
         }
@@ -165,25 +166,25 @@ fn lots_of(counted: &CountedWard) -> &[(u8, u8)]
 }
 
 /// Returns a text of a ward that was read, from what it shows.
-fn written(
+fn write_text(
     alloc: Global,
     counted: &CountedWard,
     ward: &Ward,
-    text: Text,
+    text: WardText,
 ) -> Result<String, AllocError>
     requires { CanBePrinted ward.now }
     ensures { IfOk result (λ told. (e : ElectionEntry) → IsCountedWard e counted.now → is_counted e.ward.phase ≡ true
         → shown ward.now ≡ election_shown e → string_bytes told ≡ text_shown text.entry e) }
 {
     match text {
-        Text::Sheet => sheet_text(alloc, ward, stages_of(counted)),
-        Text::Declaration => declaration_text(alloc, ward, elected_in(counted)),
-        Text::Ballots => {
+        WardText::Sheet => sheet_text(alloc, ward, stages_of(counted)),
+        WardText::Declaration => declaration_text(alloc, ward, elected_in(counted)),
+        WardText::Ballots => {
             let none = Bundles::new(alloc);
             ballots_text(alloc, ward, bundles_of(counted, &none), lots_of(counted))
         }
-        Text::Page(title) => {
-            let is_declared = Text::Declaration.is_told_in(counted.ward.phase);
+        WardText::Page(title) => {
+            let is_declared = WardText::Declaration.is_printable_in(counted.ward.phase);
             page_text(
                 alloc,
                 ward,
@@ -193,7 +194,7 @@ fn written(
                 lots_of(counted),
             )
         }
-        Text::Table => spreadsheet_text(alloc, ward, stages_of(counted)),
+        WardText::Table => spreadsheet_text(alloc, ward, stages_of(counted)),
     }
 }
 
@@ -202,7 +203,7 @@ fn written(
 pub(crate) fn text_of(
     alloc: Global,
     sheet: &WardSheet,
-    text: Text,
+    text: WardText,
 ) -> Result<Option<String>, AllocError>
     ensures is { IfOk result (λ found. IfSome found (λ told. (e : ElectionEntry) → IsSheetOf e sheet.now → is_counted e.ward.phase ≡ true → string_bytes told ≡ text_shown text.entry e)) }
     ensures some { IfOk result (λ found. (e : ElectionEntry) → IsSheetOf e sheet.now → is_counted e.ward.phase ≡ true → IsTextual e → IsSome found) }
@@ -214,7 +215,7 @@ pub(crate) fn text_of(
     let Some(ward) = ward_of(counted, &candidates, poll_of(sheet)) else {
         return Ok(None);
     };
-    Ok(Some(written(alloc, counted, &ward, text)?))
+    Ok(Some(write_text(alloc, counted, &ward, text)?))
 }
 
 /// Returns the declaration of a ward, from those elected, in the same way.

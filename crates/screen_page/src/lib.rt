@@ -4,7 +4,7 @@
 //! as any other client does. [`policy_text`] returns what a browser lets it do. A server sends both in one response.
 //!
 //! `specs/Page.antt` defines both from the same script and the same style, so the policy names those that are served.
-//! No definition says what the script does: `docs/SCREEN-API.md` says what it requests, and `tools/try hall-screen` plays it.
+//! No definition says what the script does: `docs/formats/screen-api.md` says what it requests, and `tools/try hall-screen` plays it.
 #![tactic(auto)]
 
 mod markup;

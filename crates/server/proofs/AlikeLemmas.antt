@@ -18,7 +18,7 @@ use Rattle.wire.proofs.RequestLemmas.{AsksOneThing-all}
 use Rattle.wire.proofs.OutcomeLemmas.{IsOutcome-handed}
 use Rattle.server.specs.Blind.{AnswersAsSeen, AreAnsweredAlike, AreClients, AreOwn, RespondsBySeen, IsAnsweredBySeen, IsStoppedBySeen, IsUnanswered}
 use Rattle.server.specs.Settings.{ServerSettingsEntry}
-use Rattle.server.specs.Exchanges.{AreTurnedAway, AsksNoOrder, EndsSo, IsClientAnsweredAt, IsToldClosed, Exchange}
+use Rattle.server.specs.Exchanges.{AreRefusedClosed, AsksNoOrder, EndsSo, IsClientAnsweredAt, GetsClosedResponse, Exchange}
 
 -- ---- the first of a list of texts, and the others
 
@@ -108,11 +108,11 @@ module _ (settings : ServerSettingsEntry) where
       by (inr (inr fault)) later = inr (inr (inl (served_too, record { response = it_too.response; ready = fault; put = it_too.put })))
 
   module _ {S : Type 0} (state_of : Held S → State) (clerk : ℕ) where
-    away_own : (view : OfficeState) (exchanges own : List Exchange) → AreTurnedAway settings exchanges → AreClients settings.clients exchanges → AreOwn settings.clients clerk exchanges own
+    away_own : (view : OfficeState) (exchanges own : List Exchange) → AreRefusedClosed settings exchanges → AreClients settings.clients exchanges → AreOwn settings.clients clerk exchanges own
         → AnswersOwn view own
     away_own view [] own away clients none = subst (AnswersOwn view) (sym none) tt
     away_own view (exchange ∷ exchanges) own (closed, away) (client, free, clients) (inl (under, (later, is, others))) =
-        subst (AnswersOwn view) (sym is) (inr (inr (subst (λ (listener : Listener). IsToldClosed listener settings exchange) client closed)))
+        subst (AnswersOwn view) (sym is) (inr (inr (subst (λ (listener : Listener). GetsClosedResponse listener settings exchange) client closed)))
     away_own view (exchange ∷ exchanges) own (closed, away) (client, free, clients) (inr (not, others)) = away_own view exchanges own away clients others
 
     -- a clerk's own visit was answered at the view

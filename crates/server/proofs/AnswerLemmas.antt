@@ -22,7 +22,7 @@ use Rattle.wire.specs.declared.response.Response.{Response}
 use Rattle.wire.specs.declared.serving.Served.{Served}
 use Rattle.wire.specs.declared.serving.Served.TheVariants.{Answered, ReadFailed, WriteFailed}
 use Rattle.wire.specs.declared.target.Resource.{Resource}
-use Rattle.server.specs.Reads.{AreReadAt, ServedOffice, IsRead, MemoryEntry, ReadEntry, TellsNoFault, served_office}
+use Rattle.server.specs.Reads.{AreReadAt, ServedOffice, IsRead, MemoryEntry, ReadEntry, IsNoFault, served_office}
 use Rattle.server.specs.Endings.{EndsIn}
 use Rattle.server.specs.Exchanges.{ChangesNothing, EndsSo, HasAnswered, KeepsReads, ServesClient, Exchange}
 
@@ -84,7 +84,7 @@ module _ {S : Type 0} (state_of : Held S → State) (old new : OfficeValue S) (a
     clean = clean;
   }
 
-  read_told : (s : OfficeState) (what : Resource) (ending : Served) → TellsNoFault ending → asked ≡ reading what
+  read_told : (s : OfficeState) (what : Resource) (ending : Served) → IsNoFault ending → asked ≡ reading what
       → IsServed (λ response. Readies s asked response new.closed (state_of new.held)) (Some []) (Some answer) ending → IsRead s what answer
   read_told s what (Answered status) other same it = record {
     status = status;
@@ -99,7 +99,7 @@ module _ {S : Type 0} (state_of : Held S → State) (old new : OfficeValue S) (a
   read_told s what WriteFailed other same it = absurd other
 
   -- the answer that was sent is the one to the read
-  pub call_read : TellsNoFault served → (HasCleanDisk (state_of new.held) → old.closed ≡ false → (s : OfficeState) → IsAt s (state_of old.held)
+  pub call_read : IsNoFault served → (HasCleanDisk (state_of new.held) → old.closed ≡ false → (s : OfficeState) → IsAt s (state_of old.held)
       → IsServed (λ response. Readies s asked response new.closed (state_of new.held)) (Some before) (Some after) served)
       → WhenOpenAt state_of old new (λ s. (what : Resource) → asked ≡ reading what → IsRead s what answer)
   call_read well serves = λ clean is_open s at what same.

@@ -17,7 +17,7 @@ use Rattle.connections.specs.Clients.{IsOf, IsServedSo, IsSent}
 use Rattle.connections.specs.declared.client.PendingResponse.{PendingResponse}
 use Rattle.connections.specs.declared.client.Client.{Client}
 use Rattle.connections.specs.declared.client.Accepted.{Accepted}
-use Rattle.server.specs.ServedConnections.{AreIn, ServedConnection, HasExchangeFor, HasLeft, IsGathered, IsIn, IsWhy, IsOpenConnection, HadExchange, AllHadExchanges, exchanges_of}
+use Rattle.server.specs.ServedConnections.{AreOpen, ServedConnection, HasExchangeFor, WasClosed, IsGathered, IsOpenUnder, IsWhy, IsOpenConnection, HadExchange, AllHadExchanges, exchanges_of}
 use Rattle.server.specs.Settings.{ServerSettingsEntry}
 use Rattle.connections.specs.Closing.{MayBeClosed}
 use Rattle.server.specs.Servicing.{answer_of}
@@ -177,18 +177,19 @@ module _ {L : Type 0} (settings : ServerSettingsEntry) (stream : Stream L) where
             (stands_still exchanges more (get_or all_connections (get_or clients k d).number connection) (get_or clients k d) (others (get_or clients k d).number other) (stand k d at connection)))
 
     -- each of the others is in or has left, as before
-    pub left_still : (gone : List (Removed L)) → ((k : ℕ) (d : ServedConnection L) → k < length all_connections → IsIn clients k ⊎ HasLeft stream gone exchanges k (get_or all_connections k d))
-        → (k : ℕ) (d : ServedConnection L) → k < length all_now → IsIn (set clients place new) k ⊎ HasLeft stream gone (exchanges ++ more) k (get_or all_now k d)
+    pub left_still : (gone : List (Removed L))
+      → ((k : ℕ) (d : ServedConnection L) → k < length all_connections → IsOpenUnder clients k ⊎ WasClosed stream gone exchanges k (get_or all_connections k d))
+        → (k : ℕ) (d : ServedConnection L) → k < length all_now → IsOpenUnder (set clients place new) k ⊎ WasClosed stream gone (exchanges ++ more) k (get_or all_now k d)
     left_still gone left k d lt = by (cases_eq k old.number)
       where
-        in_still : IsIn clients k → IsIn (set clients place new) k
+        in_still : IsOpenUnder clients k → IsOpenUnder (set clients place new) k
         in_still is_in = record {
           place = is_in.place;
           within = omega (arith, is_in.within, length-set clients place new);
           belongs = λ c. number_kept is_in.place c ∙ is_in.belongs c;
         }
 
-        by : (k ≡ old.number) ⊎ (k ≡ old.number → ⊥) → IsIn (set clients place new) k ⊎ HasLeft stream gone (exchanges ++ more) k (get_or all_now k d)
+        by : (k ≡ old.number) ⊎ (k ≡ old.number → ⊥) → IsOpenUnder (set clients place new) k ⊎ WasClosed stream gone (exchanges ++ more) k (get_or all_now k d)
         by (inl e) = inl (record {
           place = place;
           within = omega (arith, within, length-set clients place new);
@@ -196,9 +197,10 @@ module _ {L : Type 0} (settings : ServerSettingsEntry) (stream : Stream L) where
         })
         by (inr ne) = either (left k d (omega (arith, lt, long)))
           where
-            either : IsIn clients k ⊎ HasLeft stream gone exchanges k (get_or all_connections k d) → IsIn (set clients place new) k ⊎ HasLeft stream gone (exchanges ++ more) k (get_or all_now k d)
+            either : IsOpenUnder clients k ⊎ WasClosed stream gone exchanges k (get_or all_connections k d)
+              → IsOpenUnder (set clients place new) k ⊎ WasClosed stream gone (exchanges ++ more) k (get_or all_now k d)
             either (inl is_in) = inl (in_still is_in)
-            either (inr it) = inr (subst (λ (x : ServedConnection L). HasLeft stream gone (exchanges ++ more) k x) (sym (at_other k d ne)) (record {
+            either (inr it) = inr (subst (λ (x : ServedConnection L). WasClosed stream gone (exchanges ++ more) k x) (sym (at_other k d ne)) (record {
               why = it.why;
               back = it.back;
               holds = subst (λ (vs : List Exchange). IsWhy stream it.why (get_or all_connections k d).last vs) (sym (same_under k exchanges more (others k ne))) it.holds;
@@ -208,20 +210,20 @@ module _ {L : Type 0} (settings : ServerSettingsEntry) (stream : Stream L) where
 
   pub are_same : (all_connections : List (ServedConnection L)) (exchanges : List Exchange) (gone : List (Removed L)) (came came_then : ℕ) (clients clients_then : List (Client L))
       → came_then ≡ came → clients_then ≡ clients
-      → AreIn settings stream all_connections exchanges gone came clients → AreIn settings stream all_connections exchanges gone came_then clients_then
+      → AreOpen settings stream all_connections exchanges gone came clients → AreOpen settings stream all_connections exchanges gone came_then clients_then
   are_same all_connections exchanges gone came came_then clients clients_then same_came same_clients are =
-      subst (λ (n : ℕ). AreIn settings stream all_connections exchanges gone n clients_then) (sym same_came)
-      (subst (λ (cs : List (Client L)). AreIn settings stream all_connections exchanges gone came cs) (sym same_clients) are)
+      subst (λ (n : ℕ). AreOpen settings stream all_connections exchanges gone n clients_then) (sym same_came)
+      (subst (λ (cs : List (Client L)). AreOpen settings stream all_connections exchanges gone came cs) (sym same_clients) are)
 
   -- one was serviced: all that were accepted are there as before, and so are the open ones
   pub one_went_on : (all_connections : List (ServedConnection L)) (exchanges more : List Exchange) (gone : List (Removed L)) (came : ℕ) (clients : List (Client L))
-      (place : ℕ) (old new : Client L) → AreIn settings stream all_connections exchanges gone came clients
+      (place : ℕ) (old new : Client L) → AreOpen settings stream all_connections exchanges gone came clients
       → place < length clients → old ≡ get_or clients place old → new.listener ≡ old.listener → new.number ≡ old.number → All (λ (v : Exchange). v.number ≡ old.number) more
       → ((connection : ServedConnection L) → IsOpenConnection stream exchanges connection old → HadExchange settings stream connection (exchanges_of old.number exchanges)
       → IsOf stream connection.came.stream new × HasExchangeFor (answer_of new) (exchanges_of old.number (exchanges ++ more))
       × ((exchange : Exchange) → exchanges_of old.number (exchanges ++ more) ≡ exchange ∷ [] → IsGathered settings stream connection.came exchange))
       → (all : List (ServedConnection L)) × (map (λ (g : ServedConnection L). g.came) all ≡ map (λ (g : ServedConnection L). g.came) all_connections)
-      × AreIn settings stream all (exchanges ++ more) gone came (set clients place new)
+      × AreOpen settings stream all (exchanges ++ more) gone came (set clients place new)
   one_went_on all_connections exchanges more gone came clients place old new are within is listener number mine goes =
       let here = get_or_read clients place old within is in
       let some_guest : ServedConnection L = record { came = record { listener = old.listener; stream = old.stream }; last = old.stream } in
@@ -294,18 +296,20 @@ module _ {L : Type 0} (settings : ServerSettingsEntry) (stream : Stream L) where
   -- a connection that was open or closed is so still
   left_on : (all_connections : List (ServedConnection L)) (exchanges : List Exchange) (gone : List (Removed L)) (clients : List (Client L)) (start : Accepted L) (client : Client L)
       → client.number ≡ length all_connections
-      → ((k : ℕ) (d : ServedConnection L) → k < length all_connections → IsIn clients k ⊎ HasLeft stream gone exchanges k (get_or all_connections k d))
-      → (k : ℕ) (d : ServedConnection L) → k < length (with_one all_connections start) → IsIn (clients ++ client ∷ []) k ⊎ HasLeft stream gone exchanges k (get_or (with_one all_connections start) k d)
+      → ((k : ℕ) (d : ServedConnection L) → k < length all_connections → IsOpenUnder clients k ⊎ WasClosed stream gone exchanges k (get_or all_connections k d))
+      → (k : ℕ) (d : ServedConnection L) → k < length (with_one all_connections start) → IsOpenUnder (clients ++ client ∷ []) k
+        ⊎ WasClosed stream gone exchanges k (get_or (with_one all_connections start) k d)
   left_on all_connections exchanges gone clients start client at left k d lt = by (cases_eq k (length all_connections))
     where
-      in_still : IsIn clients k → IsIn (clients ++ client ∷ []) k
+      in_still : IsOpenUnder clients k → IsOpenUnder (clients ++ client ∷ []) k
       in_still is_in = record {
         place = is_in.place;
         within = omega (arith, is_in.within, length_push clients client);
         belongs = λ c. ap (λ (x : Client L). x.number) (get_or_append_left clients (client ∷ []) c is_in.place is_in.within) ∙ is_in.belongs c;
       }
 
-      by : (k ≡ length all_connections) ⊎ (k ≡ length all_connections → ⊥) → IsIn (clients ++ client ∷ []) k ⊎ HasLeft stream gone exchanges k (get_or (with_one all_connections start) k d)
+      by : (k ≡ length all_connections) ⊎ (k ≡ length all_connections → ⊥) → IsOpenUnder (clients ++ client ∷ []) k
+        ⊎ WasClosed stream gone exchanges k (get_or (with_one all_connections start) k d)
       by (inl e) = inl (record {
         place = length clients;
         within = omega (arith, length_push clients client);
@@ -313,18 +317,19 @@ module _ {L : Type 0} (settings : ServerSettingsEntry) (stream : Stream L) where
       })
       by (inr ne) = either (left k d (omega (arith, lt, ne, one_longer all_connections start)))
         where
-          either : IsIn clients k ⊎ HasLeft stream gone exchanges k (get_or all_connections k d)
-              → IsIn (clients ++ client ∷ []) k ⊎ HasLeft stream gone exchanges k (get_or (with_one all_connections start) k d)
+          either : IsOpenUnder clients k ⊎ WasClosed stream gone exchanges k (get_or all_connections k d)
+              → IsOpenUnder (clients ++ client ∷ []) k
+        ⊎ WasClosed stream gone exchanges k (get_or (with_one all_connections start) k d)
           either (inl is_in) = inl (in_still is_in)
           either (inr it) =
               let less : k < length all_connections = omega (arith, lt, ne, one_longer all_connections start) in
-              inr (subst (λ (x : ServedConnection L). HasLeft stream gone exchanges k x) (sym (get_or_append_left all_connections (record { came = start; last = start.stream } ∷ []) d k less)) it)
+              inr (subst (λ (x : ServedConnection L). WasClosed stream gone exchanges k x) (sym (get_or_append_left all_connections (record { came = start; last = start.stream } ∷ []) d k less)) it)
 
   -- it was accepted
   pub one_entered : (all_connections : List (ServedConnection L)) (exchanges : List Exchange) (gone : List (Removed L)) (came : ℕ) (clients : List (Client L))
-      (start : Accepted L) (client : Client L) → AreIn settings stream all_connections exchanges gone came clients
+      (start : Accepted L) (client : Client L) → AreOpen settings stream all_connections exchanges gone came clients
       → HasTaken (stream.taken start.stream) [] → client.listener ≡ start.listener → client.stream ≡ start.stream → client.number ≡ came → client.answer ≡ None → IsOf stream start.stream client
-      → AreIn settings stream (with_one all_connections start) exchanges gone (came + 1) (clients ++ client ∷ [])
+      → AreOpen settings stream (with_one all_connections start) exchanges gone (came + 1) (clients ++ client ∷ [])
   one_entered all_connections exchanges gone came clients start client are fresh listener over number unanswered own =
       let at : client.number ≡ length all_connections = number ∙ sym are.count in
       let none : exchanges_of client.number exchanges ≡ [] =
@@ -374,13 +379,13 @@ module _ {L : Type 0} (settings : ServerSettingsEntry) (stream : Stream L) where
 
   module _ (clients : List (Client L)) (place : ℕ) (client : Client L) (within : place < length clients) (here : (d : Client L) → client ≡ get_or clients place d) where
     -- a connection at another place is still open
-    in_without : (k : ℕ) → (k ≡ client.number → ⊥) → IsIn clients k → IsIn (remove clients place) k
+    in_without : (k : ℕ) → (k ≡ client.number → ⊥) → IsOpenUnder clients k → IsOpenUnder (remove clients place) k
     in_without k ne is_in = by (cases_order is_in.place place)
       where
         fewer : length (remove clients place) + 1 ≡ length clients
         fewer = length-remove clients place within
 
-        by : (is_in.place ≡ place) ⊎ ((is_in.place < place) ⊎ (place < is_in.place)) → IsIn (remove clients place) k
+        by : (is_in.place ≡ place) ⊎ ((is_in.place < place) ⊎ (place < is_in.place)) → IsOpenUnder (remove clients place) k
         by (inl same) = absurd (ne (sym (is_in.belongs client) ∙ ap (λ (j : ℕ). (get_or clients j client).number) same ∙ sym (ap (λ (c : Client L). c.number) (here client))))
         by (inr (inl below)) = record {
           place = is_in.place;
@@ -399,9 +404,9 @@ module _ {L : Type 0} (settings : ServerSettingsEntry) (stream : Stream L) where
             before_again n less = omega (arith, less)
 
   pub one_left : (all_connections : List (ServedConnection L)) (exchanges : List Exchange) (gone : List (Removed L)) (came : ℕ) (clients : List (Client L))
-      (place : ℕ) (client : Client L) (why : CloseReason) → AreIn settings stream all_connections exchanges gone came clients
+      (place : ℕ) (client : Client L) (why : CloseReason) → AreOpen settings stream all_connections exchanges gone came clients
       → place < length clients → ((d : Client L) → client ≡ get_or clients place d) → MayBeClosed stream why client
-      → AreIn settings stream all_connections exchanges (gone ++ removed_of client why ∷ []) came (remove clients place)
+      → AreOpen settings stream all_connections exchanges (gone ++ removed_of client why ∷ []) came (remove clients place)
   one_left all_connections exchanges gone came clients place client why are within here may = record {
     count = are.count;
     went = are.went;
@@ -415,9 +420,9 @@ module _ {L : Type 0} (settings : ServerSettingsEntry) (stream : Stream L) where
       stood : (d : ServedConnection L) → IsOpenConnection stream exchanges (get_or all_connections client.number d) client
       stood d = subst (λ (c : Client L). IsOpenConnection stream exchanges (get_or all_connections c.number d) c) (sym (here client)) (are.stand place client within d)
 
-      by : (k : ℕ) (d : ServedConnection L) → (k ≡ client.number) ⊎ (k ≡ client.number → ⊥) → IsIn clients k ⊎ HasLeft stream gone exchanges k (get_or all_connections k d)
-          → IsIn (remove clients place) k ⊎ HasLeft stream (gone ++ removed_of client why ∷ []) exchanges k (get_or all_connections k d)
-      by k d (inl e) left = inr (subst (λ (j : ℕ). HasLeft stream (gone ++ removed_of client why ∷ []) exchanges j (get_or all_connections j d)) (sym e) (record {
+      by : (k : ℕ) (d : ServedConnection L) → (k ≡ client.number) ⊎ (k ≡ client.number → ⊥) → IsOpenUnder clients k ⊎ WasClosed stream gone exchanges k (get_or all_connections k d)
+          → IsOpenUnder (remove clients place) k ⊎ WasClosed stream (gone ++ removed_of client why ∷ []) exchanges k (get_or all_connections k d)
+      by k d (inl e) left = inr (subst (λ (j : ℕ). WasClosed stream (gone ++ removed_of client why ∷ []) exchanges j (get_or all_connections j d)) (sym e) (record {
         why = why;
         back = subst (λ (l : L). Contains (gone ++ removed_of client why ∷ []) (record { number = client.number; stream = l; why = why })) (sym (stood d).last)
             (Contains-push gone (removed_of client why));
@@ -428,7 +433,7 @@ module _ {L : Type 0} (settings : ServerSettingsEntry) (stream : Stream L) where
       by k d (inr ne) (inr it) = inr (record { why = it.why; back = Contains-append_left gone (removed_of client why ∷ []) _ it.back; holds = it.holds })
 
   -- none was accepted yet
-  pub none_in : AreIn settings stream [] [] [] 0 []
+  pub none_in : AreOpen settings stream [] [] [] 0 []
   none_in = record {
     count = refl;
     went = record { each = λ k d lt. absurd (omega (arith, lt)); known = λ k d lt. absurd (omega (arith, lt)) };

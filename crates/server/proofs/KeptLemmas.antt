@@ -29,13 +29,13 @@ use Rattle.desk.specs.Headline.{Course, IsDone}
 use Rattle.desk.specs.Pages.{Cut, Page}
 use Rattle.desk.proofs.KeptLemmas.{kept_done}
 use Rattle.desk.proofs.OpenLemmas.{after_next, open_done}
-use Rattle.server.specs.ServedOrders.{IsOrderOutcome, IsFramed, TellsOrder, TellsSo, folder_of}
-use Rattle.server.specs.ConsoleOrders.{IsInResponse, TellsConsole}
+use Rattle.server.specs.ServedOrders.{IsOrderOutcome, IsFramed, OrderPrints, PrintsAt, folder_of}
+use Rattle.server.specs.ConsoleOrders.{IsInResponse, ConsolePrints}
 use Rattle.wire.specs.Gates.{HttpSettingsEntry}
 use Rattle.server.specs.Reads.{AreReadAt, ServedOffice, IsRead, ReadEntry, with_none_kept}
 use Rattle.server.specs.Settings.{ServerSettingsEntry}
-use Rattle.server.specs.Exchanges.{AnswersInTurn, AreTurnedAway, AsksNoOrder, ChangesNothing, EndsSo, IsAnsweredAt, KeepsExchanges, IsKeptWaiting, IsLastFor, IsStoppedAt}
-use Rattle.server.specs.Exchanges.{IsToldClosed, IsSentAway, IsWithoutFile, KeepsReads, ServesAsked, ServesAt, ServesClient, ServesExchange, Exchange}
+use Rattle.server.specs.Exchanges.{AnswersInTurn, AreRefusedClosed, AsksNoOrder, ChangesNothing, EndsSo, IsAnsweredAt, KeepsExchanges, IsRateLimited, IsLastFor, IsStoppedAt}
+use Rattle.server.specs.Exchanges.{GetsClosedResponse, IsRejected, IsWithoutFile, KeepsReads, ServesAsked, ServesAt, ServesClient, ServesExchange, Exchange}
 use Rattle.desk.specs.declared.orders.Job.{Job}
 use Rattle.server.specs.declared.served_order.ServedOrder.{ServedOrder}
 use Rattle.server.specs.declared.served_order.ServedOrder.TheVariants as asked
@@ -167,12 +167,12 @@ client_leaves settings s exchange closed st (served, it) = elim (ready_leaves se
 -- the next one
 abbrev OrderLeaves : {S : Type 0} → (Held S → State) → Folder → OfficeState → ServedOrder → Cut → Page → Bool → State → Type 0
 OrderLeaves state_of folder s what cut page closed st =
-    ((sent : List Request) × (last : List Request) × TellsSo state_of folder s what cut page sent last × IsOpenAt (after s sent) closed st)
-    ⊎ ((sent : List Request) × (last : List Request) × TellsSo state_of folder s what cut page sent last × (closed ≡ true) × LeavesState st (IsAfterSome s (sent ++ last) (length sent)))
+    ((sent : List Request) × (last : List Request) × PrintsAt state_of folder s what cut page sent last × IsOpenAt (after s sent) closed st)
+    ⊎ ((sent : List Request) × (last : List Request) × PrintsAt state_of folder s what cut page sent last × (closed ≡ true) × LeavesState st (IsAfterSome s (sent ++ last) (length sent)))
 
 module _ {S : Type 0} (state_of : Held S → State) (folder : Folder) (s : OfficeState) where
   -- nothing was sent, and the office is open at its state, or its store failed
-  none_sent : (what : ServedOrder) (cut : Cut) (page : Page) (closed : Bool) (st : State) → TellsSo state_of folder s what cut page [] [] → IsReadAt s closed st
+  none_sent : (what : ServedOrder) (cut : Cut) (page : Page) (closed : Bool) (st : State) → PrintsAt state_of folder s what cut page [] [] → IsReadAt s closed st
       → OrderLeaves state_of folder s what cut page closed st
   none_sent what cut page closed st tells (inl open_at) = inl ([], [], tells, open_at)
   none_sent what cut page closed st tells (inr (is_closed, leaves)) = inr ([], [], tells, is_closed, leaves_as st _ _ (before_last s []) leaves)
@@ -246,8 +246,8 @@ module _ {S : Type 0} (settings : ServerSettingsEntry) (state_of : Held S → St
   stays_clean old new stays clean = subst (λ (d : ServedOffice S). HasCleanDisk (state_of d.office.held)) stays clean
 
   -- a client that is rejected gets that response, and all is unchanged
-  turned_back : (exchange : Exchange) (old new : ServedOffice S) → IsKeptWaiting settings.clients old exchange new ⊎ IsWithoutFile settings old exchange new
-      → IsSentAway settings exchange × (new ≡ old)
+  turned_back : (exchange : Exchange) (old new : ServedOffice S) → IsRateLimited settings.clients old exchange new ⊎ IsWithoutFile settings old exchange new
+      → IsRejected settings exchange × (new ≡ old)
   turned_back exchange old new (inl waits) = (inl waits.told, waits.stays)
   turned_back exchange old new (inr gone) = (inr (gone.told, gone.unknown), gone.stays)
 
@@ -258,7 +258,7 @@ module _ {S : Type 0} (settings : ServerSettingsEntry) (state_of : Held S → St
 
   -- a client that is let in finds the office closed
   asked_away : (exchange : Exchange) (old new : ServedOffice S) → ServesAsked settings state_of old exchange new
-      → old.office.closed ≡ true → IsToldClosed Clients settings exchange × (new.office ≡ old.office)
+      → old.office.closed ≡ true → GetsClosedResponse Clients settings exchange × (new.office ≡ old.office)
   asked_away exchange old new (inl (free, it)) closed = let (told, stays) = it.turned_away closed in (inl (inr (free, told)), stays)
   asked_away exchange old new (inr (it, emptied)) closed =
       let had = it.follows.tells in
@@ -282,7 +282,7 @@ module _ {S : Type 0} (settings : ServerSettingsEntry) (state_of : Held S → St
   clean_at Orders exchange old new it clean = it.0.tells.clean clean
 
   away_at : (listener : Listener) (exchange : Exchange) (old new : ServedOffice S) → ServesAt listener settings state_of old exchange new
-      → old.office.closed ≡ true → IsToldClosed listener settings exchange × (new.office ≡ old.office)
+      → old.office.closed ≡ true → GetsClosedResponse listener settings exchange × (new.office ≡ old.office)
   away_at Clients exchange old new (inl it) closed = let back = turned_back exchange old new it in (inl (inl back.0), ap (λ (d : ServedOffice S). d.office) back.1)
   away_at Clients exchange old new (inr it) closed = asked_away exchange old new it.serves closed
   away_at Orders exchange old new (it, emptied, same) closed =
@@ -320,8 +320,8 @@ module _ {S : Type 0} (settings : ServerSettingsEntry) (state_of : Held S → St
   asked_leaves s exchange old new (inr (it, emptied)) clean is_open at right =
       let had = it.follows in
       let told = had.tells in
-      let tells : (sent last : List Request) → TellsSo state_of (folder_of had.files) s had.asked told.cut told.page sent last
-      → TellsConsole state_of settings s exchange.got exchange.answer sent last =
+      let tells : (sent last : List Request) → PrintsAt state_of (folder_of had.files) s had.asked told.cut told.page sent last
+      → ConsolePrints state_of settings s exchange.got exchange.answer sent last =
       λ sent last so. record {
         entry = it.entry;
         asks = it.asks;
@@ -348,7 +348,7 @@ module _ {S : Type 0} (settings : ServerSettingsEntry) (state_of : Held S → St
   turn_leaves Clients s exchange old new (inr it) clean is_open at right = asked_leaves s exchange old new it.serves clean is_open at right
   turn_leaves Orders s exchange old new (it, emptied, same) clean is_open at right =
       let told = it.tells in
-      let tells : (sent last : List Request) → TellsSo state_of (folder_of it.files) s it.asked told.cut told.page sent last → TellsOrder state_of settings s exchange.got exchange.answer sent last =
+      let tells : (sent last : List Request) → PrintsAt state_of (folder_of it.files) s it.asked told.cut told.page sent last → OrderPrints state_of settings s exchange.got exchange.answer sent last =
       λ sent last so. record { files = it.files; asked = it.asked; is = it.is; cut = told.cut; page = told.page; told = told.told; tells = so } in
       elim (order_leaves state_of (folder_of it.files) s old.office new.office it.asked told.cut told.page (told.does clean is_open s at)) [
         | inl (sent, last, so, open_at) ↦ inl (sent, (last, tells sent last so), none_read (after s sent) new.kept.reads emptied, open_at)
@@ -361,7 +361,7 @@ module _ {S : Type 0} (settings : ServerSettingsEntry) (state_of : Held S → St
   cleans (exchange ∷ exchanges) old new (mid, step, rest) clean = clean_at exchange.listener exchange old mid step (cleans exchanges mid new rest clean)
 
   pub turned_away : (exchanges : List Exchange) (old new : ServedOffice S) → FoldsTo (ServesExchange settings state_of) old exchanges new
-      → old.office.closed ≡ true → AreTurnedAway settings exchanges × (new.office ≡ old.office)
+      → old.office.closed ≡ true → AreRefusedClosed settings exchanges × (new.office ≡ old.office)
   turned_away [] old new same closed = (tt, sym (ap (λ (o : ServedOffice S). o.office) same))
   turned_away (exchange ∷ exchanges) old new (mid, step, rest) closed =
       let (away, stays) = away_at exchange.listener exchange old mid step closed in

@@ -19,7 +19,7 @@ use Rattle.order_protocol.specs.declared.order_message.MessagePart.{MessagePart}
 use Rattle.order_protocol.proofs.MessageParts.{handed_again}
 use Rattle.desk.specs.Pages.{Cut, IsShown, Outputs, Page, Shows, Tells, cut_behind, cut_error, uncut}
 use Rattle.desk.specs.declared.lines.Failure.TheVariants.{Office}
-use Rattle.server.specs.ServedOrders.{AsksSo, Follows, IsOrderOutcome, FollowsOrder, IsForFile, IsMessage, IsUnread, IsResponseToOrder, folder_of, shut_page, untold, words_in}
+use Rattle.server.specs.ServedOrders.{AsksSo, Follows, IsOrderOutcome, FollowsOrder, IsForFile, IsMessage, IsUnread, IsResponseToOrder, folder_of, closed_office_page, untold, words_in}
 use Rattle.server.specs.FrameSinks.{IsEnded}
 use Rattle.server.specs.Settings.{ServerSettingsEntry}
 use Rattle.server.specs.declared.served_order.ServedOrder.{ServedOrder}
@@ -50,7 +50,7 @@ shown_said cut_error told page status it = taken_known told.out page.out it.out
 pub follows_asked : {S : Type 0} (state_of : Held S → State) (old new : OfficeValue S) (files : List MessagePartEntry) (what : ServedOrder) (before after : Outputs) (status : ℕ)
     (IsSent : Cut → Page → Type 0) → before ≡ untold → ((cut : Cut) (page : Page) → IsShown cut untold after page status → IsSent cut page)
     → Tells before after status (λ cut page. WhenOpenAt state_of old new (λ s. IsOrderOutcome (state_of old.held) new.closed (state_of new.held) (folder_of files) s what cut page)
-    × (old.closed ≡ true → page ≡ shut_page what)) → (old.closed ≡ true → new ≡ old) → (HasCleanDisk (state_of new.held) → HasCleanDisk (state_of old.held))
+    × (old.closed ≡ true → page ≡ closed_office_page what)) → (old.closed ≡ true → new ≡ old) → (HasCleanDisk (state_of new.held) → HasCleanDisk (state_of old.held))
     → Follows state_of old files what IsSent new
 follows_asked {S} state_of old new files what before after status IsSent start sends it stays clean = record {
   cut = it.cut;
@@ -78,7 +78,7 @@ pub tells_asked : {L S : Type 0} (stream : Stream L) (state_of : Held S → Stat
     (before after : Outputs) (status : ℕ) (err : List ℕ)
     (now : L) (answer : PendingResponse) → before ≡ untold → after.err ≡ Some err → ((said : List ℕ) → after.out ≡ Some said → IsEnded stream said status err now answer)
     → Tells before after status (λ cut page. WhenOpenAt state_of old new (λ s. IsOrderOutcome (state_of old.held) new.closed (state_of new.held) (folder_of files) s what cut page)
-    × (old.closed ≡ true → page ≡ shut_page what)) → (old.closed ≡ true → new ≡ old) → (HasCleanDisk (state_of new.held) → HasCleanDisk (state_of old.held))
+    × (old.closed ≡ true → page ≡ closed_office_page what)) → (old.closed ≡ true → new ≡ old) → (HasCleanDisk (state_of new.held) → HasCleanDisk (state_of old.held))
     → IsResponseToOrder state_of old files what answer.bytes.items new × IsSent stream now answer.bytes.items answer.sent
 tells_asked {L} {S} stream state_of old new files what before after status err now answer start is_err ends it stays clean =
     let shown : IsShown it.cut untold after it.page status = subst (λ (o : Outputs). IsShown it.cut o after it.page status) start it.shown in
@@ -97,11 +97,11 @@ tells_asked {L} {S} stream state_of old new files what before after status err n
 
 -- the page of a closed office
 pub tells_shut : {S : Type 0} (state_of : Held S → State) (office : OfficeValue S) (files : List MessagePartEntry) (what : ServedOrder) (before after : Outputs) (status : ℕ) → office.closed ≡ true
-    → Shows before after (shut_page what) status
+    → Shows before after (closed_office_page what) status
     → Tells before after status (λ cut page. WhenOpenAt state_of office office (λ s. IsOrderOutcome (state_of office.held) office.closed (state_of office.held) (folder_of files) s what cut page)
-    × (office.closed ≡ true → page ≡ shut_page what))
+    × (office.closed ≡ true → page ≡ closed_office_page what))
 tells_shut {S} state_of office files what before after status closed shows = record {
-  page = shut_page what;
+  page = closed_office_page what;
   cut = shows.0;
   shown = shows.1;
   is = (λ clean is_open s at. absurd (true≢false (sym closed ∙ is_open)), λ was. refl);
@@ -111,7 +111,7 @@ tells_shut {S} state_of office files what before after status closed shows = rec
 pub tells_open : {S : Type 0} (state_of : Held S → State) (old new : OfficeValue S) (files : List MessagePartEntry) (what : ServedOrder) (before after : Outputs) (status : ℕ) → old.closed ≡ false
     → Tells before after status (λ cut page. WhenOpenAt state_of old new (λ s. IsOrderOutcome (state_of old.held) new.closed (state_of new.held) (folder_of files) s what cut page))
     → Tells before after status (λ cut page. WhenOpenAt state_of old new (λ s. IsOrderOutcome (state_of old.held) new.closed (state_of new.held) (folder_of files) s what cut page)
-    × (old.closed ≡ true → page ≡ shut_page what))
+    × (old.closed ≡ true → page ≡ closed_office_page what))
 tells_open {S} state_of old new files what before after status is_open it =
     record { page = it.page; cut = it.cut; shown = it.shown; is = (it.is, λ closed. absurd (true≢false (sym closed ∙ is_open))) }
 

@@ -28,9 +28,9 @@ use Rattle.connections.specs.declared.removed.CloseReason.{CloseReason}
 use Rattle.connections.specs.declared.removed.CloseReason.TheVariants.{Broken as broken_off, Closing, Done, Evicted, TimedOut, Unreadable}
 use Rattle.connections.specs.declared.connection_table.ConnectionTable.{ConnectionTable}
 use Rattle.connections.proofs.StreamLemmas.{heard_more}
-use Rattle.server.specs.ServedConnections.{AreIn, ServedConnection, HasExchangeFor, HasLeft, IsGathered, IsIn, IsSound, IsOpenConnection, HadExchange, exchanges_of}
+use Rattle.server.specs.ServedConnections.{AreOpen, ServedConnection, HasExchangeFor, WasClosed, IsGathered, IsOpenUnder, IsSound, IsOpenConnection, HadExchange, exchanges_of}
 use Rattle.connections.specs.Closing.{AreClosedByRule, EndsFor, IsClosed, IsClosedByRule, IsClosedForBytes, MayBeClosed, timeout_rule, timeout}
-use Rattle.server.specs.Servers.{GoesOn, GoesOnServing, RemovesMore, IsCalled, IsNumbered, IsSettled, IsUnfailed, AcceptsMore, ServesConnections, ServesOn}
+use Rattle.server.specs.Servers.{GoesOn, GoesOnServing, RemovesMore, IsCalled, IsNumbered, IsSettled, IsUnfailed, AcceptsMore, ServesConnections, ServesFrom}
 use Rattle.server.specs.declared.serve_error.ServeError.{ServeError}
 use Rattle.server.specs.declared.serve_error.ServeError.TheVariants as ended
 use Rattle.server.specs.Reads.{ServedOffice, MemoryEntry, served_office, with_none_kept}
@@ -156,8 +156,8 @@ module _ {L : Type 0} (settings : ServerSettingsEntry) (stream : Stream L) where
   -- no connection was accepted, and each open one is unchanged, or was closed
   pub goes_with : (before later : NetworkEntry L) (old new : ConnectionTable L) (gone : List (Removed L)) → later.came ≡ before.came
       → RemovesMore before.left later.left gone → new.counted ≡ old.counted + 0
-      → ((all_connections : List (ServedConnection L)) (exchanges : List Exchange) (left : List (Removed L)) → AreIn settings stream all_connections exchanges left old.came old.clients.items
-      → AreIn settings stream all_connections exchanges (left ++ gone) new.came new.clients.items)
+      → ((all_connections : List (ServedConnection L)) (exchanges : List Exchange) (left : List (Removed L)) → AreOpen settings stream all_connections exchanges left old.came old.clients.items
+      → AreOpen settings stream all_connections exchanges (left ++ gone) new.came new.clients.items)
       → GoesOn settings stream [] before later old new
   goes_with before later old new gone same back counted stay = record {
     all_accepted = [];
@@ -168,13 +168,13 @@ module _ {L : Type 0} (settings : ServerSettingsEntry) (stream : Stream L) where
     own = λ all_connections earlier left are. (
       all_connections,
       sym (append-nil (map (λ (g : ServedConnection L). g.came) all_connections)),
-      subst (λ (vs : List Exchange). AreIn settings stream all_connections vs (left ++ gone) new.came new.clients.items) (sym (append-nil earlier)) (stay all_connections earlier left are),
+      subst (λ (vs : List Exchange). AreOpen settings stream all_connections vs (left ++ gone) new.came new.clients.items) (sym (append-nil earlier)) (stay all_connections earlier left are),
     );
   }
 
   pub goes_none : (before later : NetworkEntry L) (table : ConnectionTable L) → IsStill before later → GoesOn settings stream [] before later table table
   goes_none before later table (same, still) = goes_with before later table table [] same (grows_same before.left later.left still) (omega arith) (λ all_connections exchanges left are.
-      subst (λ (ls : List (Removed L)). AreIn settings stream all_connections exchanges ls table.came table.clients.items) (sym (append-nil left)) are)
+      subst (λ (ls : List (Removed L)). AreOpen settings stream all_connections exchanges ls table.came table.clients.items) (sym (append-nil left)) are)
 
   pub goes_then : (first next : List Exchange) (before mid later : NetworkEntry L) (old went new : ConnectionTable L) → GoesOn settings stream first before mid old went
       → GoesOn settings stream next mid later went new → GoesOn settings stream (first ++ next) before later old new
@@ -189,8 +189,8 @@ module _ {L : Type 0} (settings : ServerSettingsEntry) (stream : Stream L) where
         let (all, all_came, all_are) = b.own some (earlier ++ first) (left ++ a.gone) some_are in (
           all,
           all_came ∙ ap (λ (cs : List (Accepted L)). cs ++ b.all_accepted) some_came ∙ append_assoc (map (λ (g : ServedConnection L). g.came) all_connections) a.all_accepted b.all_accepted,
-          subst (λ (ls : List (Removed L)). AreIn settings stream all (earlier ++ (first ++ next)) ls new.came new.clients.items) (append_assoc left a.gone b.gone)
-              (subst (λ (vs : List Exchange). AreIn settings stream all vs (left ++ a.gone ++ b.gone) new.came new.clients.items) (append_assoc earlier first next) all_are),
+          subst (λ (ls : List (Removed L)). AreOpen settings stream all (earlier ++ (first ++ next)) ls new.came new.clients.items) (append_assoc left a.gone b.gone)
+              (subst (λ (vs : List Exchange). AreOpen settings stream all vs (left ++ a.gone ++ b.gone) new.came new.clients.items) (append_assoc earlier first next) all_are),
         );
   }
 
@@ -198,22 +198,22 @@ module _ {L : Type 0} (settings : ServerSettingsEntry) (stream : Stream L) where
   module _ (Goes : List (Client L) → Removed L → List (Client L) → Type 0) (outs : Outs Goes) where
     stay : (gone : List (Removed L)) (all_connections : List (ServedConnection L)) (exchanges : List Exchange) (left : List (Removed L)) (came : ℕ) (old new : List (Client L))
         → FoldsTo Goes old gone new
-        → AreIn settings stream all_connections exchanges left came old → AreIn settings stream all_connections exchanges (left ++ gone) came new
+        → AreOpen settings stream all_connections exchanges left came old → AreOpen settings stream all_connections exchanges (left ++ gone) came new
     stay [] all_connections exchanges left came old new same are =
-        subst (λ (ls : List (Removed L)). AreIn settings stream all_connections exchanges ls came new) (sym (append-nil left))
-        (subst (λ (cs : List (Client L)). AreIn settings stream all_connections exchanges left came cs) same are)
+        subst (λ (ls : List (Removed L)). AreOpen settings stream all_connections exchanges ls came new) (sym (append-nil left))
+        (subst (λ (cs : List (Client L)). AreOpen settings stream all_connections exchanges left came cs) same are)
     stay (removed ∷ gone) all_connections exchanges left came old new (mid, goes, others) are =
-        subst (λ (ls : List (Removed L)). AreIn settings stream all_connections exchanges ls came new) (append_assoc left (removed ∷ []) gone)
+        subst (λ (ls : List (Removed L)). AreOpen settings stream all_connections exchanges ls came new) (append_assoc left (removed ∷ []) gone)
         (stay gone all_connections exchanges (left ++ removed ∷ []) came mid new others (step old mid goes are))
       where
-        step : (clients rest : List (Client L)) → Goes clients removed rest → AreIn settings stream all_connections exchanges left came clients
-            → AreIn settings stream all_connections exchanges (left ++ removed ∷ []) came rest
+        step : (clients rest : List (Client L)) → Goes clients removed rest → AreOpen settings stream all_connections exchanges left came clients
+            → AreOpen settings stream all_connections exchanges (left ++ removed ∷ []) came rest
         step [] rest it is_in = let out = outs [] removed rest it in absurd (omega (arith, out.out.within))
         step (c ∷ cs) rest it is_in =
             let out = outs (c ∷ cs) removed rest it in
             let client = get_or (c ∷ cs) out.place c in
-            subst (λ (rs : List (Client L)). AreIn settings stream all_connections exchanges (left ++ removed ∷ []) came rs) (sym out.out.left)
-            (subst (λ (l : Removed L). AreIn settings stream all_connections exchanges (left ++ l ∷ []) came (remove (c ∷ cs) out.place)) (sym (out.out.is c))
+            subst (λ (rs : List (Client L)). AreOpen settings stream all_connections exchanges (left ++ removed ∷ []) came rs) (sym out.out.left)
+            (subst (λ (l : Removed L). AreOpen settings stream all_connections exchanges (left ++ l ∷ []) came (remove (c ∷ cs) out.place)) (sym (out.out.is c))
             (one_left settings stream all_connections exchanges left came (c ∷ cs) out.place client out.why is_in out.out.within (λ d. get_or_default (c ∷ cs) out.place c d out.out.within)
             (out.may stream client)))
 
@@ -222,7 +222,7 @@ module _ {L : Type 0} (settings : ServerSettingsEntry) (stream : Stream L) where
         goes_with before later old new it.gone (ap (λ (d : NetworkEntry L). d.came) it.back) (ap (λ (d : NetworkEntry L). d.left) it.back)
         (omega (arith, it.counted)) (λ all_connections exchanges left are.
         stay it.gone all_connections exchanges left new.came old.clients.items new.clients.items it.each
-        (subst (λ (n : ℕ). AreIn settings stream all_connections exchanges left n old.clients.items) (sym it.came) are))
+        (subst (λ (n : ℕ). AreOpen settings stream all_connections exchanges left n old.clients.items) (sym it.came) are))
 
   -- late ones were closed, and more were accepted
   pub goes_round : (before now gone later : NetworkEntry L) (old left new : ConnectionTable L) (moment : ℕ) → now ≡ with_moment before moment
@@ -267,8 +267,8 @@ module _ {L : Type 0} (settings : ServerSettingsEntry) (stream : Stream L) where
     own = λ all_connections earlier left are. (
       with_one settings stream all_connections start,
       map_push (λ (g : ServedConnection L). g.came) all_connections (record { came = start; last = start.stream }),
-      subst (λ (vs : List Exchange). AreIn settings stream (with_one settings stream all_connections start) vs (left ++ []) new.came new.clients.items) (sym (append-nil earlier))
-          (subst (λ (ls : List (Removed L)). AreIn settings stream (with_one settings stream all_connections start) earlier ls new.came new.clients.items) (sym (append-nil left))
+      subst (λ (vs : List Exchange). AreOpen settings stream (with_one settings stream all_connections start) vs (left ++ []) new.came new.clients.items) (sym (append-nil earlier))
+          (subst (λ (ls : List (Removed L)). AreOpen settings stream (with_one settings stream all_connections start) earlier ls new.came new.clients.items) (sym (append-nil left))
           (are_same settings stream (with_one settings stream all_connections start) earlier left (old.came + 1) new.came (old.clients.items ++ client ∷ []) new.clients.items one is
           (one_entered settings stream all_connections earlier left old.came old.clients.items start client are fresh is_new.at is_new.over is_new.numbered is_new.unanswered own))),
     );
@@ -341,7 +341,7 @@ module _ {L : Type 0} (settings : ServerSettingsEntry) (stream : Stream L) where
             (λ connection stood went. had_turn state_of connection earlier now old new at behind turn is stood) in (
               all,
               all_came ∙ sym (append-nil (map (λ (g : ServedConnection L). g.came) all_connections)),
-              subst (λ (ls : List (Removed L)). AreIn settings stream all (earlier ++ turn.exchange ∷ []) ls after.came after.clients.items) (sym (append-nil left))
+              subst (λ (ls : List (Removed L)). AreOpen settings stream all (earlier ++ turn.exchange ∷ []) ls after.came after.clients.items) (sym (append-nil left))
                   (are_same settings stream all (earlier ++ turn.exchange ∷ []) left table.came after.came (set table.clients.items place new) after.clients.items came items all_are),
             );
       };
@@ -364,7 +364,7 @@ module _ {L : Type 0} (settings : ServerSettingsEntry) (stream : Stream L) where
             (λ connection stood went. had_still connection earlier old new answer is stood went) in (
               all,
               all_came ∙ sym (append-nil (map (λ (g : ServedConnection L). g.came) all_connections)),
-              subst (λ (ls : List (Removed L)). AreIn settings stream all (earlier ++ []) ls after.came after.clients.items) (sym (append-nil left))
+              subst (λ (ls : List (Removed L)). AreOpen settings stream all (earlier ++ []) ls after.came after.clients.items) (sym (append-nil left))
                   (are_same settings stream all (earlier ++ []) left table.came after.came (set table.clients.items place new) after.clients.items came items all_are),
             );
       };
@@ -386,12 +386,12 @@ module _ {L : Type 0} (settings : ServerSettingsEntry) (stream : Stream L) where
     -- nobody had a turn
     pub serves_none : (before later : NetworkEntry L) (old new : ConnectionTable L) (office : ServedOffice S) → GoesOn settings stream [] before later old new
         → CourseBy [] before later old.clients.items new.clients.items
-        → ServesOn settings stream state_of before later old new office office
+        → ServesFrom settings stream state_of before later old new office office
     serves_none before later old new office goes trace = λ from. let (to, it) = trace from in (to, record { exchanges = []; each = refl; goes_on = goes }, it)
 
     pub serves_then : (before mid later : NetworkEntry L) (old went new : ConnectionTable L) (at between behind : ServedOffice S)
-        → ServesOn settings stream state_of before mid old went at between → ServesOn settings stream state_of mid later went new between behind
-        → ServesOn settings stream state_of before later old new at behind
+        → ServesFrom settings stream state_of before mid old went at between → ServesFrom settings stream state_of mid later went new between behind
+        → ServesFrom settings stream state_of before later old new at behind
     serves_then before mid later old went new at between behind first next = λ from.
         let (between_shown, a, first_course) = first from in
         let (to, b, next_course) = next between_shown in (
@@ -408,27 +408,28 @@ module _ {L : Type 0} (settings : ServerSettingsEntry) (stream : Stream L) where
 
     -- one had these visits
     serves_just : (exchanges : List Exchange) (before later : NetworkEntry L) (old new : ConnectionTable L) (at behind : ServedOffice S) → ServesJust state_of exchanges before later old new at behind
-        → CourseBy exchanges before later old.clients.items new.clients.items → ServesOn settings stream state_of before later old new at behind
+        → CourseBy exchanges before later old.clients.items new.clients.items → ServesFrom settings stream state_of before later old new at behind
     serves_just exchanges before later old new at behind (it, just) trace = λ from.
         let (to, so) = trace from in
         (to, it, subst (λ (vs : List Exchange). Trace gated stream (map response_at vs) from to before later old.clients.items new.clients.items) (sym just) so)
 
     -- nothing is known of the doors but what was
-    pub serves_still : (before later : NetworkEntry L) (table : ConnectionTable L) (office : ServedOffice S) → later ≡ before → ServesOn settings stream state_of before later table table office office
+    pub serves_still : (before later : NetworkEntry L) (table : ConnectionTable L) (office : ServedOffice S) → later ≡ before
+        → ServesFrom settings stream state_of before later table table office office
     serves_still before later table office is =
         serves_none before later table table office (goes_none before later table (still_known before later is))
         (λ from. (from, trace_none gated stream from before later table.clients.items (ap (λ (d : NetworkEntry L). d.events) is)))
 
     -- one was named that isn't in
     pub serves_nobody : (number : ℕ) (before later : NetworkEntry L) (table : ConnectionTable L) (office : ServedOffice S) → later ≡ after_ready (Some number) before
-        → ServesOn settings stream state_of before later table table office office
+        → ServesFrom settings stream state_of before later table table office office
     serves_nobody number before later table office is =
         serves_none before later table table office (goes_none before later table (ap (λ (d : NetworkEntry L). d.came) is, ap (λ (d : NetworkEntry L). d.left) is))
         (λ from. (from, course_misses gated stream from number before later table.clients.items is))
 
     -- some were closed until no more bytes were held than may be
     pub serves_within : (before later : NetworkEntry L) (old new : ConnectionTable L) (office : ServedOffice S) → AreClosedByRule IsClosedForBytes before later old new
-        → ServesOn settings stream state_of before later old new office office
+        → ServesFrom settings stream state_of before later old new office office
     serves_within before later old new office gone =
         serves_none before later old new office (goes_without IsClosedForBytes bytes_outs before later old new gone)
         (λ from. (from, course_closes gated stream IsClosedForBytes from (bytes_due gated stream from) before later old new gone))
@@ -458,7 +459,7 @@ module _ {L : Type 0} (settings : ServerSettingsEntry) (stream : Stream L) where
           → (went : WasServiced gated settings stream state_of result ready later old new at behind)
           → CourseBy went.exchanges before later table.clients.items (set table.clients.items place new)
           → taken.clients.items ≡ remove table.clients.items place → back.clients.items ≡ insert taken.clients.items place new → back.came ≡ table.came → back.counted ≡ table.counted
-          → ServesOn settings stream state_of before later table back at behind
+          → ServesFrom settings stream state_of before later table back at behind
       serves_back result later taken back went trace out items came counted =
           let again : back.clients.items ≡ set table.clients.items place new =
           items ∙ ap (λ (cs : List (Client L)). insert cs place new) out ∙ set_again table.clients.items place new within in
@@ -470,7 +471,7 @@ module _ {L : Type 0} (settings : ServerSettingsEntry) (stream : Stream L) where
       -- it is in its place again
       pub serves_stays : (later : NetworkEntry L) (taken back : ConnectionTable L) → WasServiced gated settings stream state_of (Ok None) ready later old new at behind
           → taken.clients.items ≡ remove table.clients.items place → back.clients.items ≡ insert taken.clients.items place new → back.came ≡ table.came → back.counted ≡ table.counted
-          → ServesOn settings stream state_of before later table back at behind
+          → ServesFrom settings stream state_of before later table back at behind
       serves_stays later taken back went out items came counted =
           serves_back (Ok None) later taken back went
           (λ from. course_stays gated stream from table.clients.items place number old new went.gate (map response_at went.exchanges) within here his_number (listener, same) is
@@ -479,7 +480,7 @@ module _ {L : Type 0} (settings : ServerSettingsEntry) (stream : Stream L) where
       -- so it is where the clock failed
       pub serves_stops : (broken : Broken) (later : NetworkEntry L) (taken back : ConnectionTable L) → WasServiced gated settings stream state_of (Err broken) ready later old new at behind
           → taken.clients.items ≡ remove table.clients.items place → back.clients.items ≡ insert taken.clients.items place new → back.came ≡ table.came → back.counted ≡ table.counted
-          → ServesOn settings stream state_of before later table back at behind
+          → ServesFrom settings stream state_of before later table back at behind
       serves_stops broken later taken back went out items came counted =
           serves_back (Err broken) later taken back went
           (λ from. course_stops gated stream from table.clients.items place number old new went.gate (map response_at went.exchanges) within here his_number (listener, same) is
@@ -488,7 +489,7 @@ module _ {L : Type 0} (settings : ServerSettingsEntry) (stream : Stream L) where
       -- it left
       pub serves_leaves : (why : CloseReason) (mid later : NetworkEntry L) (left : ConnectionTable L) → WasServiced gated settings stream state_of (Ok (Some why)) ready mid old new at behind
           → later ≡ with_removed mid (removed_of new why)
-          → left.clients.items ≡ remove table.clients.items place → left.came ≡ table.came → left.counted ≡ table.counted → ServesOn settings stream state_of before later table left at behind
+          → left.clients.items ≡ remove table.clients.items place → left.came ≡ table.came → left.counted ≡ table.counted → ServesFrom settings stream state_of before later table left at behind
       serves_leaves why mid later left went back items came counted =
           let stands = room_with table place new in
           let (it, just) = goes_on_at state_of before mid table stands place old new at behind (moment_of went.gate) went.exchanges
@@ -513,7 +514,7 @@ module _ {L : Type 0} (settings : ServerSettingsEntry) (stream : Stream L) where
       pub serves_settled : (reason : Option CloseReason) (mid later : NetworkEntry L) (taken left : ConnectionTable L)
           → WasServiced gated settings stream state_of (Ok reason) ready mid old new at behind
           → taken.clients.items ≡ remove table.clients.items place → taken.came ≡ table.came → taken.counted ≡ table.counted → IsSettled reason place new mid later taken left
-          → ServesOn settings stream state_of before later table left at behind
+          → ServesFrom settings stream state_of before later table left at behind
       serves_settled (Some why) mid later taken left went out came counted (closed, still) =
           serves_leaves why mid later left went closed (ap (λ (t : ConnectionTable L). t.clients.items) still ∙ out) (ap (λ (t : ConnectionTable L). t.came) still ∙ came)
           (ap (λ (t : ConnectionTable L). t.counted) still ∙ counted)
@@ -524,8 +525,8 @@ module _ {L : Type 0} (settings : ServerSettingsEntry) (stream : Stream L) where
     -- ---- a round
 
     -- nobody more had a turn
-    pub serves_more : (before mid later : NetworkEntry L) (old went new : ConnectionTable L) (at behind : ServedOffice S) → ServesOn settings stream state_of before mid old went at behind
-        → GoesOn settings stream [] mid later went new → CourseBy [] mid later went.clients.items new.clients.items → ServesOn settings stream state_of before later old new at behind
+    pub serves_more : (before mid later : NetworkEntry L) (old went new : ConnectionTable L) (at behind : ServedOffice S) → ServesFrom settings stream state_of before mid old went at behind
+        → GoesOn settings stream [] mid later went new → CourseBy [] mid later went.clients.items new.clients.items → ServesFrom settings stream state_of before later old new at behind
     serves_more before mid later old went new at behind on more trace = serves_then before mid later old went new at behind behind on (serves_none mid later went new behind more trace)
 
     -- there was no room, so none was accepted
@@ -562,30 +563,30 @@ module _ {L : Type 0} (settings : ServerSettingsEntry) (stream : Stream L) where
 
     -- a closed office stays as it is
     pub serving_closed : (before later : NetworkEntry L) (old new : ConnectionTable L) (at : OfficeValue S) (kept : MemoryEntry) (behind : ServedOffice S)
-        → ServesOn settings stream state_of before later old new (served_office at kept) behind
+        → ServesFrom settings stream state_of before later old new (served_office at kept) behind
         → at.closed ≡ true → behind.office ≡ at
     serving_closed before later old new at kept behind on closed = let (to, it, trace) = on None in let away = turned_away settings state_of it.exchanges
         (served_office at kept) behind it.each closed in away.1
 
     pub serving_clean : (before later : NetworkEntry L) (old new : ConnectionTable L) (at : OfficeValue S) (kept : MemoryEntry) (behind : ServedOffice S)
-        → ServesOn settings stream state_of before later old new (served_office at kept) behind
+        → ServesFrom settings stream state_of before later old new (served_office at kept) behind
         → HasCleanDisk (state_of behind.office.held) → HasCleanDisk (state_of at.held)
     serving_clean before later old new at kept behind on clean = let (to, it, trace) = on None in cleans settings state_of it.exchanges (served_office at kept) behind it.each clean
 
     -- if it is sound with a table, it is so later
-    pub sound_later : (before later : NetworkEntry L) (old new : ConnectionTable L) (at behind : ServedOffice S) → ServesOn settings stream state_of before later old new at behind
+    pub sound_later : (before later : NetworkEntry L) (old new : ConnectionTable L) (at behind : ServedOffice S) → ServesFrom settings stream state_of before later old new at behind
         → IsSound settings stream old → IsSound settings stream new
     sound_later before later old new at behind on (all_connections, exchanges, left, are) =
         let (to, it, trace) = on None in let (all, came, now) = it.goes_on.own all_connections exchanges left are in (all, exchanges ++ it.exchanges, left ++ it.goes_on.gone, now)
 
     -- nobody is in any more, so each was handed back
-    none_is_in : (k : ℕ) (clients : List (Client L)) → clients ≡ [] → IsIn clients k → ⊥
+    none_is_in : (k : ℕ) (clients : List (Client L)) → clients ≡ [] → IsOpenUnder clients k → ⊥
     none_is_in k clients none it = let some = it.within in let zero : length clients ≡ 0 = ap (λ (cs : List (Client L)). length cs) none in omega (arith, some, zero)
 
     -- all that were accepted since the network was opened, if none was open before, and those open at the end were closed
     pub hall_serves : (before end later : NetworkEntry L) (most : Option ℕ) (old went new : ConnectionTable L) (at : OfficeValue S) (kept : MemoryEntry)
         (behind : ServedOffice S) (result : Result (Unit {0}) ServeError)
-        → kept ≡ (with_none_kept at).kept → ServesOn settings stream state_of before end old went (served_office at kept) behind → AreClosedByRule IsClosed end later went new
+        → kept ≡ (with_none_kept at).kept → ServesFrom settings stream state_of before end old went (served_office at kept) behind → AreClosedByRule IsClosed end later went new
         → old.clients.items ≡ [] → old.came ≡ 0 → old.counted ≡ 0 → new.clients.items ≡ [] → OnOk result (went.clients.items ≡ []) → IfSome most (λ n. new.counted ≤ n)
         → OnOk result (IfSome most (λ n. new.counted ≡ n))
         → ServesConnections settings stream state_of before later most at behind.office result
@@ -594,7 +595,7 @@ module _ {L : Type 0} (settings : ServerSettingsEntry) (stream : Stream L) where
         let goes = goes_then it.exchanges [] before end later old went new it.goes_on (goes_without IsClosed closed_outs end later went new closing) in
         let each = subst (λ (k : MemoryEntry). FoldsTo (ServesExchange settings state_of) (served_office at k) it.exchanges behind) unkept it.each in
         let (all_connections, came, are_so) = goes.own [] [] [] (are_same settings stream [] [] [] 0 old.came [] old.clients.items first none (none_in settings stream)) in
-        let are = subst (λ (vs : List Exchange). AreIn settings stream all_connections vs goes.gone new.came new.clients.items) (append-nil it.exchanges) are_so in
+        let are = subst (λ (vs : List Exchange). AreOpen settings stream all_connections vs goes.gone new.came new.clients.items) (append-nil it.exchanges) are_so in
         let sum = goes.counted in
         let counted : new.counted ≡ clients_among (map (λ (g : ServedConnection L). g.came) all_connections) =
         subst (λ (cs : List (Accepted L)). new.counted ≡ clients_among cs) (sym came) (omega (arith, sum, uncounted)) in
@@ -624,8 +625,8 @@ module _ {L : Type 0} (settings : ServerSettingsEntry) (stream : Stream L) where
           keeps = λ clean is_open earlier rests. kept_of settings state_of earlier it.exchanges at behind each clean is_open rests;
         }
       where
-        out : (gone : List (Removed L)) (exchanges : List Exchange) (k : ℕ) (connection : ServedConnection L) → IsIn new.clients.items k ⊎ HasLeft stream gone exchanges k connection
-            → HasLeft stream gone exchanges k connection
+        out : (gone : List (Removed L)) (exchanges : List Exchange) (k : ℕ) (connection : ServedConnection L) → IsOpenUnder new.clients.items k ⊎ WasClosed stream gone exchanges k connection
+            → WasClosed stream gone exchanges k connection
         out gone exchanges k connection (inl is_in) = absurd (none_is_in k new.clients.items empty is_in)
         out gone exchanges k connection (inr left) = left
 

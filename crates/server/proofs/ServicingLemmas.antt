@@ -28,7 +28,8 @@ use Rattle.wire.specs.declared.completeness.Completeness.TheVariants.{Complete}
 use Rattle.wire.specs.declared.parsed.Parsed.{Parsed}
 use Rattle.connections.proofs.StreamLemmas.{heard_more, told_more, told_none}
 use Rattle.server.specs.Settings.{ServerSettingsEntry}
-use Rattle.server.specs.Servicing.{Services, HasComeAt, HasResponded, HasExchanges, IsAtGate, IsCome, IsLostOnly, LooksAtGate, MayHaveResponded, WasServiced, answer_of, moment_of, response_at}
+use Rattle.server.specs.Servicing.{Services, HasComeAt, HasResponded, HasExchanges, IsAtGate, IsCompleteFor, FailsOnlyAsLost}
+use Rattle.server.specs.Servicing.{LooksAtGate, MayHaveResponded, WasServiced, answer_of, moment_of, response_at}
 use Rattle.server.specs.Reads.{ServedOffice}
 use Rattle.server.specs.Endings.{EndsIn}
 use Rattle.server.specs.Exchanges.{IsGoneResponse, IsWaitResponse, ServesExchange, Exchange}
@@ -45,11 +46,11 @@ same_answer old new before is same = ap Some same ∙ sym (ap (option_map (λ (a
 -- bytes that lack nothing have come to their end
 pub come_whole : (its : HttpSettingsEntry) (held : Option (List ℕ)) (got : List ℕ) (parsed : Parsed) (lacking : Completeness) (n : ℕ) → n ≡ length got → lacking ≡ Complete
     → ((settings : HttpSettingsEntry) (bytes : List ℕ) → length bytes ≡ n → IsParsed settings bytes parsed → IsCompletenessOf settings bytes lacking)
-    → IsParsed its got parsed → IsCome its held got parsed
+    → IsParsed its got parsed → IsCompleteFor its held got parsed
 come_whole its held got parsed lacking n long nothing completeness_of is = (inl (subst (λ (l : Completeness). IsCompletenessOf its got l) nothing (completeness_of its got (sym long) is)), is)
 
 -- and so have those of a client that sends no more
-pub come_ended : (its : HttpSettingsEntry) (held : Option (List ℕ)) (got : List ℕ) (parsed : Parsed) → IsAtEnd held → IsParsed its got parsed → IsCome its held got parsed
+pub come_ended : (its : HttpSettingsEntry) (held : Option (List ℕ)) (got : List ℕ) (parsed : Parsed) → IsAtEnd held → IsParsed its got parsed → IsCompleteFor its held got parsed
 come_ended its held got parsed ended is = (inr ended, is)
 
 -- what was parsed stays right as more is gathered
@@ -157,7 +158,7 @@ module _ {L : Type 0} (stream : Stream L) where
   attends_none settings state_of now (Leaves why) old new before later apart same answer = inr (same, answer)
 
   -- one that can't be read is closed as broken or unread
-  pub ends_lost : {A : Type 0} (result : Result A CloseReason) (why : CloseReason) (client : Client L) → result ≡ Err why → IsLostOnly result
+  pub ends_lost : {A : Type 0} (result : Result A CloseReason) (why : CloseReason) (client : Client L) → result ≡ Err why → FailsOnlyAsLost result
       → (result ≡ Err Broken → HasFailed (stream.failed client.stream)) → client.answer ≡ None
       → EndsFor stream why client
   ends_lost result Done client is lost broken none = absurd (lost.0 is)

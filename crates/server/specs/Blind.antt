@@ -20,11 +20,11 @@ use Rattle.wire.specs.Responses.{ResponseEntry}
 use Rattle.wire.specs.Serving.{IsServed, TellsFault}
 use Rattle.wire.specs.Told.{IsTold}
 use Rattle.wire.specs.declared.request_error.RequestError.{RequestError}
-use Rattle.server.specs.ServedOrders.{TellsOrder}
-use Rattle.server.specs.ConsoleOrders.{TellsConsole}
+use Rattle.server.specs.ServedOrders.{OrderPrints}
+use Rattle.server.specs.ConsoleOrders.{ConsolePrints}
 use Rattle.server.specs.Servers.{ServesConnections}
 use Rattle.server.specs.Settings.{ServerSettingsEntry}
-use Rattle.server.specs.Exchanges.{AnswersInTurn, AreTurnedAway, AsksNoOrder, EndsSo, IsClientAnsweredAt, KeepsExchanges, IsToldClosed, Exchange}
+use Rattle.server.specs.Exchanges.{AnswersInTurn, AreRefusedClosed, AsksNoOrder, EndsSo, IsClientAnsweredAt, KeepsExchanges, GetsClosedResponse, Exchange}
 use Rattle.server.specs.declared.serve_error.ServeError.{ServeError}
 
 -- ---- one request, next to a clerk's view of the office
@@ -54,7 +54,7 @@ pub record IsFollowedBySeen {S : Type 0} (state_of : Held S → State) (settings
   pub seen : seen_by clerk s ≡ view
   pub sent : List Request
   pub last : List Request
-  pub tells : TellsOrder state_of settings s exchange.got exchange.answer sent last
+  pub tells : OrderPrints state_of settings s exchange.got exchange.answer sent last
   pub made : next ≡ seen_by clerk (after s sent)
 
 -- the same of an order that a client asks, which is an order of the console
@@ -63,7 +63,7 @@ pub record IsConsoleBySeen {S : Type 0} (state_of : Held S → State) (settings 
   pub seen : seen_by clerk s ≡ view
   pub sent : List Request
   pub last : List Request
-  pub tells : TellsConsole state_of settings s exchange.got exchange.answer sent last
+  pub tells : ConsolePrints state_of settings s exchange.got exchange.answer sent last
   pub made : next ≡ seen_by clerk (after s sent)
 
 -- the request of a client, or of an order, was processed between one view and the next
@@ -83,7 +83,7 @@ abbrev pub AnswersAsSeen : {S : Type 0} → (Held S → State) → ServerSetting
 AnswersAsSeen state_of settings clerk view [] = ⊤
 AnswersAsSeen state_of settings clerk view (exchange ∷ exchanges) =
     ((next : OfficeState) × RespondsBySeen exchange.listener state_of settings clerk view exchange next × AnswersAsSeen state_of settings clerk next exchanges)
-    ⊎ (IsStoppedBySeen exchange.listener state_of settings clerk view exchange × AreTurnedAway settings exchanges)
+    ⊎ (IsStoppedBySeen exchange.listener state_of settings clerk view exchange × AreRefusedClosed settings exchanges)
 
 -- The law: for any requests that are processed in turn from a state on, what each clerk sees of that state determines the responses to that clerk.
 abbrev pub ClerksAreAnsweredAsSeen : {S : Type 0} → (Held S → State) → Type 0
@@ -121,7 +121,7 @@ AreClients settings (exchange ∷ exchanges) = (exchange.listener ≡ Clients) �
 
 -- a client got no answer: there was a fault, the office was closed or its file gone, or the client has to wait
 abbrev pub IsUnanswered : ServerSettingsEntry → Exchange → Type 0
-IsUnanswered settings exchange = EndsSo exchange (IsServed TellsFault) ⊎ IsToldClosed Clients settings exchange
+IsUnanswered settings exchange = EndsSo exchange (IsServed TellsFault) ⊎ GetsClosedResponse Clients settings exchange
 
 -- the same response was sent in two exchanges, as far as it could be allocated
 pub record AreSentTheSame (one two : Exchange) : Type 0 where

@@ -18,7 +18,7 @@ use Rattle.wire.specs.Serving.{IsServed}
 use Rattle.wire.specs.Told.{IsTold}
 use Rattle.wire.specs.declared.response.Response.{Response}
 use Rattle.server.specs.Endings.{EndsIn}
-use Rattle.server.specs.ServedOrders.{AsksSo, Follows, TellsSo, folder_of, shut_page, untold}
+use Rattle.server.specs.ServedOrders.{AsksSo, Follows, PrintsAt, folder_of, closed_office_page, untold}
 use Rattle.server.specs.Settings.{ServerSettingsEntry}
 use Rattle.server.specs.declared.served_order.ServedOrder.{ServedOrder}
 use Rattle.server.specs.declared.served_order.ServedOrder.TheVariants as asked
@@ -77,7 +77,7 @@ pub record FollowsConsole {S : Type 0} (settings : ServerSettingsEntry) (state_o
 -- ---- its output at a state
 
 -- an order of the console that these bytes ask printed its page at a state, in this response
-pub record TellsConsole {S : Type 0} (state_of : Held S → State) (settings : ServerSettingsEntry) (s : OfficeState) (got answer : List ℕ) (sent last : List Request) : Type 0 where
+pub record ConsolePrints {S : Type 0} (state_of : Held S → State) (settings : ServerSettingsEntry) (s : OfficeState) (got answer : List ℕ) (sent last : List Request) : Type 0 where
   pub entry : ConsoleOrderEntry
   pub asks : Asks settings.clients got (order entry)
   pub files : List MessagePartEntry
@@ -86,7 +86,7 @@ pub record TellsConsole {S : Type 0} (state_of : Held S → State) (settings : S
   pub cut : Cut
   pub page : Page
   pub told : IsInResponse cut page answer
-  pub tells : TellsSo state_of (folder_of files) s asked cut page sent last
+  pub tells : PrintsAt state_of (folder_of files) s asked cut page sent last
 
 -- an order of the console that these bytes ask found the office closed, and this response says so
 pub record IsConsoleTurnedAway (settings : ServerSettingsEntry) (got answer : List ℕ) : Type 0 where
@@ -96,4 +96,4 @@ pub record IsConsoleTurnedAway (settings : ServerSettingsEntry) (got answer : Li
   pub asked : ServedOrder
   pub is : AsksConsole settings entry files asked
   pub cut : Cut
-  pub told : IsInResponse cut (shut_page asked) answer
+  pub told : IsInResponse cut (closed_office_page asked) answer

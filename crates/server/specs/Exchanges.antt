@@ -20,8 +20,8 @@ use Rattle.wire.specs.Serving.{IsHandedOn, IsServed, Readies, ReadiesClosed, Rea
 use Rattle.wire.specs.declared.serving.Served.{Served}
 use Rattle.wire.specs.declared.target.Resource.{Resource}
 use Rattle.server.specs.Endings.{EndsIn}
-use Rattle.server.specs.ServedOrders.{FollowsOrder, IsTurnedAway, TellsOrder}
-use Rattle.server.specs.ConsoleOrders.{FollowsConsole, IsConsoleTurnedAway, TellsConsole}
+use Rattle.server.specs.ServedOrders.{FollowsOrder, IsRefusedClosed, OrderPrints}
+use Rattle.server.specs.ConsoleOrders.{FollowsConsole, IsConsoleTurnedAway, ConsolePrints}
 use Rattle.server.specs.Reads.{AreReadAt, ServedOffice, limit_after, must_wait}
 use Rattle.server.specs.Settings.{ServerSettingsEntry}
 
@@ -85,8 +85,8 @@ abbrev pub IsGoneResponse : Exchange → Type 0
 IsGoneResponse exchange = EndsSo exchange (IsServed (IsWritten (fault_response 113)))
 
 -- a client is sent away: it must wait, or the file is gone, which isn't known to be whole
-abbrev pub IsSentAway : ServerSettingsEntry → Exchange → Type 0
-IsSentAway settings exchange = IsWaitResponse exchange ⊎ (IsGoneResponse exchange × (settings.whole ≡ Some true → ⊥))
+abbrev pub IsRejected : ServerSettingsEntry → Exchange → Type 0
+IsRejected settings exchange = IsWaitResponse exchange ⊎ (IsGoneResponse exchange × (settings.whole ≡ Some true → ⊥))
 
 -- The file of the office is gone or replaced: the response says so, and all stays as it is. The file isn't known to be whole, and the client reads nothing of an open office.
 pub record IsWithoutFile {S : Type 0} (settings : ServerSettingsEntry) (old : ServedOffice S) (exchange : Exchange) (new : ServedOffice S) : Type 0 where
@@ -96,7 +96,7 @@ pub record IsWithoutFile {S : Type 0} (settings : ServerSettingsEntry) (old : Se
   pub reads_none : old.office.closed ≡ false → (what : Resource) → Asks settings.clients exchange.got (reading what) → ⊥
 
 -- a client's code is wrong, and the rate limit is reached: the response is to wait, and all stays as it is
-pub record IsKeptWaiting {S : Type 0} (settings : HttpSettingsEntry) (old : ServedOffice S) (exchange : Exchange) (new : ServedOffice S) : Type 0 where
+pub record IsRateLimited {S : Type 0} (settings : HttpSettingsEntry) (old : ServedOffice S) (exchange : Exchange) (new : ServedOffice S) : Type 0 where
   pub authentication : Option AuthenticationEntry
   pub is : IsAuthentication settings exchange.got authentication
   pub waits : must_wait authentication exchange.moment old.kept.limit ≡ true
@@ -110,7 +110,7 @@ ServesAsked settings state_of old exchange new =
     ⊎ (FollowsConsole settings state_of old.office exchange.got exchange.answer new.office × (new.kept.reads ≡ []))
 
 -- otherwise the client is served as it asks; and if its code was wrong, that is counted
-pub record IsLetIn {S : Type 0} (settings : ServerSettingsEntry) (state_of : Held S → State) (old : ServedOffice S) (exchange : Exchange) (new : ServedOffice S) : Type 0 where
+pub record IsAdmitted {S : Type 0} (settings : ServerSettingsEntry) (state_of : Held S → State) (old : ServedOffice S) (exchange : Exchange) (new : ServedOffice S) : Type 0 where
   pub authentication : Option AuthenticationEntry
   pub is : IsAuthentication settings.clients exchange.got authentication
   pub free : must_wait authentication exchange.moment old.kept.limit ≡ false
@@ -120,7 +120,7 @@ pub record IsLetIn {S : Type 0} (settings : ServerSettingsEntry) (state_of : Hel
 -- the request of a client was processed: it must wait, or the file is gone, or it is let in
 abbrev pub RespondsToClient : {S : Type 0} → ServerSettingsEntry → (Held S → State) → ServedOffice S → Exchange → ServedOffice S → Type 0
 RespondsToClient settings state_of old exchange new =
-    (IsKeptWaiting settings.clients old exchange new ⊎ IsWithoutFile settings old exchange new) ⊎ IsLetIn settings state_of old exchange new
+    (IsRateLimited settings.clients old exchange new ⊎ IsWithoutFile settings old exchange new) ⊎ IsAdmitted settings state_of old exchange new
 
 -- The request of a connection of this listener was processed: a client's as above; or an order that is handed over is followed, the cache is emptied, and no wrong code is
 -- counted.
@@ -141,29 +141,29 @@ IsLastFor settings bytes last =
     ⊎ ((clerk batch : ℕ) × (entry : KeyingEntry) × (request : Request) × Asks settings bytes (keying clerk batch entry) × IsHandedOn clerk batch entry request × (last ≡ request ∷ []))
 
 -- A client that asks a closed office anything gets the response that it is closed; or it is sent away. Of an order of the console the response is what a closed office prints.
-abbrev pub IsToldClosed : Listener → ServerSettingsEntry → Exchange → Type 0
-IsToldClosed Clients settings exchange =
-    (IsSentAway settings exchange ⊎ (AsksNoOrder settings.clients exchange.got × EndsSo exchange (IsServed (ReadiesClosed settings.clients (Some exchange.got)))))
+abbrev pub GetsClosedResponse : Listener → ServerSettingsEntry → Exchange → Type 0
+GetsClosedResponse Clients settings exchange =
+    (IsRejected settings exchange ⊎ (AsksNoOrder settings.clients exchange.got × EndsSo exchange (IsServed (ReadiesClosed settings.clients (Some exchange.got)))))
     ⊎ IsConsoleTurnedAway settings exchange.got exchange.answer
-IsToldClosed Orders settings exchange = IsTurnedAway settings exchange.got exchange.answer
+GetsClosedResponse Orders settings exchange = IsRefusedClosed settings exchange.got exchange.answer
 
 -- the same of each of these
-abbrev pub AreTurnedAway : ServerSettingsEntry → List Exchange → Type 0
-AreTurnedAway settings [] = ⊤
-AreTurnedAway settings (exchange ∷ exchanges) = IsToldClosed exchange.listener settings exchange × AreTurnedAway settings exchanges
+abbrev pub AreRefusedClosed : ServerSettingsEntry → List Exchange → Type 0
+AreRefusedClosed settings [] = ⊤
+AreRefusedClosed settings (exchange ∷ exchanges) = GetsClosedResponse exchange.listener settings exchange × AreRefusedClosed settings exchanges
 
 -- A client that asks no order is served at a state, and these commands were answered for it: none, or one keying, and then its response is the office's reply to it. A client
 -- that is sent away has none.
 abbrev pub IsClientAnsweredAt : ServerSettingsEntry → OfficeState → Exchange → List Request → Type 0
 IsClientAnsweredAt settings s exchange sent =
-    (IsSentAway settings exchange × (sent ≡ []))
+    (IsRejected settings exchange × (sent ≡ []))
     ⊎ (AsksNoOrder settings.clients exchange.got × EndsSo exchange (IsServed (TellsFor settings.clients (Some exchange.got) s sent)))
 
 -- A request is processed at a state, and these commands were answered for it: a client's as above; and those that the output of an order has, of the console or handed over.
 abbrev pub IsAnsweredAt : {S : Type 0} → Listener → (Held S → State) → ServerSettingsEntry → OfficeState → Exchange → List Request → Type 0
 IsAnsweredAt Clients state_of settings s exchange sent =
-    IsClientAnsweredAt settings s exchange sent ⊎ ((last : List Request) × TellsConsole state_of settings s exchange.got exchange.answer sent last)
-IsAnsweredAt Orders state_of settings s exchange sent = (last : List Request) × TellsOrder state_of settings s exchange.got exchange.answer sent last
+    IsClientAnsweredAt settings s exchange sent ⊎ ((last : List Request) × ConsolePrints state_of settings s exchange.got exchange.answer sent last)
+IsAnsweredAt Orders state_of settings s exchange sent = (last : List Request) × OrderPrints state_of settings s exchange.got exchange.answer sent last
 
 -- a fault, which is the response, closed the office while a client that asks no order was served: no command was answered for it, and its keying may be kept or not
 pub record IsClientStopped (settings : ServerSettingsEntry) (exchange : Exchange) (answered last : List Request) : Type 0 where
@@ -176,8 +176,8 @@ pub record IsClientStopped (settings : ServerSettingsEntry) (exchange : Exchange
 -- an order says so.
 abbrev pub IsStoppedAt : {S : Type 0} → Listener → (Held S → State) → ServerSettingsEntry → OfficeState → Exchange → List Request → List Request → Type 0
 IsStoppedAt Clients state_of settings s exchange answered last =
-    IsClientStopped settings exchange answered last ⊎ TellsConsole state_of settings s exchange.got exchange.answer answered last
-IsStoppedAt Orders state_of settings s exchange answered last = TellsOrder state_of settings s exchange.got exchange.answer answered last
+    IsClientStopped settings exchange answered last ⊎ ConsolePrints state_of settings s exchange.got exchange.answer answered last
+IsStoppedAt Orders state_of settings s exchange answered last = OrderPrints state_of settings s exchange.got exchange.answer answered last
 
 -- All requests are processed in turn, each as the office's machine says at the state at which it is processed, and these commands were answered for them. Or a fault closed
 -- the office during one of them, and every later one gets the response that the office is closed.
@@ -186,7 +186,7 @@ AnswersInTurn state_of settings s [] answered last = (answered ≡ []) × (last 
 AnswersInTurn state_of settings s (exchange ∷ exchanges) answered last =
     ((sent : List Request) × (others : List Request) × IsAnsweredAt exchange.listener state_of settings s exchange sent × (answered ≡ sent ++ others)
     × AnswersInTurn state_of settings (after s sent) exchanges others last)
-    ⊎ (IsStoppedAt exchange.listener state_of settings s exchange answered last × AreTurnedAway settings exchanges)
+    ⊎ (IsStoppedAt exchange.listener state_of settings s exchange answered last × AreRefusedClosed settings exchanges)
 
 -- What is kept of the requests that were processed, after earlier ones. An open office is at the state after all that were answered. Whatever a stop leaves is the state
 -- after the accepted requests of a beginning. That beginning contains every earlier request, every one that was answered, and at most one more.

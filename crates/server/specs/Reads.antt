@@ -12,7 +12,7 @@ use Rattle.wire.specs.declared.serving.Served.TheVariants.{Answered, ReadFailed,
 use Rattle.wire.specs.declared.target.Resource.{Resource}
 use Rattle.server.specs.declared.read_cache.ReadCache.{ReadCache}
 use Rattle.server.specs.declared.read_cache.CachedRead.{CachedRead}
-use Rattle.server.specs.declared.server_memory.ServerMemory.{ServerMemory}
+use Rattle.server.specs.declared.server_state.ServerState.{ServerState}
 
 -- a resource that was read, and the bytes of the response
 pub record ReadEntry : Type 0 where
@@ -31,10 +31,10 @@ pub record IsRead (s : OfficeState) (what : Resource) (answer : List ℕ) : Type
   pub told : IsServed (λ response. IsTold (reading_response s what) response) (Some []) (Some answer) (Answered status)
 
 -- a response was written whole, and it is no fault (503)
-abbrev pub TellsNoFault : Served → Type 0
-TellsNoFault (Answered status) = status ≡ 503 → ⊥
-TellsNoFault ReadFailed = ⊥
-TellsNoFault WriteFailed = ⊥
+abbrev pub IsNoFault : Served → Type 0
+IsNoFault (Answered status) = status ≡ 503 → ⊥
+IsNoFault ReadFailed = ⊥
+IsNoFault WriteFailed = ⊥
 
 -- each cached response is the one at this state
 abbrev pub AreReadAt : OfficeState → List ReadEntry → Type 0
@@ -59,7 +59,7 @@ pub record MemoryEntry : Type 0 where
   pub reads : List ReadEntry
   pub limit : LimitEntry
 
-abbrev pub memory_entry : ServerMemory → MemoryEntry
+abbrev pub memory_entry : ServerState → MemoryEntry
 memory_entry kept = record { reads = reads_in kept.reads; limit = limit_entry kept.limit }
 
 -- an office that is served, and the server's memory

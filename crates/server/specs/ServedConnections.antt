@@ -55,7 +55,7 @@ IsWhy stream Evicted last exchanges = ⊤
 IsWhy stream Closing last exchanges = ⊤
 
 -- a connection was handed back: under its number, with its stream at the end, and for a reason that holds
-pub record HasLeft {L : Type 0} (stream : Stream L) (gone : List (Removed L)) (exchanges : List Exchange) (number : ℕ) (connection : ServedConnection L) : Type 0 where
+pub record WasClosed {L : Type 0} (stream : Stream L) (gone : List (Removed L)) (exchanges : List Exchange) (number : ℕ) (connection : ServedConnection L) : Type 0 where
   pub why : CloseReason
   pub back : Contains gone (record { number = number; stream = connection.last; why = why })
   pub holds : IsWhy stream why connection.last (exchanges_of number exchanges)
@@ -63,7 +63,7 @@ pub record HasLeft {L : Type 0} (stream : Stream L) (gone : List (Removed L)) (e
 -- ---- connections that are open
 
 -- a connection with this number is open
-pub record IsIn {L : Type 0} (clients : List (Client L)) (number : ℕ) : Type 0 where
+pub record IsOpenUnder {L : Type 0} (clients : List (Client L)) (number : ℕ) : Type 0 where
   pub place : ℕ
   pub within : place < length clients
   pub belongs : (client : Client L) → (slice_index_or clients place client).number ≡ number
@@ -81,7 +81,7 @@ pub record IsOpenConnection {L : Type 0} (stream : Stream L) (exchanges : List E
   pub belongs : HasExchangeFor (answer_of client) (exchanges_of client.number exchanges)
 
 -- All connections that were accepted, so many, and those of them that are open, each under a number of its own. Each of the others was handed back, once.
-pub record AreIn {L : Type 0} (settings : ServerSettingsEntry) (stream : Stream L) (all_connections : List (ServedConnection L)) (exchanges : List Exchange) (gone : List (Removed L)) (came : ℕ)
+pub record AreOpen {L : Type 0} (settings : ServerSettingsEntry) (stream : Stream L) (all_connections : List (ServedConnection L)) (exchanges : List Exchange) (gone : List (Removed L)) (came : ℕ)
     (clients : List (Client L)) : Type 0 where
   pub count : length all_connections ≡ came
   pub went : AllHadExchanges settings stream all_connections exchanges
@@ -90,9 +90,9 @@ pub record AreIn {L : Type 0} (settings : ServerSettingsEntry) (stream : Stream 
   pub stand : All (λ client. (connection : ServedConnection L) → IsOpenConnection stream exchanges (slice_index_or all_connections client.number connection) client) clients
   pub sum : length gone + length clients ≡ length all_connections
   pub left : (number : ℕ) (connection : ServedConnection L) → number < length all_connections
-      → IsIn clients number ⊎ HasLeft stream gone exchanges number (slice_index_or all_connections number connection)
+      → IsOpenUnder clients number ⊎ WasClosed stream gone exchanges number (slice_index_or all_connections number connection)
 
 -- what holds of the table: connections were accepted, and had their exchanges, and these of them are open
 abbrev pub IsSound : {L : Type 0} → ServerSettingsEntry → Stream L → ConnectionTable L → Type 0
 IsSound {L} settings stream table = (all_connections : List (ServedConnection L)) × (exchanges : List Exchange) × (gone : List (Removed L))
-    × AreIn settings stream all_connections exchanges gone table.came table.clients.items
+    × AreOpen settings stream all_connections exchanges gone table.came table.clients.items

@@ -43,7 +43,7 @@ pub record IsMessage (bytes : List ℕ) (h : OrderMessageEntry) : Type 0 where
   pub is : drop 8 bytes ≡ encoding_of h
 
 -- a message is complete: it has at least as many bytes as its first eight say
-pub record HasCameWhole (bytes : List ℕ) : Type 0 where
+pub record IsWholeMessage (bytes : List ℕ) : Type 0 where
   pub front : 8 ≤ length bytes
   pub whole : 8 + from_be_bytes w64 (take 8 bytes) ≤ length bytes
 
@@ -67,6 +67,7 @@ IsForNone (order.Perform task.Init) = ⊤
 IsForNone (order.Perform task.Migrate) = ⊤
 IsForNone (order.Serve port connections origin codes public) = ⊤
 IsForNone (order.Codes path clerks with_office) = ⊤
+IsForNone (order.Slips path address) = ⊤
 IsForNone other = ⊥
 
 -- What the words of an order ask that is for this file: a job, a copy, the journal. Or why it isn't followed: they are no order; or the file is gone, which isn't known to be
@@ -143,12 +144,12 @@ abbrev pub IsBareName : Text → Type 0
 IsBareName path = (0 < length path) × (Contains path 47 → ⊥)
 
 -- the page of a closed office: that it is closed, of anything it would do; and otherwise why the order isn't followed
-abbrev pub shut_page : ServedOrder → Page
-shut_page (asked.Do job) = closed_page
-shut_page (asked.Copy path) = closed_page
-shut_page asked.Journal = closed_page
-shut_page (asked.Refused failure) = failed failure
-shut_page (asked.Misread fault) = words_page fault
+abbrev pub closed_office_page : ServedOrder → Page
+closed_office_page (asked.Do job) = closed_page
+closed_office_page (asked.Copy path) = closed_page
+closed_office_page asked.Journal = closed_page
+closed_office_page (asked.Refused failure) = failed failure
+closed_office_page (asked.Misread fault) = words_page fault
 
 -- What is asked with these files was done, and so much of its page was sent so. If the office was open, the page has the outcome as far as its outputs accepted it, with what
 -- it left. If the office was closed, the page says so.
@@ -158,7 +159,7 @@ pub record Follows {S : Type 0} (state_of : Held S → State) (old : OfficeValue
   pub page : Page
   pub told : IsSent cut page
   pub does : WhenOpenAt state_of old new (λ s. IsOrderOutcome (state_of old.held) new.closed (state_of new.held) (folder_of files) s asked cut page)
-  pub turned_away : old.closed ≡ true → (page ≡ shut_page asked) × (new ≡ old)
+  pub turned_away : old.closed ≡ true → (page ≡ closed_office_page asked) × (new ≡ old)
   pub clean : HasCleanDisk (state_of new.held) → HasCleanDisk (state_of old.held)
 
 -- what is asked was done, and these frames are the response
@@ -180,29 +181,29 @@ AreAnswered requests answered sent last = (sent ≡ take answered requests) × (
 
 -- The page of what is asked at a state, for which these requests were answered, and this one more was sent, if any. A job prints it in an office that was open at that
 -- state, over some connection, whose failure may be the cause of a fault on it.
-abbrev pub TellsSo : {S : Type 0} → (Held S → State) → Folder → OfficeState → ServedOrder → Cut → Page → List Request → List Request → Type 0
-TellsSo {S} state_of folder s (asked.Do job) cut page sent last =
+abbrev pub PrintsAt : {S : Type 0} → (Held S → State) → Folder → OfficeState → ServedOrder → Cut → Page → List Request → List Request → Type 0
+PrintsAt {S} state_of folder s (asked.Do job) cut page sent last =
     (old new : OfficeValue S)
     × ComesTo cut page (λ course. IsDone (state_of old.held) new.closed (state_of new.held) folder s job course × AreAnswered course.requests course.answered sent last)
-TellsSo state_of folder s (asked.Copy path) cut page sent last = IsCopyTold s page × (sent ≡ []) × (last ≡ [])
-TellsSo state_of folder s asked.Journal cut page sent last = IsJournalTold s page × (sent ≡ []) × (last ≡ [])
-TellsSo state_of folder s (asked.Refused failure) cut page sent last = (page ≡ failed failure) × (sent ≡ []) × (last ≡ [])
-TellsSo state_of folder s (asked.Misread fault) cut page sent last = (page ≡ words_page fault) × (sent ≡ []) × (last ≡ [])
+PrintsAt state_of folder s (asked.Copy path) cut page sent last = IsCopyTold s page × (sent ≡ []) × (last ≡ [])
+PrintsAt state_of folder s asked.Journal cut page sent last = IsJournalTold s page × (sent ≡ []) × (last ≡ [])
+PrintsAt state_of folder s (asked.Refused failure) cut page sent last = (page ≡ failed failure) × (sent ≡ []) × (last ≡ [])
+PrintsAt state_of folder s (asked.Misread fault) cut page sent last = (page ≡ words_page fault) × (sent ≡ []) × (last ≡ [])
 
 -- an order that these bytes ask printed its page at a state, in these frames
-pub record TellsOrder {S : Type 0} (state_of : Held S → State) (settings : ServerSettingsEntry) (s : OfficeState) (got frames : List ℕ) (sent last : List Request) : Type 0 where
+pub record OrderPrints {S : Type 0} (state_of : Held S → State) (settings : ServerSettingsEntry) (s : OfficeState) (got frames : List ℕ) (sent last : List Request) : Type 0 where
   pub files : List MessagePartEntry
   pub asked : ServedOrder
   pub is : AsksOrder settings got files asked
   pub cut : Cut
   pub page : Page
   pub told : IsFramed cut page frames
-  pub tells : TellsSo state_of (folder_of files) s asked cut page sent last
+  pub tells : PrintsAt state_of (folder_of files) s asked cut page sent last
 
 -- an order that these bytes ask found the office closed, and these frames say so
-pub record IsTurnedAway (settings : ServerSettingsEntry) (got frames : List ℕ) : Type 0 where
+pub record IsRefusedClosed (settings : ServerSettingsEntry) (got frames : List ℕ) : Type 0 where
   pub files : List MessagePartEntry
   pub asked : ServedOrder
   pub is : AsksOrder settings got files asked
   pub cut : Cut
-  pub told : IsFramed cut (shut_page asked) frames
+  pub told : IsFramed cut (closed_office_page asked) frames

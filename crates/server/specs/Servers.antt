@@ -19,7 +19,7 @@ use Rattle.connections.specs.declared.client.Accepted.{Accepted}
 use Rattle.connections.specs.declared.removed.Removed.{Removed}
 use Rattle.connections.specs.declared.removed.CloseReason.{CloseReason}
 use Rattle.connections.specs.declared.connection_table.ConnectionTable.{ConnectionTable}
-use Rattle.server.specs.ServedConnections.{AreIn, ServedConnection, HasLeft, AllHadExchanges}
+use Rattle.server.specs.ServedConnections.{AreOpen, ServedConnection, WasClosed, AllHadExchanges}
 use Rattle.server.specs.declared.serve_error.ServeError.{ServeError}
 use Rattle.server.specs.declared.serve_error.ServeError.TheVariants as ended
 use Rattle.server.specs.Reads.{ServedOffice, MemoryEntry, served_office, with_none_kept}
@@ -43,9 +43,9 @@ pub record GoesOn {L : Type 0} (settings : ServerSettingsEntry) (stream : Stream
   pub counted : new.counted ≡ old.counted + clients_among all_accepted
   pub gone : List (Removed L)
   pub back : RemovesMore before.left later.left gone
-  pub own : (all_connections : List (ServedConnection L)) (earlier : List Exchange) (left : List (Removed L)) → AreIn settings stream all_connections earlier left old.came old.clients.items
+  pub own : (all_connections : List (ServedConnection L)) (earlier : List Exchange) (left : List (Removed L)) → AreOpen settings stream all_connections earlier left old.came old.clients.items
       → (all : List (ServedConnection L)) × (map (λ connection. connection.came) all ≡ map (λ connection. connection.came) all_connections ++ all_accepted)
-      × AreIn settings stream all (earlier ++ exchanges) (left ++ gone) new.came new.clients.items
+      × AreOpen settings stream all (earlier ++ exchanges) (left ++ gone) new.came new.clients.items
 
 -- the same while an office serves the exchanges
 pub record GoesOnServing {L S : Type 0} (settings : ServerSettingsEntry) (stream : Stream L) (state_of : Held S → State) (before later : NetworkEntry L) (old new : ConnectionTable L)
@@ -55,9 +55,9 @@ pub record GoesOnServing {L S : Type 0} (settings : ServerSettingsEntry) (stream
   pub goes_on : GoesOn settings stream exchanges before later old new
 
 -- The same from any moment that the clock showed last. Step by step, these responses were made, and these connections were accepted and closed.
-abbrev pub ServesOn : {L S : Type 0} → ServerSettingsEntry → Stream L → (Held S → State) → NetworkEntry L → NetworkEntry L → ConnectionTable L → ConnectionTable L → ServedOffice S
+abbrev pub ServesFrom : {L S : Type 0} → ServerSettingsEntry → Stream L → (Held S → State) → NetworkEntry L → NetworkEntry L → ConnectionTable L → ConnectionTable L → ServedOffice S
     → ServedOffice S → Type 0
-ServesOn settings stream state_of before later old new at behind =
+ServesFrom settings stream state_of before later old new at behind =
     (from : Option ℕ) → (to : Option ℕ) × (it : GoesOnServing settings stream state_of before later old new at behind)
     × Trace (is_some settings.clients.gate) stream (map response_at it.exchanges) from to before later old.clients.items new.clients.items
 
@@ -66,7 +66,7 @@ abbrev pub IsNumbered : {L : Type 0} → List (Client L) → ℕ → ℕ → Typ
 IsNumbered {L} clients place number = (client : Client L) → (slice_index_or clients place client).number ≡ number
 
 -- a connection is at its place of the table again
-pub record StandsAgain {L : Type 0} (place : ℕ) (client : Client L) (old new : ConnectionTable L) : Type 0 where
+pub record IsBackInTable {L : Type 0} (place : ℕ) (client : Client L) (old new : ConnectionTable L) : Type 0 where
   pub clients : new.clients.items ≡ insert old.clients.items place client
   pub came : new.came ≡ old.came
   pub counted : new.counted ≡ old.counted
@@ -75,7 +75,7 @@ pub record StandsAgain {L : Type 0} (place : ℕ) (client : Client L) (old new :
 -- were closed while too many bytes were in memory.
 abbrev pub IsSettled : {L : Type 0} → Option CloseReason → ℕ → Client L → NetworkEntry L → NetworkEntry L → ConnectionTable L → ConnectionTable L → Type 0
 IsSettled (Some why) place client before later old new = (later ≡ with_removed before (removed_of client why)) × (new ≡ old)
-IsSettled {L} None place client before later old new = (back : ConnectionTable L) × StandsAgain place client old back × AreClosedByRule IsClosedForBytes before later back new
+IsSettled {L} None place client before later old new = (back : ConnectionTable L) × IsBackInTable place client old back × AreClosedByRule IsClosedForBytes before later back new
 
 -- How all of them were accepted, serviced and closed, step by step. At first no connection is open, and the clock hasn't shown a moment yet. The connections that are open
 -- as serving ends are closed then, one after the other. After an end without a failure there are none.
@@ -124,7 +124,7 @@ pub record ServesConnections {L S : Type 0} (settings : ServerSettingsEntry) (st
   pub few : IfSome most (λ n. clients_among (map (λ connection. connection.came) all_connections) ≤ n)
   pub all : OnOk result (IfSome most (λ n. clients_among (map (λ connection. connection.came) all_connections) ≡ n))
   pub went : AllHadExchanges settings stream all_connections exchanges
-  pub left : (number : ℕ) (connection : ServedConnection L) → number < length all_connections → HasLeft stream gone exchanges number (slice_index_or all_connections number connection)
+  pub left : (number : ℕ) (connection : ServedConnection L) → number < length all_connections → WasClosed stream gone exchanges number (slice_index_or all_connections number connection)
   pub once : length gone ≡ length all_connections
   pub closes : ClosesConnections (is_some settings.clients.gate) stream (map response_at exchanges) before later result
   pub kept : MemoryEntry

@@ -18,23 +18,23 @@ use Rattle.wire.specs.Parsing.{IsParsed}
 use Rattle.wire.specs.declared.parsed.Parsed.{Parsed}
 use Rattle.server.specs.declared.servicing.Serviced.{Serviced}
 use Rattle.server.specs.declared.servicing.Serviced.TheVariants.{Waits, Served, Leaves}
-use Rattle.server.specs.ServedOrders.{HasCameWhole}
+use Rattle.server.specs.ServedOrders.{IsWholeMessage}
 use Rattle.server.specs.Reads.{ServedOffice}
 use Rattle.server.specs.Settings.{ServerSettingsEntry}
 use Rattle.server.specs.Exchanges.{ServesExchange, Exchange}
 
 -- a client's request is complete: the bytes ask the same whatever follows them, or the connection sends no more
-abbrev pub HasCome : HttpSettingsEntry → Option (List ℕ) → List ℕ → Type 0
-HasCome settings held got = IsWhole settings got ⊎ IsAtEnd held
+abbrev pub IsComplete : HttpSettingsEntry → Option (List ℕ) → List ℕ → Type 0
+IsComplete settings held got = IsWhole settings got ⊎ IsAtEnd held
 
 -- the same for a client whose head was parsed
-abbrev pub IsCome : HttpSettingsEntry → Option (List ℕ) → List ℕ → Parsed → Type 0
-IsCome settings held got parsed = HasCome settings held got × IsParsed settings got parsed
+abbrev pub IsCompleteFor : HttpSettingsEntry → Option (List ℕ) → List ℕ → Parsed → Type 0
+IsCompleteFor settings held got parsed = IsComplete settings held got × IsParsed settings got parsed
 
 -- the same for a connection of either listener; an order is complete once its whole message arrived
 abbrev pub HasComeAt : Listener → ServerSettingsEntry → Option (List ℕ) → List ℕ → Type 0
-HasComeAt Clients settings held got = HasCome settings.clients held got
-HasComeAt Orders settings held got = HasCameWhole got
+HasComeAt Clients settings held got = IsComplete settings.clients held got
+HasComeAt Orders settings held got = IsWholeMessage got
 
 -- nothing was sent yet on a connection without a response, as far as its stream says what it accepted
 abbrev pub HasSentNothing : {L : Type 0} → Stream L → Client L → Type 0
@@ -79,8 +79,8 @@ Services settings stream state_of now Served old new before later = HasResponded
 Services settings stream state_of now (Leaves why) old new before later = MayHaveResponded settings stream state_of now old new before later
 
 -- a connection of which nothing more can be received is broken or unreadable
-abbrev pub IsLostOnly : {A : Type 0} → Result A CloseReason → Type 0
-IsLostOnly result = (result ≢ Err Done) × (result ≢ Err TimedOut) × (result ≢ Err Evicted) × (result ≢ Err Closing)
+abbrev pub FailsOnlyAsLost : {A : Type 0} → Result A CloseReason → Type 0
+FailsOnlyAsLost result = (result ≢ Err Done) × (result ≢ Err TimedOut) × (result ≢ Err Evicted) × (result ≢ Err Closing)
 
 -- ---- the clock
 

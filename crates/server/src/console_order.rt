@@ -95,7 +95,7 @@ fn follow_asked<A: ServedFile, S: Alter>(
 }
 
 /// Returns the response to an order that isn't followed because an allocation failed.
-fn follow_none<A: ServedFile, S: Alter>(
+fn reject_out_of_memory<A: ServedFile, S: Alter>(
     alloc: Global,
     served_file: &A,
     office: &mut Office<S>,
@@ -129,7 +129,7 @@ pub fn answer_console<A: ServedFile, S: Alter>(
 {
     let read = match read_order(alloc, order) {
         Ok(read) => read,
-        Err(AllocError) => return follow_none(alloc, server_settings.served_file, office),
+        Err(AllocError) => return reject_out_of_memory(alloc, server_settings.served_file, office),
     };
     let asked = unless_gone(
         served_order_by(alloc, &read.words),

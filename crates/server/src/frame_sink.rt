@@ -70,7 +70,11 @@ impl<L: Stream> FrameSink<L> {
 
 /// Appends bytes to a response, in one frame, and sends as much of the response as the stream accepts now. After `Broken` nothing
 /// was appended: the stream or an allocation failed, or the response got too long.
-fn say<L: Stream>(stream: &mut L, answer: &mut PendingResponse, bytes: &[u8]) -> Result<(), Broken>
+fn send_frame<L: Stream>(
+    stream: &mut L,
+    answer: &mut PendingResponse,
+    bytes: &[u8],
+) -> Result<(), Broken>
     requires { length bytes.now ≤ MAX_FRAME }
     ensures goes_out { IsGoingOut (stream_of L.held L.taken L.failed) stream.old answer.old → IsGoingOut (stream_of L.held L.taken L.failed) stream.new answer.new }
     ensures said { IsGoingOut (stream_of L.held L.taken L.failed) stream.old answer.old → OnOk result (output_of answer.new.bytes.items ≡ output_of answer.old.bytes.items ++ bytes.now) }
@@ -97,7 +101,7 @@ impl<L: Stream> Sink for FrameSink<L> {
 
     fn put(&mut self, bytes: &[u8]) -> Result<usize, Broken> {
         let count = bytes.len().min(MAX_FRAME);
-        match say(&mut self.stream, &mut self.answer, &bytes[..count]) {
+        match send_frame(&mut self.stream, &mut self.answer, &bytes[..count]) {
             Ok(()) => Ok(count),
             Err(Broken) => {
                 self.failed += 1;

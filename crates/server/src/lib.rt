@@ -36,8 +36,8 @@ mod order_response;
 mod read_cache;
 pub mod served_file;
 mod served_order;
-mod server_memory;
 pub mod server_settings;
+mod server_state;
 // one connection
 pub mod servicing;
 // all connections

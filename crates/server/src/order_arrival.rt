@@ -3,8 +3,8 @@
 ghost use Rattle.std.specs.Prelude.{◌≡◌, ◌+◌, None, Err, IfOk, IfSome, Ok, length, take, true};
 ghost use Rattle.std.specs.Int.{from_be_bytes, w64};
 ghost use Rattle.connections.specs.Streams.{Receives, HasFailed, stream_of};
-ghost use Rattle.server.specs.ServedOrders.{HasCameWhole};
-ghost use Rattle.server.specs.Servicing.{IsLostOnly, IsSameClient};
+ghost use Rattle.server.specs.ServedOrders.{IsWholeMessage};
+ghost use Rattle.server.specs.Servicing.{FailsOnlyAsLost, IsSameClient};
 
 use connections::{Client, CloseReason, ReadProgress, Stream};
 use order_protocol::read_message_head;
@@ -29,7 +29,7 @@ fn receive_length<L: Stream>(client: &mut Client<L>) -> Result<Option<[u8; LENGT
     ensures same { IsSameClient client.old client.new × (client.new.answer ≡ None) }
     ensures front { IfOk result (λ found. IfSome found (λ front. front ≡ take 8 client.new.got.items)) }
     ensures broken { result ≡ Err CloseReason.Broken → HasFailed (L.failed client.new.stream) }
-    ensures lost { IsLostOnly result }
+    ensures lost { FailsOnlyAsLost result }
 {
     match client.receive(LENGTH)? {
         ReadProgress::Enough => Ok(client.got.as_slice().first_chunk().copied()),
@@ -44,9 +44,9 @@ pub fn receive_message<L: Stream>(client: &mut Client<L>) -> Result<bool, CloseR
     requires { client.old.answer ≡ None }
     ensures receives { Receives (stream_of L.held L.taken L.failed) client.old.stream client.new.stream client.old.got.items client.new.got.items }
     ensures same { IsSameClient client.old client.new × (client.new.answer ≡ None) }
-    ensures come { result ≡ Ok true → HasCameWhole client.new.got.items }
+    ensures come { result ≡ Ok true → IsWholeMessage client.new.got.items }
     ensures broken { result ≡ Err CloseReason.Broken → HasFailed (L.failed client.new.stream) }
-    ensures lost { IsLostOnly result }
+    ensures lost { FailsOnlyAsLost result }
 {
     let Some(front) = receive_length(client)? else {
         return Ok(false);

@@ -11,7 +11,7 @@ ghost use Rattle.connections.specs.Clients.{IsSent};
 ghost use Rattle.order_protocol.specs.Messages.{order_message_entry, message_part_entries};
 ghost use Rattle.desk.specs.Pages.{Shows, Tells, outputs_of};
 ghost use Rattle.server.specs.Settings.{settings_in};
-ghost use Rattle.server.specs.ServedOrders.{AsksSo, IsBareName, IsOrderOutcome, FollowsOrder, HasCameWhole, IsCopyTold, IsMessage, IsResponseToOrder, folder_of, shut_page};
+ghost use Rattle.server.specs.ServedOrders.{AsksSo, IsBareName, IsOrderOutcome, FollowsOrder, IsWholeMessage, IsCopyTold, IsMessage, IsResponseToOrder, folder_of, closed_office_page};
 
 use crate::frame_sink::FrameSink;
 use crate::order_arrival::LENGTH;
@@ -74,7 +74,7 @@ impl<A> Copy for OrderContext<'_, A> {}
 fn print_closed<O: Sink, E: Sink>(asked: &ServedOrder<'_>, out: &mut O, err: &mut E) -> u8
     requires out { O.failed out.old < 2 ^ 64 - 1 }
     requires err { E.failed err.old < 2 ^ 64 - 1 }
-    ensures { let outputs = outputs_of O.taken O.failed E.taken E.failed in Shows (outputs out.old err.old) (outputs out.new err.new) (shut_page asked.now) result }
+    ensures { let outputs = outputs_of O.taken O.failed E.taken E.failed in Shows (outputs out.old err.old) (outputs out.new err.new) (closed_office_page asked.now) result }
 {
     match asked {
         ServedOrder::Refused(failure) => tell_failure(*failure, err),
@@ -173,7 +173,7 @@ pub fn do_asked<A: ServedFile, S: Alter, O: Sink, E: Sink>(
         (λ cut page. WhenOpenAt (state S.Store) office.old office.new
         (λ s. IsOrderOutcome (state S.Store office.old.held) office.new.closed (state S.Store office.new.held) (folder_of
         (message_part_entries order.now.attached.files.now)) s order.now.asked.now cut page)
-        × (office.old.closed ≡ true → page ≡ shut_page order.now.asked.now)) }
+        × (office.old.closed ≡ true → page ≡ closed_office_page order.now.asked.now)) }
     ensures closed { office.old.closed ≡ true → office.new ≡ office.old }
     ensures clean { HasCleanDisk (state S.Store office.new.held) → HasCleanDisk (state S.Store office.old.held) }
 {
@@ -300,7 +300,7 @@ pub fn answer_order<L: Stream, A: ServedFile, S: Alter>(
     office: &mut Office<S>,
 ) -> (L, PendingResponse)
     requires fresh { HasTaken (L.taken stream) [] }
-    requires whole { HasCameWhole got.now }
+    requires whole { IsWholeMessage got.now }
     ensures told { IsSent (stream_of L.held L.taken L.failed) result.0 result.1.bytes.items result.1.sent }
     ensures followed { FollowsOrder (settings_in A.whole server_settings.entry) (state S.Store) office.old got.now result.1.bytes.items office.new }
 {

@@ -12,12 +12,12 @@ ghost use Rattle.wire.specs.Responses.{fault_response};
 ghost use Rattle.wire.specs.Serving.{IsPut, IsServed};
 ghost use Rattle.wire.specs.Told.{IsWritten};
 ghost use Rattle.server.specs.Settings.{settings_in};
-ghost use Rattle.server.specs.Servicing.{Services, IsCome, IsLostOnly, IsSameClient, HasSentNothing, answer_of};
+ghost use Rattle.server.specs.Servicing.{Services, IsCompleteFor, FailsOnlyAsLost, IsSameClient, HasSentNothing, answer_of};
 ghost use Rattle.office.specs.Answers.{IsReadAt, WhenOpenAt};
 ghost use Rattle.wire.specs.Requests.{Asks, http_request_entry, reading};
 ghost use Rattle.wire.specs.declared.target.Resource.{Resource};
 ghost use Rattle.codes.specs.RateLimits.{limit_entry};
-ghost use Rattle.server.specs.Reads.{IsRead, TellsNoFault, served_office, memory_entry};
+ghost use Rattle.server.specs.Reads.{IsRead, IsNoFault, served_office, memory_entry};
 ghost use Rattle.server.specs.Endings.{EndsIn};
 ghost use Rattle.server.specs.Exchanges.{ChangesNothing, HasAnswered, IsGoneResponse, IsWaitResponse, RespondsToClient, ServesAsked, ServesClient, Exchange};
 
@@ -25,8 +25,8 @@ use crate::console_order::answer_console;
 use crate::order_arrival::receive_message;
 use crate::order_response::answer_order;
 use crate::served_file::ServedFile;
-use crate::server_memory::ServerMemory;
 use crate::server_settings::ServerSettings;
+use crate::server_state::ServerState;
 use connections::{
     Client, CloseReason, Listener, PendingResponse, ReadProgress, Stream, VecSink, deliver,
 };
@@ -65,9 +65,9 @@ fn receive_body<L: Stream>(
     ensures receives { Receives (stream_of L.held L.taken L.failed) client.old.stream client.new.stream client.old.got.items client.new.got.items }
     ensures same { IsSameClient client.old client.new × (client.new.answer ≡ None) }
     ensures come { (its : HttpSettingsEntry) → ((more : List ℕ) → IsParsed its (client.old.got.items ++ more) parsed) → result ≡ Ok true
-        → IsCome its (L.held client.new.stream) client.new.got.items parsed }
+        → IsCompleteFor its (L.held client.new.stream) client.new.got.items parsed }
     ensures broken { result ≡ Err CloseReason.Broken → HasFailed (L.failed client.new.stream) }
-    ensures lost { IsLostOnly result }
+    ensures lost { FailsOnlyAsLost result }
 {
     match client.receive(wanted)? {
         ReadProgress::Ended => Ok(true),
@@ -91,9 +91,9 @@ fn receive_request<L: Stream>(
     requires { client.old.answer ≡ None }
     ensures receives { Receives (stream_of L.held L.taken L.failed) client.old.stream client.new.stream client.old.got.items client.new.got.items }
     ensures same { IsSameClient client.old client.new × (client.new.answer ≡ None) }
-    ensures come { IfOk result (λ found. IfSome found (λ parsed. IsCome (settings_entry settings.entry) (L.held client.new.stream) client.new.got.items parsed)) }
+    ensures come { IfOk result (λ found. IfSome found (λ parsed. IsCompleteFor (settings_entry settings.entry) (L.held client.new.stream) client.new.got.items parsed)) }
     ensures broken { result ≡ Err CloseReason.Broken → HasFailed (L.failed client.new.stream) }
-    ensures lost { IsLostOnly result }
+    ensures lost { FailsOnlyAsLost result }
 {
     let received = client.receive(MAX_HEAD_BYTES)?;
     let got = client.got.as_slice();
@@ -115,8 +115,8 @@ fn receive_request<L: Stream>(
 }
 
 /// Returns whether a response was written whole, and is no fault.
-fn tells_no_fault(served: Served) -> bool
-    ensures { result ≡ true → TellsNoFault served }
+fn may_be_cached(served: Served) -> bool
+    ensures { result ≡ true → IsNoFault served }
 {
     match served {
         Served::Answered(status) => status != FAULT,
@@ -139,8 +139,8 @@ fn response_to<S: Alter>(
 {
     let mut writer = VecSink::new(alloc);
     let served = respond(alloc, asked, &mut writer, office);
-    let is_told = tells_no_fault(served);
-    (writer.into_bytes(), is_told)
+    let is_cacheable = may_be_cached(served);
+    (writer.into_bytes(), is_cacheable)
 }
 
 /// Returns the response to a read; nothing of it was sent yet. It is the cached one, if there is one; otherwise the office is
@@ -148,7 +148,7 @@ fn response_to<S: Alter>(
 fn answer_reading<S: Alter>(
     what: Resource,
     office: &mut Office<S>,
-    kept: &mut ServerMemory,
+    kept: &mut ServerState,
 ) -> PendingResponse
     ensures served { (its : HttpSettingsEntry) (number moment : ℕ) (got : List ℕ) → Asks its got (reading what) → ServesClient its (state S.Store) (served_office office.old (memory_entry kept.old))
         (record { listener = Listener.Clients; number = number; moment = moment; got = got; answer = result.bytes.items }) (served_office office.new (memory_entry kept.new)) }
@@ -160,8 +160,8 @@ fn answer_reading<S: Alter>(
             return PendingResponse { bytes, sent: 0 };
         }
     }
-    let (bytes, is_told) = response_to(kept.alloc, HttpRequest::Resource(what), office);
-    if !is_told {
+    let (bytes, is_cacheable) = response_to(kept.alloc, HttpRequest::Resource(what), office);
+    if !is_cacheable {
         return PendingResponse { bytes, sent: 0 };
     }
     kept.reads.keep(kept.alloc, what, bytes.as_slice());
@@ -188,7 +188,7 @@ fn answer_request<A: ServedFile, S: Alter>(
     parsed: Parsed,
     got: &[u8],
     office: &mut Office<S>,
-    kept: &mut ServerMemory,
+    kept: &mut ServerState,
 ) -> PendingResponse
     requires { IsParsed (settings_entry server_settings.http) got.now parsed }
     ensures served { (number moment : ℕ) → ServesAsked (settings_in A.whole server_settings.entry) (state S.Store) (served_office office.old (memory_entry kept.old))
@@ -211,8 +211,8 @@ fn answer_request<A: ServedFile, S: Alter>(
             let (bytes, _) = response_to(kept.alloc, HttpRequest::Denied(why), office);
             PendingResponse { bytes, sent: 0 }
         }
-        HttpRequest::Shown(clerk, show) => {
-            let (bytes, _) = response_to(kept.alloc, HttpRequest::Shown(clerk, show), office);
+        HttpRequest::ClerkPage(clerk, show) => {
+            let (bytes, _) = response_to(kept.alloc, HttpRequest::ClerkPage(clerk, show), office);
             PendingResponse { bytes, sent: 0 }
         }
         HttpRequest::ConsolePage(show) => {
@@ -299,7 +299,7 @@ fn answer_client<A: ServedFile, S: Alter>(
     server_settings: ServerSettings<'_, A>,
     due: ReceivedRequest<'_>,
     office: &mut Office<S>,
-    kept: &mut ServerMemory,
+    kept: &mut ServerState,
 ) -> PendingResponse
     requires { IsParsed (settings_entry server_settings.http) due.got.now due.parsed }
     ensures meets { (number : ℕ) → RespondsToClient (settings_in A.whole server_settings.entry) (state S.Store) (served_office office.old (memory_entry kept.old))
@@ -319,7 +319,7 @@ fn answer_client<A: ServedFile, S: Alter>(
         return gone_response(kept.alloc);
     }
     let answer = answer_request(server_settings, parsed, got, office, kept);
-    kept.note(authentication, moment);
+    kept.count_if_wrong(authentication, moment);
     answer
 }
 
@@ -386,7 +386,7 @@ fn service_order<L: Stream, A: ServedFile, S: Alter>(
     now: u64,
     client: Client<L>,
     office: &mut Office<S>,
-    kept: &mut ServerMemory,
+    kept: &mut ServerState,
 ) -> (Client<L>, Serviced)
     requires listener { client.listener ≡ Listener.Orders }
     requires fresh { HasTaken (L.taken client.stream) [] }
@@ -442,7 +442,7 @@ pub fn service<L: Stream, A: ServedFile, S: Alter>(
     now: u64,
     client: Client<L>,
     office: &mut Office<S>,
-    kept: &mut ServerMemory,
+    kept: &mut ServerState,
 ) -> (Client<L>, Serviced)
     requires untold { HasSentNothing (stream_of L.held L.taken L.failed) client }
     ensures is { (start : L) → IsOf (stream_of L.held L.taken L.failed) start client → IsOf (stream_of L.held L.taken L.failed) start result.0 }

@@ -15,13 +15,13 @@ ghost use Rattle.server.specs.ServedConnections.{IsSound};
 ghost use Rattle.server.specs.Reads.{served_office, memory_entry};
 ghost use Rattle.server.specs.Settings.{ServerSettingsEntry, settings_in};
 ghost use Rattle.server.specs.Servicing.{HasSentNothing, LooksAtGate, WasServiced};
-ghost use Rattle.server.specs.Servers.{GoesOn, IsCalled, IsEndedBy, IsRound, IsSettled, IsUnfailed, ServesConnections, ServesOn};
+ghost use Rattle.server.specs.Servers.{GoesOn, IsCalled, IsEndedBy, IsRound, IsSettled, IsUnfailed, ServesConnections, ServesFrom};
 
 use crate::blind::servers_answer_as_seen;
 use crate::serve_error::ServeError;
 use crate::served_file::ServedFile;
-use crate::server_memory::ServerMemory;
 use crate::server_settings::ServerSettings;
+use crate::server_state::ServerState;
 use crate::servicing::{Serviced, service};
 use connections::closing::{
     TIMEOUT, close_all, close_timed_out, evict_if_full, evict_one, keep_within,
@@ -35,7 +35,7 @@ use std::time::Duration;
 use streams::Broken;
 
 /// How long the next wait may be, in milliseconds, while a connection may be pending that no event reports.
-const LOOK: u64 = 1_000;
+const RECHECK_MILLIS: u64 = 1_000;
 
 /// The most connections that are accepted before the open ones are serviced.
 const ACCEPTS_PER_ROUND: usize = 64;
@@ -44,7 +44,7 @@ const ACCEPTS_PER_ROUND: usize = 64;
 const ROUNDS: u64 = u64::MAX;
 
 /// Returns the time of the clock if there is a gate, and so a limit on wrong codes; and otherwise 0.
-fn moment_at_gate<D: Network, A>(
+fn time_if_gated<D: Network, A>(
     network: &mut D,
     server_settings: ServerSettings<'_, A>,
 ) -> Result<u64, Broken>
@@ -63,7 +63,7 @@ fn service_one<D: Network, A: ServedFile, S: Alter>(
     server_settings: ServerSettings<'_, A>,
     client: Client<D::Stream>,
     office: &mut Office<S>,
-    kept: &mut ServerMemory,
+    kept: &mut ServerState,
 ) -> (Client<D::Stream>, Result<Option<CloseReason>, Broken>)
     requires untold { HasSentNothing (stream_of D.Stream.held D.Stream.taken D.Stream.failed) client }
     ensures is { (start : D.Stream) → IsOf (stream_of D.Stream.held D.Stream.taken D.Stream.failed) start client → IsOf (stream_of D.Stream.held D.Stream.taken D.Stream.failed) start result.0 }
@@ -72,7 +72,7 @@ fn service_one<D: Network, A: ServedFile, S: Alter>(
         (state S.Store) result.1
         (D.known network.old) (D.known network.new) client result.0 (served_office office.old (memory_entry kept.old)) (served_office office.new (memory_entry kept.new)) }
 {
-    let Ok(now) = moment_at_gate(network, server_settings) else {
+    let Ok(now) = time_if_gated(network, server_settings) else {
         return (client, Err(Broken));
     };
     let (mut client, serviced) = service(server_settings, now, client, office, kept);
@@ -121,11 +121,11 @@ fn service_ready<D: Network, A: ServedFile, S: Alter>(
     server_settings: ServerSettings<'_, A>,
     table: &mut ConnectionTable<D::Stream>,
     office: &mut Office<S>,
-    kept: &mut ServerMemory,
+    kept: &mut ServerState,
 ) -> Result<(), Broken>
     requires sound { IsSound (settings_in A.whole server_settings) (stream_of D.Stream.held D.Stream.taken D.Stream.failed) table.old }
     requires within { IsWithin table.old }
-    ensures goes_on { ServesOn (settings_in A.whole server_settings.entry) (stream_of D.Stream.held D.Stream.taken D.Stream.failed) (state S.Store) (D.known network.old)
+    ensures goes_on { ServesFrom (settings_in A.whole server_settings.entry) (stream_of D.Stream.held D.Stream.taken D.Stream.failed) (state S.Store) (D.known network.old)
         (D.known network.new) table.old table.new
         (served_office office.old (memory_entry kept.old)) (served_office office.new (memory_entry kept.new)) }
     ensures came { table.new.came ≡ table.old.came }
@@ -174,7 +174,7 @@ fn accept_one<D: Network>(
     }
     let clients_too = table.counted < most;
     if !evict_if_full(network, table, clients_too, now) {
-        return Some(LOOK);
+        return Some(RECHECK_MILLIS);
     }
     match network.accept(table.came, clients_too) {
         AcceptOutcome::One(accepted) => {
@@ -182,12 +182,12 @@ fn accept_one<D: Network>(
             None
         }
         AcceptOutcome::Nobody => Some(TIMEOUT),
-        AcceptOutcome::NotNow => Some(LOOK),
+        AcceptOutcome::NotNow => Some(RECHECK_MILLIS),
         AcceptOutcome::Full => {
             if evict_one(network, table, now) {
                 None
             } else {
-                Some(LOOK)
+                Some(RECHECK_MILLIS)
             }
         }
     }
@@ -283,11 +283,11 @@ fn serve_rounds<D: Network, A: ServedFile, S: Alter>(
     serving: RoundSettings<'_, A>,
     table: &mut ConnectionTable<D::Stream>,
     office: &mut Office<S>,
-    kept: &mut ServerMemory,
+    kept: &mut ServerState,
 ) -> Result<(), ServeError>
     requires sound { IsSound (settings_in A.whole serving.server_settings) (stream_of D.Stream.held D.Stream.taken D.Stream.failed) table.old }
     requires within { IsWithin table.old }
-    ensures goes_on { ServesOn (settings_in A.whole serving.entry.server_settings) (stream_of D.Stream.held D.Stream.taken D.Stream.failed) (state S.Store) (D.known network.old)
+    ensures goes_on { ServesFrom (settings_in A.whole serving.entry.server_settings) (stream_of D.Stream.held D.Stream.taken D.Stream.failed) (state S.Store) (D.known network.old)
         (D.known network.new) table.old table.new
         (served_office office.old (memory_entry kept.old)) (served_office office.new (memory_entry kept.new)) }
     ensures few { table.old.counted ≤ serving.entry.most → table.new.counted ≤ serving.entry.most }
@@ -356,7 +356,7 @@ pub fn serve_connections<D: Network, A: ServedFile, S: Alter>(
     let Ok(mut table) = ConnectionTable::new(alloc) else {
         return Err(ServeError::Memory);
     };
-    let Ok(mut kept) = ServerMemory::new(alloc) else {
+    let Ok(mut kept) = ServerState::new(alloc) else {
         return Err(ServeError::Memory);
     };
     let serving = RoundSettings {

@@ -11,7 +11,7 @@ use Rattle.checker.specs.declared.differences.Checked.{Checked}
 use Rattle.checker.specs.declared.differences.Checked.TheVariants as checked
 use Rattle.checker.specs.BallotsRoundTrip.{AreCheckedAsTold, AreHinderedAsTold, AreReadBack, CanBeReadBack}
 use Rattle.office.specs.Sheets.{IsTextual, bundles_shown, declaration_of, election_shown, lots_shown, sheet_of}
-use Rattle.office.specs.declared.sheets.Text.TheVariants.{Ballots, Declaration, Sheet}
+use Rattle.office.specs.declared.sheets.WardText.TheVariants.{Ballots, Declaration, Sheet}
 use Rattle.sheet_round_trip.specs.OwnTexts.{DeclaredAreFinished, IsConfirmed, IsFinished, IsReadAs, IsTold, IsWardOf}
 use Rattle.sheet_round_trip.proofs.BallotLemmas.{can_be_read_back, own_lots_small, own_numbers}
 use Rattle.sheet_round_trip.proofs.StateLemmas.{counted_right, declared_is_finished, own_yes}

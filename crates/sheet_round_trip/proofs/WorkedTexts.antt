@@ -16,7 +16,7 @@ use Rattle.register.specs.Elections.{election_of}
 use Rattle.register.specs.declared.phase.Phase.TheVariants.{Declared}
 use Rattle.register.specs.WorkedOffice.{batch_in, keyed}
 use Rattle.paper.specs.Preferences.{preferences_from}
-use Rattle.office.specs.declared.sheets.Text.TheVariants.{Ballots, Declaration, Sheet}
+use Rattle.office.specs.declared.sheets.WardText.TheVariants.{Ballots, Declaration, Sheet}
 use Rattle.sheet_round_trip.specs.OwnTexts.{IsFinished, IsTold, IsWardOf}
 
 -- Harbour has two seats and three candidates; number 2 withdrew. Two clerks keyed its two papers identically, the second as doubtful,

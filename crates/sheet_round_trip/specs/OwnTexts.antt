@@ -10,9 +10,9 @@ use Rattle.checker.specs.declared.differences.Checked.{Checked}
 use Rattle.checker.specs.declared.differences.Checked.TheVariants as checked
 use Rattle.checker.specs.declared.problem.Problem.{Problem}
 use Rattle.checker.specs.declared.problem.Problem.TheVariants.{Memory}
-use Rattle.office.specs.Sheets.{bundles_shown, election_shown, lots_shown, text_told}
-use Rattle.office.specs.declared.sheets.Text.{Text}
-use Rattle.office.specs.declared.sheets.Text.TheVariants.{Ballots, Declaration, Sheet}
+use Rattle.office.specs.Sheets.{bundles_shown, election_shown, lots_shown, text_answer}
+use Rattle.office.specs.declared.sheets.WardText.{WardText}
+use Rattle.office.specs.declared.sheets.WardText.TheVariants.{Ballots, Declaration, Sheet}
 
 -- a ward of a state of the office
 pub record IsWardOf (s : OfficeState) (w : WardEntry) : Type 0 where
@@ -20,8 +20,8 @@ pub record IsWardOf (s : OfficeState) (w : WardEntry) : Type 0 where
   pub there : ward_at s w.number ≡ Some w
 
 -- a text that the office prints for a ward
-abbrev pub IsTold : OfficeState → WardEntry → Text → List ℕ → Type 0
-IsTold s w text told = text_told text s w.number ≡ Ok told
+abbrev pub IsTold : OfficeState → WardEntry → WardText → List ℕ → Type 0
+IsTold s w text told = text_answer text s w.number ≡ Ok told
 
 -- the count of an election is finished, or the election is uncontested
 abbrev pub IsFinished : ElectionEntry → Type 0

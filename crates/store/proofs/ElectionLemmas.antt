@@ -20,8 +20,8 @@ use Rattle.register.specs.declared.command.Command.TheVariants.{Count as countin
 use Rattle.register.specs.declared.counts.CountCommand.TheVariants.{Advance}
 use Rattle.register.specs.Nominations.{is_contested}
 use Rattle.register.specs.Tabulated.{has_stages, IsCount, IsCountIn, IsCountFor, IsCountedWard}
-use Rattle.store.specs.Elections.{IsFoundFor, polled_part, counted_part, election_in, IsThere, IsContestAt, IsBook, IsHeld, IsWardCount}
-use Rattle.store.specs.Elections.{IsBegun, IsCounted, IsCountedFor, IsShown, IsCountedIn, IsCountedInFor, IsSheet, IsSheetFor}
+use Rattle.store.specs.Elections.{IsFoundFor, polled_part, counted_part, election_in, WasFound, IsContestAt, IsCountIfBegun, IsCountIfContested, IsWardCount}
+use Rattle.store.specs.Elections.{IsBegun, IsCounted, IsCountedFor, IsCountIfExists, IsCountedIn, IsCountedInFor, IsSheet, IsSheetFor}
 
 -- the part with the poll, for a ward that may not exist
 pub part_polled : (s : OfficeState) (ward : Option WardEntry) → polled_part (option_map (election_of s) ward) ≡ record empty_input { ward = ward; poll = poll_for s ward }
@@ -67,7 +67,7 @@ ward_there s ward w found = subst (λ (n : ℕ). ward_at s n ≡ Some w) (found_
 
 -- whether the election is contested, by the candidates found with the ward
 pub contested_told : (s : OfficeState) (found : CountedWard) (candidates : List Candidate) (told : Bool) → candidates ≡ found.candidates.items
-    → IsThere s found → told ≡ is_contested (ward_entry found.ward) (map candidate_entry candidates)
+    → WasFound s found → told ≡ is_contested (ward_entry found.ward) (map candidate_entry candidates)
     → has_count (election_in s found) ≡ told
 contested_told s found candidates told same there is = ap (is_contested (ward_entry found.ward)) (sym (ap (map candidate_entry) same ∙ there.1)) ∙ sym is
 
@@ -91,11 +91,11 @@ pub begun_stages : (e : ElectionEntry) → has_count e ≡ true → (e.ward.done
 begun_stages e contested some = and_from _ _ contested (ap not (ne_eqb e.ward.done 0 some))
 
 -- a count that was found, for an election that has a stage or is contested
-pub book_found : (e : ElectionEntry) (found : Option Count) → has_stages e ≡ true → IsCount e found → IsBook e found
-book_found e found begun is = subst (IsBook e) (sym is.1) (begun, is.2)
+pub book_found : (e : ElectionEntry) (found : Option Count) → has_stages e ≡ true → IsCount e found → IsCountIfBegun e found
+book_found e found begun is = subst (IsCountIfBegun e) (sym is.1) (begun, is.2)
 
-pub held_found : (e : ElectionEntry) (found : Option Count) → has_count e ≡ true → IsCount e found → IsHeld e found
-held_found e found contested is = subst (IsHeld e) (sym is.1) (contested, is.2)
+pub held_found : (e : ElectionEntry) (found : Option Count) → has_count e ≡ true → IsCount e found → IsCountIfContested e found
+held_found e found contested is = subst (IsCountIfContested e) (sym is.1) (contested, is.2)
 
 -- the sheet with which an election begins
 pub begun_found : (e : ElectionEntry) (from : Election) (found : Option WardSheet) → IsElection from e → has_count e ≡ true → e.ward.done ≡ 0 → IsContest (contest_of e) → IsSome found
@@ -120,24 +120,24 @@ pub bare_counted : (s : OfficeState) (ward : ℕ) (found : CountedWard) → IsCo
     → IsCountedFor (option_map (election_of s) (ward_at s ward)) (Some found)
 bare_counted s ward found is none =
     let e = election_in s found in
-    let held : IsHeld e found.count = subst (IsHeld e) (sym is.2) none in
+    let held : IsCountIfContested e found.count = subst (IsCountIfContested e) (sym is.2) none in
     let counted : IsCounted e (Some found) = (found, refl, record { ward_is = refl; candidates_are = is.1.1; count_is = held }) in
     subst (λ (o : Option WardEntry). IsCountedFor (option_map (election_of s) o) (Some found)) (sym is.0) counted
 
 -- the count found is the one that a command sees
-pub held_shown : (e : ElectionEntry) (found : Option Count) → IsHeld e found → has_count e ≡ true → IsCount e found
+pub held_shown : (e : ElectionEntry) (found : Option Count) → IsCountIfContested e found → has_count e ≡ true → IsCount e found
 held_shown e None none contested = absurd (true≢false (sym contested ∙ none))
 held_shown e (Some count) is contested = (count, refl, is.1)
 
-pub counted_shown : (entry : Option ElectionEntry) (found : Option CountedWard) (there : CountedWard) → found ≡ Some there → IsCountedFor entry found → IsShown entry there.count
+pub counted_shown : (entry : Option ElectionEntry) (found : Option CountedWard) (there : CountedWard) → found ≡ Some there → IsCountedFor entry found → IsCountIfExists entry there.count
 counted_shown None found there is none = tt
 counted_shown (Some e) found there is counted =
     let same : counted.0 ≡ there = let one : Some counted.0 ≡ Some there = sym counted.1 ∙ is in cc in
-    held_shown e there.count (subst (λ (x : CountedWard). IsHeld e x.count) same counted.2.count_is)
+    held_shown e there.count (subst (λ (x : CountedWard). IsCountIfContested e x.count) same counted.2.count_is)
 
 -- it is the count to which a stage is added
-pub shown_for : (s : OfficeState) (ward : ℕ) (shown : Option Count) → IsShown (option_map (election_of s) (ward_at s ward)) shown → IsCountFor s (counting (Advance ward)) shown
-shown_for s ward shown is = λ w at. subst (λ (o : Option WardEntry). IsShown (option_map (election_of s) o) shown) at is
+pub shown_for : (s : OfficeState) (ward : ℕ) (shown : Option Count) → IsCountIfExists (option_map (election_of s) (ward_at s ward)) shown → IsCountFor s (counting (Advance ward)) shown
+shown_for s ward shown is = λ w at. subst (λ (o : Option WardEntry). IsCountIfExists (option_map (election_of s) o) shown) at is
 
 -- ---- wards in count
 
@@ -146,7 +146,7 @@ pub in_count_contested : (e : ElectionEntry) → is_in_count e ≡ true → has_
 in_count_contested e counted = (and_parts (is_counted e.ward.phase) (has_count e) counted).1
 
 -- the count of an election in count
-count_in_count : (e : ElectionEntry) (found : Option Count) → is_in_count e ≡ true → IsHeld e found → IsCountIn e found
+count_in_count : (e : ElectionEntry) (found : Option Count) → is_in_count e ≡ true → IsCountIfContested e found → IsCountIn e found
 count_in_count e None counted none = absurd (true≢false (sym (in_count_contested e counted) ∙ none))
 count_in_count e (Some count) counted is = (counted, is.1)
 
@@ -160,11 +160,11 @@ found_counted e found counted is = (is.0, is.1, ward_in_count e is.0 counted is.
 pub sheet_of : (e : ElectionEntry) (sheet : WardSheet) → is_in_count e ≡ true → IsWardCount e sheet.counted → sheet.rejected ≡ e.ballots.rejected → IsSheet e (Some sheet)
 sheet_of e sheet counted is rejected = (sheet, refl, record { counted_is = ward_in_count e sheet.counted counted is; rejected_are = λ yes. rejected })
 
-pub begun_sheet : (e : ElectionEntry) (found : Option WardSheet) → is_in_count e ≡ true → IsBegun e found → IsSheet e found
-begun_sheet e found counted is = subst (IsSheet e) (sym is.1) (sheet_of e is.0 counted is.2 is.3)
+pub begin_sheet : (e : ElectionEntry) (found : Option WardSheet) → is_in_count e ≡ true → IsBegun e found → IsSheet e found
+begin_sheet e found counted is = subst (IsSheet e) (sym is.1) (sheet_of e is.0 counted is.2 is.3)
 
 -- whether the election is in count, by the candidates found with the ward
-pub in_count_told : (s : OfficeState) (found : CountedWard) (candidates : List Candidate) (told : Bool) → candidates ≡ found.candidates.items → IsThere s found
+pub in_count_told : (s : OfficeState) (found : CountedWard) (candidates : List Candidate) (told : Bool) → candidates ≡ found.candidates.items → WasFound s found
     → told ≡ (is_counted (ward_entry found.ward).phase && is_contested (ward_entry found.ward) (map candidate_entry candidates)) → is_in_count (election_in s found) ≡ told
 in_count_told s found candidates told same there is =
     ap (λ (cs : List CandidateEntry). is_counted (ward_entry found.ward).phase && is_contested (ward_entry found.ward) cs) (sym (ap (map candidate_entry) same ∙ there.1)) ∙ sym is

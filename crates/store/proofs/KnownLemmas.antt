@@ -7,7 +7,7 @@ use Rattle.std.proofs.lemmas.List.{take_more, take_all}
 use Rattle.tables.proofs.ListLemmas.{get_mapped, mapped_length}
 use Rattle.register.specs.Offices.{BatchEntry, OfficeState, batch_entry}
 use Rattle.register.specs.Agreement.{are_taken, differ, keyings_now, is_taken, is_differing, open_in, batches_of}
-use Rattle.store.specs.declared.memory.Known.{Known}
+use Rattle.store.specs.declared.batch_cache.CachedBatch.{CachedBatch}
 use Rattle.store.specs.declared.overviews.batches.BatchOverview.{BatchOverview}
 use Rattle.store.specs.declared.overviews.batches.BatchStanding.{BatchStanding}
 use Rattle.store.specs.declared.overviews.batches.BatchStanding.TheVariants.{Taken, Differing, Waiting}
@@ -20,7 +20,7 @@ use Rattle.store.proofs.TallyLemmas.{one_there, open_there, more_tally}
 -- ---- the batches of a ward
 
 -- what is kept of the batches of a ward, if every batch is known
-pub views_told : (s : OfficeState) (ward : ℕ) (ks : List Known) → KnowsAll s ks → views_in ks ward ≡ views_of s (batches_of s ward)
+pub views_told : (s : OfficeState) (ward : ℕ) (ks : List CachedBatch) → KnowsAll s ks → views_in ks ward ≡ views_of s (batches_of s ward)
 views_told s ward ks all = each ks s.batches all
   where
     first : {x y : KnownView} {xs ys : List KnownView} → x ∷ xs ≡ y ∷ ys → x ≡ y
@@ -29,20 +29,20 @@ views_told s ward ks all = each ks s.batches all
     rest : {x y : KnownView} {xs ys : List KnownView} → x ∷ xs ≡ y ∷ ys → xs ≡ ys
     rest e = cc
 
-    each : (ks : List Known) (bs : List BatchEntry) → map known_view ks ≡ map (known_of s) bs → views_in ks ward ≡ views_of s (filter (λ (b : BatchEntry). b.ward == ward) bs)
+    each : (ks : List CachedBatch) (bs : List BatchEntry) → map known_view ks ≡ map (known_of s) bs → views_in ks ward ≡ views_of s (filter (λ (b : BatchEntry). b.ward == ward) bs)
     each [] [] are = refl
     each [] (b ∷ bs) are = absurd cc
     each (k ∷ ks) [] are = absurd cc
     each (k ∷ ks) (b ∷ bs) are = go (b.ward == ward) (ap (λ (v : KnownView). v.view.batch.ward == ward) (first are)) (ap (λ (v : KnownView). v.view) (first are)) (each ks bs (rest are))
       where
-        own : List Known
-        own = filter (λ (j : Known). j.overview.batch.ward == ward) ks
+        own : List CachedBatch
+        own = filter (λ (j : CachedBatch). j.overview.batch.ward == ward) ks
 
         others : List BatchEntry
         others = filter (λ (c : BatchEntry). c.ward == ward) bs
 
         go : (q : Bool) → (k.overview.batch.ward == ward) ≡ q → batch_view k.overview ≡ batch_view_with s b None → views_in ks ward ≡ views_of s others
-            → map (λ (j : Known). batch_view j.overview) (cond (k.overview.batch.ward == ward) (k ∷ own) own) ≡ views_of s (cond q (b ∷ others) others)
+            → map (λ (j : CachedBatch). batch_view j.overview) (cond (k.overview.batch.ward == ward) (k ∷ own) own) ≡ views_of s (cond q (b ∷ others) others)
         go true is one later = rw is (ap (λ (v : BatchView). v ∷ views_in ks ward) one ∙ ap (λ (vs : List BatchView). batch_view_with s b None ∷ vs) later)
         go false is one later = rw is later
 

@@ -25,7 +25,7 @@ pub mod MigrationLemmas
 pub mod OverviewLemmas
 pub mod PileLemmas
 pub mod MemoryLemmas
-pub mod KeeperLemmas
+pub mod CachedStoreLemmas
 pub mod TwinLemmas
 pub mod KnownLemmas
 pub mod SchemaLemmas

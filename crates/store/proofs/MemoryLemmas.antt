@@ -15,7 +15,7 @@ use Rattle.register.specs.Agreement.{is_keyed, agreed, are_taken, clerks, clerks
 use Rattle.register.specs.Effects.{EffectEntry, ward_added, ward_moved, candidate_added, candidate_withdrawn, batch_added, batch_reopened, third_set, papers_keyed, paper_judged}
 use Rattle.register.specs.Effects.{stage_counted, lot_drawn, with_effect, with_change}
 use Rattle.register.proofs.MapLemmas.{filter_put, filter_put_each, filter_without, found_put_other, same_number, both_equal}
-use Rattle.store.specs.declared.memory.Known.{Known}
+use Rattle.store.specs.declared.batch_cache.CachedBatch.{CachedBatch}
 use Rattle.store.specs.Overviews.{standing_by, clerk_view_of, pile_text}
 use Rattle.store.specs.Memories.{KnownView, checksum, known_of, known_view, row_of, IsKnown, AreKnown, is_about}
 
@@ -123,14 +123,15 @@ elsewhere s (stage_counted ward done) b apart = record { third = refl; keying = 
 elsewhere s (lot_drawn l) b apart = record { third = refl; keying = λ clerk. refl; verdicts = refl; candidates = refl }
 
 -- so what is kept of a batch that an effect doesn't concern is still right after it
-pub known_still : (s : OfficeState) (effect : EffectEntry) (r : ReceiptEntry) (k : Known) → is_about effect (row_of k) ≡ false → IsKnown s k
+pub known_still : (s : OfficeState) (effect : EffectEntry) (r : ReceiptEntry) (k : CachedBatch) → is_about effect (row_of k) ≡ false → IsKnown s k
     → IsKnown (with_change (record { effect = effect; receipt = r }) s) k
 known_still s effect r k apart is = is ∙ sym (known_alike s (with_effect effect s) (row_of k) (elsewhere s effect (row_of k) apart))
 
 -- ---- what is left of a memory
 
 -- after those entries were forgotten that an effect concerns, by some test of them
-pub left_known : (s : OfficeState) (effect : EffectEntry) (r : ReceiptEntry) (test : Known → Bool) → ((k : Known) → test k ≡ false → is_about effect (row_of k) ≡ false) → (ks : List Known)
+pub left_known : (s : OfficeState) (effect : EffectEntry) (r : ReceiptEntry) (test : CachedBatch → Bool)
+    → ((k : CachedBatch) → test k ≡ false → is_about effect (row_of k) ≡ false) → (ks : List CachedBatch)
     → AreKnown s ks
     → AreKnown (with_change (record { effect = effect; receipt = r }) s) (filter (λ k. not (test k)) ks)
 left_known s effect r test apart [] are = tt
@@ -144,7 +145,7 @@ left_known s effect r test apart (k ∷ ks) are = go (test k) refl (left_known s
     go false is later = (known_still s effect r k (apart k is) are.0, later)
 
 -- an effect that concerns no batch leaves all of it
-pub all_left : (s : OfficeState) (effect : EffectEntry) (r : ReceiptEntry) → ((b : BatchEntry) → is_about effect b ≡ false) → (ks : List Known) → AreKnown s ks
+pub all_left : (s : OfficeState) (effect : EffectEntry) (r : ReceiptEntry) → ((b : BatchEntry) → is_about effect b ≡ false) → (ks : List CachedBatch) → AreKnown s ks
     → AreKnown (with_change (record { effect = effect; receipt = r }) s) ks
 all_left s effect r none [] are = tt
 all_left s effect r none (k ∷ ks) are = (known_still s effect r k (none (row_of k)) are.0, all_left s effect r none ks are.1)
@@ -161,7 +162,7 @@ keyed_apart n m (k ∷ papers) all apart =
 -- ---- one of the entries kept
 
 -- what is true of each is true of the one at a place
-pub one_of : (P : Known → Type 0) (known : List Known) (k : ℕ) (c : Known) → AllByRecursion P known → k < length known → c ≡ get_or known k c → P c
+pub one_of : (P : CachedBatch → Type 0) (known : List CachedBatch) (k : ℕ) (c : CachedBatch) → AllByRecursion P known → k < length known → c ≡ get_or known k c → P c
 one_of P known k c all within is = subst P (sym is) (all-get_or P known k c all within)
 
 -- equal rows have equal entries
@@ -193,7 +194,7 @@ same_known x y view pile = ap (λ v. record x { view = v }) view ∙ ap (λ p. r
 -- ---- every batch is known
 
 -- each entry is right
-pub all_right : (s : OfficeState) (ks : List Known) (bs : List BatchEntry) → map known_view ks ≡ map (known_of s) bs → AreKnown s ks
+pub all_right : (s : OfficeState) (ks : List CachedBatch) (bs : List BatchEntry) → map known_view ks ≡ map (known_of s) bs → AreKnown s ks
 all_right s [] bs are = tt
 all_right s (k ∷ ks) [] are = absurd cc
 all_right s (k ∷ ks) (b ∷ bs) are =
@@ -208,7 +209,7 @@ all_right s (k ∷ ks) (b ∷ bs) are =
     rest e = cc
 
 -- and their rows are those of the batches
-pub all_rows : (s : OfficeState) (ks : List Known) (bs : List BatchEntry) → map known_view ks ≡ map (known_of s) bs → map row_of ks ≡ bs
+pub all_rows : (s : OfficeState) (ks : List CachedBatch) (bs : List BatchEntry) → map known_view ks ≡ map (known_of s) bs → map row_of ks ≡ bs
 all_rows s [] [] are = refl
 all_rows s [] (b ∷ bs) are = absurd cc
 all_rows s (k ∷ ks) [] are = absurd cc

@@ -38,7 +38,7 @@ use Rattle.store.specs.declared.migration.Migrated.{Migrated}
 use Rattle.store.specs.declared.migration.Migrated.TheVariants.{Done, Already}
 use Rattle.store.specs.EntryRows.{this_version, office_row}
 use Rattle.store.specs.StateTables.{no_tabulation, tables_of, tables_with, HoldsState, IsAt}
-use Rattle.store.specs.Openings.{HasNoOffice, IsNewer, HoldsNoState, IsToldBy, HasVersion, has_entries, IsTabulatedAs}
+use Rattle.store.specs.Openings.{HasNoOffice, IsNewer, HoldsNoState, IsFaultOf, HasVersion, has_entries, IsTabulatedAs}
 use Rattle.store.specs.Listings.{TellsStrange, ListsFirst}
 use Rattle.store.specs.Migrations.{tables_in, name_of, tabulation_in, older_tables, is_about_third, IsOlderState, HoldsOlder, RestsOlder, HoldsNoOlder, StoresOlder}
 use Rattle.store.specs.Migrations.{LeavesOldOrNew, WasAt, IsToldInMigration, FailsToMigrate, IsBare, IsOlderOf, IsCompletedBy, TellsOlder, LeavesOlderOr}
@@ -331,7 +331,7 @@ older_told form db s held =
     )
 
 -- a fault reported when an office is opened is also reported by a migration, unless it is `OlderSchema`
-pub told_at_once : (db : Database) (f : Fault) → IsToldBy db f → f ≢ OlderSchema → IsToldInMigration db f
+pub told_at_once : (db : Database) (f : Fault) → IsFaultOf db f → f ≢ OlderSchema → IsToldInMigration db f
 told_at_once db Memory told other = tt
 told_at_once db Store told other = tt
 told_at_once db Damaged told other = record {

@@ -21,7 +21,7 @@ use Rattle.register.specs.Tabulated.{IsCountedWard}
 use Rattle.tables.proofs.ListLemmas.{get_mapped, mapped_length, mapped_twice}
 use Rattle.store.specs.Elections.{IsCountedIn, IsCountedInFor}
 use Rattle.store.specs.Overviews.{WardView, candidates_told, declared_in, PaperView, paper_view_of, papers_by, papers_of, judgements_told}
-use Rattle.store.specs.Overviews.{DoubtfulView, DoubtfulPapersView, doubtful_among, doubtful_in, doubtful_papers, has_alike, is_apart, apart_among, papers_apart}
+use Rattle.store.specs.Overviews.{DoubtfulView, DoubtfulPapersView, doubtful_among, doubtful_in, doubtful_papers, has_alike, differs_in, differing_among, differing_papers}
 use Rattle.store.proofs.DoneLemmas.{wards_there}
 
 -- ---- lists
@@ -151,20 +151,21 @@ doubtful_told s ward d columns batches here read there are =
 
 -- a paper, and two keyings, either of which may be missing
 pub apart_two : (k : KeyedEntry) (second third : List KeyedEntry)
-    → is_apart (filter is_keyed (second ∷ third ∷ [])) k ≡ ((is_keyed second && not (has_alike k second)) || (is_keyed third && not (has_alike k third)))
+    → differs_in (filter is_keyed (second ∷ third ∷ [])) k ≡ ((is_keyed second && not (has_alike k second)) || (is_keyed third && not (has_alike k third)))
 apart_two k [] [] = refl
 apart_two k [] (t ∷ ts) = or-false (not (has_alike k (t ∷ ts)))
 apart_two k (s ∷ ss) [] = refl
 apart_two k (s ∷ ss) (t ∷ ts) = ap (λ b. not (has_alike k (s ∷ ss)) || b) (or-false (not (has_alike k (t ∷ ts))))
 
 -- a single keying
-apart_alone : (keying : List KeyedEntry) → apart_among [] keying ≡ []
+apart_alone : (keying : List KeyedEntry) → differing_among [] keying ≡ []
 apart_alone [] = refl
 apart_alone (k ∷ ks) = apart_alone ks
 
 -- three keyings, any of which may be missing
 pub apart_three : (first second third : List KeyedEntry)
-    → papers_apart (of_three first second third) ≡ cond (is_keyed first) (apart_among (filter is_keyed (second ∷ third ∷ [])) first) (apart_among (filter is_keyed (third ∷ [] ∷ [])) second)
+    → differing_papers (of_three first second third)
+    ≡ cond (is_keyed first) (differing_among (filter is_keyed (second ∷ third ∷ [])) first) (differing_among (filter is_keyed (third ∷ [] ∷ [])) second)
 apart_three (k ∷ ks) second third = refl
 apart_three [] (k ∷ ks) [] = refl
 apart_three [] (k ∷ ks) (t ∷ ts) = refl

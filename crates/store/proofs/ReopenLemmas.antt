@@ -25,7 +25,7 @@ use Rattle.tables.specs.Presence.{has_table, IsOurs}
 use Rattle.tables.specs.Reading.{SharesRowids, FailsToList, FailsBy}
 use Rattle.store.specs.EntryRows.{this_version, office_row}
 use Rattle.store.specs.StateTables.{tables_of, HoldsState, IsAt}
-use Rattle.store.specs.Openings.{HasNoOffice, IsNewer, IsOlder, IsLeftAt, IsToldBy}
+use Rattle.store.specs.Openings.{HasNoOffice, IsNewer, IsOlder, IsLeftAt, IsFaultOf}
 use Rattle.tables.proofs.ListingLemmas.{begins_to}
 use Rattle.tables.proofs.HoldLemmas.{own_rowids}
 use Rattle.tables.proofs.ReadLemmas.{rests_at}
@@ -64,10 +64,10 @@ unfolding IsOffice
 holds_office s db held = this_office db (office_there db.schema held.office.begins) (state_version db s held)
 
 -- no fault is reported for it but those that may be reported for any database
-pub left_told : (s : OfficeState) (db : Database) (f : Fault) → IsLeftAt s db → IsToldBy db f → (f ≡ Memory) ⊎ (f ≡ Store)
+pub left_told : (s : OfficeState) (db : Database) (f : Fault) → IsLeftAt s db → IsFaultOf db f → (f ≡ Memory) ⊎ (f ≡ Store)
 left_told s db f left told = go f told
   where
-    go : (f : Fault) → IsToldBy db f → (f ≡ Memory) ⊎ (f ≡ Store)
+    go : (f : Fault) → IsFaultOf db f → (f ≡ Memory) ⊎ (f ≡ Store)
     go Memory told = inl refl
     go Store told = inr refl
     go Damaged told = absurd (told.no_state s (left_holds s db left))
@@ -96,7 +96,7 @@ own_there s db held shared =
     let t = shared.0 in
     own_rowids t (tables_of s t) db.trees (held.office.holds t) (all_rise s held.is t) shared.1 shared.2
 
-pub left_failed : (s : OfficeState) (db : Database) (old new : State) (f : Fault) → IsLeftAt s db → IsToldBy db f → FailsToList db old new f → FailsBy old new f
+pub left_failed : (s : OfficeState) (db : Database) (old new : State) (f : Fault) → IsLeftAt s db → IsFaultOf db f → FailsToList db old new f → FailsBy old new f
 left_failed s db old new f left told fails = elim (left_told s db f left told) [
   | inl memory ↦ inl memory
   | inr store ↦ inr (store, elim (fails store) [ inl failed ↦ failed | inr shared ↦ absurd (own_there s db (left_holds s db left) shared) ])

@@ -26,8 +26,8 @@ use Rattle.tables.specs.Presence.{has_table, has_every_table}
 use Rattle.tables.specs.Reading.{Lists, ListsKeyed, HoldsNone}
 use Rattle.store.specs.EntryRows.{this_version, office_row}
 use Rattle.store.specs.StateTables.{HoldsState, tables_of, tables_with}
-use Rattle.store.specs.Openings.{HasNoOffice, IsNewer, IsOlder, HoldsNoState, IsToldBy, TellsNoState, IsVersion, TellsRow}
-use Rattle.store.specs.Openings.{TellsRows, HasVersion, TellsOffice, has_entries, ListsMaps, IsTabulatedAs, HoldsEntries}
+use Rattle.store.specs.Openings.{HasNoOffice, IsNewer, IsOlder, HoldsNoState, IsFaultOf, TellsNoState, IsVersion, FaultOfRow}
+use Rattle.store.specs.Openings.{FaultOfRows, HasVersion, FaultOfOfficeTable, has_entries, ListsMaps, IsTabulatedAs, HoldsEntries}
 use Rattle.store.specs.Listings.{TellsStrange}
 use Rattle.tables.proofs.ListLemmas.{mapped_length}
 use Rattle.tables.proofs.HoldLemmas.{lists_all, shown_rows, rows_held, held_listed}
@@ -174,7 +174,7 @@ one_row [] r len is = absurd (omega (arith, len))
 one_row (x ∷ []) r len is = ap (λ y. y ∷ []) (sym is)
 one_row (x ∷ y ∷ more) r len is = absurd (omega (arith, len))
 
-pub row_told : (rows : List Row) (r : Row) → rows ≡ r ∷ [] → (f : Fault) → TellsRow r f → TellsRows rows f
+pub row_told : (rows : List Row) (r : Row) → rows ≡ r ∷ [] → (f : Fault) → FaultOfRow r f → FaultOfRows rows f
 row_told rows r is Memory told = tt
 row_told rows r is Store told = told
 row_told rows r is Damaged told = (
@@ -198,7 +198,7 @@ version_listed : (n : ℕ) (db : Database) (rows : List Row) → Lists Office (b
     → IsPermutation (office_row n ∷ []) (map (at (column_places Office)) (tuples Office db.trees)) → rows ≡ office_row n ∷ []
 version_listed n db rows lists same = one_permutation (office_row n) rows (IsPermutation-trans _ _ _ same (lists_all Office db rows lists))
 
-pub office_told : (db : Database) → BeginsTo Office db.schema → IsDatabase db → (rows : List Row) → ListsKeyed Office db rows → (f : Fault) → TellsRows rows f → TellsOffice db f
+pub office_told : (db : Database) → BeginsTo Office db.schema → IsDatabase db → (rows : List Row) → ListsKeyed Office db rows → (f : Fault) → FaultOfRows rows f → FaultOfOfficeTable db f
 office_told db begins sound rows keyed Memory told = tt
 office_told db begins sound rows keyed Store told = tt
 office_told db begins sound rows keyed Damaged told = (
@@ -269,7 +269,7 @@ unfolding IsOffice
 state_version db s holds = subst (λ rows. HoldsTable Office rows db.trees) (office_rows s) (holds.office.holds Office)
 
 -- the faults of an opening, from those of its parts
-pub told_office : (db : Database) → has_table Office db.schema ≡ true → (f : Fault) → TellsOffice db f → IsToldBy db f
+pub told_office : (db : Database) → has_table Office db.schema ≡ true → (f : Fault) → FaultOfOfficeTable db f → IsFaultOf db f
 told_office db there Memory told = tt
 told_office db there Store told = tt
 told_office db there Damaged told = record {
@@ -290,7 +290,7 @@ told_office db there OlderSchema told = (
   told,
 )
 
-pub told_tables : (db : Database) → has_table Office db.schema ≡ true → HasVersion this_version db → (f : Fault) → TellsNoState db f → IsToldBy db f
+pub told_tables : (db : Database) → has_table Office db.schema ≡ true → HasVersion this_version db → (f : Fault) → TellsNoState db f → IsFaultOf db f
 told_tables db there office Memory told = tt
 told_tables db there office Store told = tt
 told_tables db there office Damaged told = let all = this_office db there office in record { some_office = all.0; not_newer = all.1; not_older = all.2; no_state = told }
@@ -299,9 +299,9 @@ told_tables db there office WrongDatabase told = absurd told
 told_tables db there office NewerSchema told = absurd told
 told_tables db there office OlderSchema told = absurd told
 
-pub store_office : (db : Database) (f : Fault) → (f ≡ Memory) ⊎ (f ≡ Store) → TellsOffice db f
-store_office db f (inl same) = subst (TellsOffice db) (sym same) tt
-store_office db f (inr same) = subst (TellsOffice db) (sym same) tt
+pub store_office : (db : Database) (f : Fault) → (f ≡ Memory) ⊎ (f ≡ Store) → FaultOfOfficeTable db f
+store_office db f (inl same) = subst (FaultOfOfficeTable db) (sym same) tt
+store_office db f (inr same) = subst (FaultOfOfficeTable db) (sym same) tt
 
 -- neither a failed allocation nor a failed store is an older office
 pub never_older : {X : Type 0} (f : Fault) → (f ≡ Memory) ⊎ (f ≡ Store) → f ≡ OlderSchema → X

@@ -10,7 +10,7 @@ use Rattle.std.proofs.lemmas.Bool.{cond-true, cond-false, and_parts, eq-eqb}
 use Rattle.std.proofs.lemmas.Slice.Eq.{bytes_eq-Decides}
 use Rattle.register.specs.Offices.{BatchEntry, OfficeState}
 use Rattle.register.specs.Agreement.{is_taken}
-use Rattle.store.specs.declared.memory.Known.{Known}
+use Rattle.store.specs.declared.batch_cache.CachedBatch.{CachedBatch}
 use Rattle.store.specs.Overviews.{BatchView, batch_view_of, is_twin, pile_in, pile_text_of}
 use Rattle.store.specs.Memories.{KnownView, checksum, row_of, IsKnown, same_sum, may_be_twin, batch_view_in}
 use Rattle.store.proofs.LoadsLemmas.{entries_more}
@@ -18,11 +18,11 @@ use Rattle.store.proofs.LoadsLemmas.{entries_more}
 -- ---- two batches
 
 -- the checksum that is kept of a batch is that of its papers, if it is taken
-sum_kept : (s : OfficeState) (k : Known) → IsKnown s k → k.pile ≡ option_map checksum (pile_in s (row_of k))
+sum_kept : (s : OfficeState) (k : CachedBatch) → IsKnown s k → k.pile ≡ option_map checksum (pile_in s (row_of k))
 sum_kept s k is = ap (λ (v : KnownView). v.pile) is
 
 -- a batch has a checksum only if it is taken
-pub untaken : (s : OfficeState) (k : Known) → IsKnown s k → k.pile ≡ None → is_taken s (row_of k) ≡ false
+pub untaken : (s : OfficeState) (k : CachedBatch) → IsKnown s k → k.pile ≡ None → is_taken s (row_of k) ≡ false
 untaken s k is none = go (is_taken s (row_of k)) refl (sym (sum_kept s k is) ∙ none)
   where
     go : (q : Bool) → is_taken s (row_of k) ≡ q → option_map checksum (pile_in s (row_of k)) ≡ None → is_taken s (row_of k) ≡ false
@@ -51,7 +51,7 @@ apart s b c taken differ = go (is_taken s c) refl (bytes_eq (pile_text_of s b) (
         ∙ ap (λ (o : Option (List ℕ)). same_sum (option_map checksum (Some (pile_text_of s b))) (option_map checksum o)) others ∙ equal in
         sym told ∙ differ
 
-module _ (s : OfficeState) (k c : Known) (own : IsKnown s k) (taken : is_taken s (row_of k) ≡ true) (others : IsKnown s c) where
+module _ (s : OfficeState) (k c : CachedBatch) (own : IsKnown s k) (taken : is_taken s (row_of k) ≡ true) (others : IsKnown s c) where
   sums : same_sum k.pile c.pile ≡ same_sum (option_map checksum (pile_in s (row_of k))) (option_map checksum (pile_in s (row_of c)))
   sums = ap (λ (o : Option ℕ). same_sum o c.pile) (sum_kept s k own) ∙ ap (same_sum (option_map checksum (pile_in s (row_of k)))) (sum_kept s c others)
 
@@ -108,10 +108,10 @@ find_here {X} p (y ∷ xs) x ys none is = go (p y) (find_here p xs x ys) none
 
 -- ---- one of the entries kept, at its place
 
-module _ {X : Type 0} (row : Known → X) (known : List Known) (k : ℕ) (c : Known) (within : k < length known) (is : c ≡ get_or known k c) where
+module _ {X : Type 0} (row : CachedBatch → X) (known : List CachedBatch) (k : ℕ) (c : CachedBatch) (within : k < length known) (is : c ≡ get_or known k c) where
   -- the rows so far, and this one
   pub rows_more : take (k + 1) (map row known) ≡ take k (map row known) ++ row c ∷ []
-  rows_more = entries_more row known k c within ∙ ap (λ (x : Known). take k (map row known) ++ row x ∷ []) (sym is)
+  rows_more = entries_more row known k c within ∙ ap (λ (x : CachedBatch). take k (map row known) ++ row x ∷ []) (sym is)
 
   -- and those that follow
   pub rows_split : map row known ≡ take k (map row known) ++ row c ∷ drop (suc k) (map row known)
@@ -141,7 +141,7 @@ views_more s ward bs b before found so_far one =
     last false = refl
 
 -- a batch that has a checksum is taken
-pub has_sum : (s : OfficeState) (k : Known) → IsKnown s k → (n : ℕ) → k.pile ≡ Some n → is_taken s (row_of k) ≡ true
+pub has_sum : (s : OfficeState) (k : CachedBatch) → IsKnown s k → (n : ℕ) → k.pile ≡ Some n → is_taken s (row_of k) ≡ true
 has_sum s k is n some = go (is_taken s (row_of k)) refl
   where
     lost : None ≡ Some n → ⊥

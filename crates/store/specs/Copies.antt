@@ -10,18 +10,18 @@ use Rattle.tables.specs.declared.fault.Fault.TheVariants.{Memory, Store as Store
 use Rattle.tables.specs.Contents.{RestsAt, Stores}
 use Rattle.tables.specs.Presence.{has_some_table, IsOurs}
 use Rattle.tables.specs.Reading.{OnlyReads, FailsBy, FailsToList}
-use Rattle.store.specs.declared.copying.Holdings.{Holdings}
+use Rattle.store.specs.declared.copying.OfficeCounts.{OfficeCounts}
 use Rattle.store.specs.declared.copying.CopyFault.{CopyFault}
 use Rattle.store.specs.declared.copying.CopyFault.TheVariants.{Office, Taken, Copy}
 use Rattle.store.specs.StateTables.{tables_of, HoldsState, StoresState, IsAt, KeepsConnection}
-use Rattle.store.specs.Openings.{IsBlank, IsLeftAt, IsToldBy}
+use Rattle.store.specs.Openings.{IsBlank, IsLeftAt, IsFaultOf}
 
 -- the first paper of a keying: each keying of a batch in a round has one
 abbrev pub is_first_paper : KeyedEntry → Bool
 is_first_paper k = k.paper == 1
 
 -- how many wards, batches, keyings and receipts an office contains
-abbrev pub holdings_of : OfficeState → Holdings
+abbrev pub holdings_of : OfficeState → OfficeCounts
 holdings_of s = record {
   wards = length s.wards;
   batches = length s.batches;
@@ -36,7 +36,7 @@ LeavesNoneOrAll s old new = (trees : Trees) → new.may_leave trees → old.may_
 -- Why there is no copy. Either opening an office reports this fault for this database, with its cause if it is a fault of the store. Or the database contains a
 -- state, and an allocation or the store of the copy failed.
 abbrev pub IsToldInCopying : Database → State → State → CopyFault → Type 0
-IsToldInCopying db old new (Office fault) = IsToldBy db fault × FailsToList db old new fault
+IsToldInCopying db old new (Office fault) = IsFaultOf db fault × FailsToList db old new fault
 IsToldInCopying db old new Taken = ⊥
 IsToldInCopying db old new (Copy fault) = ((fault ≡ Memory) ⊎ (fault ≡ StoreFailed)) × ((s : OfficeState) × HoldsState db s)
 
@@ -54,13 +54,13 @@ IsUnbegun (Copy fault) = ⊥
 
 -- The outcome of copying an office that keeps a state. Either the copy keeps that very state, or a fault is reported, and in the copy a stop leaves what it
 -- could leave before, or the whole copy.
-pub record CopiesAt (s : OfficeState) (blank full : State) (result : Result Holdings CopyFault) : Type 0 where
+pub record CopiesAt (s : OfficeState) (blank full : State) (result : Result OfficeCounts CopyFault) : Type 0 where
   pub same : IfOk result (λ h. (h ≡ holdings_of s) × (HasCleanDisk full → IsBlank blank → IsAt s full))
   pub stops : HasCleanDisk full → IsBlank blank → LeavesNoneOrAll s blank full
 
 -- ---- a copy
 
-module _ {S T : Type 0} (store : Ghosts S) (other : Ghosts T) (conn conn_after : Held S) (copy copy_after : Held T) (result : Result Holdings CopyFault) where
+module _ {S T : Type 0} (store : Ghosts S) (other : Ghosts T) (conn conn_after : Held S) (copy copy_after : Held T) (result : Result OfficeCounts CopyFault) where
   -- the office before and after
   abbrev old : State
   old = state store conn

@@ -59,38 +59,38 @@ abbrev pub election_in : OfficeState → CountedWard → ElectionEntry
 election_in s found = election_of s (ward_entry found.ward)
 
 -- the ward found exists, and its candidates are those found with it
-abbrev pub IsThere : OfficeState → CountedWard → Type 0
-IsThere s found = (ward_at s found.ward.number ≡ Some (ward_entry found.ward)) × (map candidate_entry found.candidates.items ≡ candidates_of s found.ward.number)
+abbrev pub WasFound : OfficeState → CountedWard → Type 0
+WasFound s found = (ward_at s found.ward.number ≡ Some (ward_entry found.ward)) × (map candidate_entry found.candidates.items ≡ candidates_of s found.ward.number)
 
 -- the ward with this number was found with its candidates, if it exists, and nothing of its count
 abbrev pub IsContestAt : OfficeState → ℕ → Option CountedWard → Type 0
 IsContestAt s ward None = ward_at s ward ≡ None
-IsContestAt s ward (Some found) = (ward_at s ward ≡ Some (ward_entry found.ward)) × IsThere s found × (found.count ≡ None)
+IsContestAt s ward (Some found) = (ward_at s ward ≡ Some (ward_entry found.ward)) × WasFound s found × (found.count ≡ None)
 
 -- this was found, and it is what is stored of the count of an election
-abbrev pub IsKept : ElectionEntry → Option StoredCountEntry → Type 0
-IsKept e found = (kept : StoredCountEntry) × (found ≡ Some kept) × IsStoredCountOf (contest_of e) (stages_of e) kept
+abbrev pub IsStoredCount : ElectionEntry → Option StoredCountEntry → Type 0
+IsStoredCount e found = (kept : StoredCountEntry) × (found ≡ Some kept) × IsStoredCountOf (contest_of e) (stages_of e) kept
 
 -- the count of an election if a stage is done, otherwise none
-abbrev pub IsBook : ElectionEntry → Option Count → Type 0
-IsBook e None = has_stages e ≡ false
-IsBook e (Some count) = (has_stages e ≡ true) × IsCountOf e count
+abbrev pub IsCountIfBegun : ElectionEntry → Option Count → Type 0
+IsCountIfBegun e None = has_stages e ≡ false
+IsCountIfBegun e (Some count) = (has_stages e ≡ true) × IsCountOf e count
 
 -- the same for an election that may not exist
-abbrev pub IsBookFor : Option ElectionEntry → Option Count → Type 0
-IsBookFor None found = found ≡ None
-IsBookFor (Some e) found = IsBook e found
+abbrev pub IsCountIfBegunFor : Option ElectionEntry → Option Count → Type 0
+IsCountIfBegunFor None found = found ≡ None
+IsCountIfBegunFor (Some e) found = IsCountIfBegun e found
 
 -- the count of a contested election, otherwise none
-abbrev pub IsHeld : ElectionEntry → Option Count → Type 0
-IsHeld e None = has_count e ≡ false
-IsHeld e (Some count) = (has_count e ≡ true) × IsCountOf e count
+abbrev pub IsCountIfContested : ElectionEntry → Option Count → Type 0
+IsCountIfContested e None = has_count e ≡ false
+IsCountIfContested e (Some count) = (has_count e ≡ true) × IsCountOf e count
 
 -- the ward and the candidates of an election, and its count
 pub record IsWardCount (e : ElectionEntry) (found : CountedWard) : Type 0 where
   pub ward_is : ward_entry found.ward ≡ e.ward
   pub candidates_are : map candidate_entry found.candidates.items ≡ e.candidates
-  pub count_is : IsHeld e found.count
+  pub count_is : IsCountIfContested e found.count
 
 -- a ward was found, with the ward and candidates of an election, and its count
 abbrev pub IsCounted : ElectionEntry → Option CountedWard → Type 0
@@ -106,9 +106,9 @@ IsCountedFor None found = found ≡ None
 IsCountedFor (Some e) found = IsCounted e found
 
 -- the count of an election is shown if the election exists and is contested
-abbrev pub IsShown : Option ElectionEntry → Option Count → Type 0
-IsShown None shown = ⊤
-IsShown (Some e) shown = has_count e ≡ true → IsCount e shown
+abbrev pub IsCountIfExists : Option ElectionEntry → Option Count → Type 0
+IsCountIfExists None shown = ⊤
+IsCountIfExists (Some e) shown = has_count e ≡ true → IsCount e shown
 
 -- ---- the texts
 

@@ -45,14 +45,14 @@ abbrev pub BeginsFirst : ℕ → Schema → Type 0
 BeginsFirst n s = (t : Table) → place_of t < n → BeginsTo t s
 
 -- one of the first `n` tables contains rows that no state has
-abbrev pub HoldsStrange : ℕ → Database → Type 0
-HoldsStrange n db = (t : Table) × (has_entries t ≡ true) × (place_of t < n) × ((s : OfficeState) → IsState s → ¬ HoldsTable t (tables_of s t) db.trees)
+abbrev pub HoldsUnrepresentable : ℕ → Database → Type 0
+HoldsUnrepresentable n db = (t : Table) × (has_entries t ≡ true) × (place_of t < n) × ((s : OfficeState) → IsState s → ¬ HoldsTable t (tables_of s t) db.trees)
 
 -- the fault reported for the rows of the first `n` tables
 abbrev pub TellsStrange : ℕ → Database → Fault → Type 0
 TellsStrange n db Memory = ⊤
 TellsStrange n db Store = ⊤
-TellsStrange n db Damaged = HoldsStrange n db
+TellsStrange n db Damaged = HoldsUnrepresentable n db
 TellsStrange n db Closed = ⊥
 TellsStrange n db WrongDatabase = ⊥
 TellsStrange n db NewerSchema = ⊥

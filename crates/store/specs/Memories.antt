@@ -10,9 +10,9 @@ use Rattle.register.specs.Effects.{stage_counted, lot_drawn}
 use Rattle.store.specs.declared.overviews.batches.BatchStanding.{BatchStanding}
 use Rattle.store.specs.declared.overviews.batches.BatchStanding.TheVariants.{Taken, Differing, Waiting}
 use Rattle.store.specs.declared.status.Tally.{Tally}
-use Rattle.store.specs.declared.memory.Known.{Known}
-use Rattle.store.specs.declared.memory.Concern.{Concern}
-use Rattle.store.specs.declared.memory.Concern.TheVariants.{Nothing, Batch, Ward, All}
+use Rattle.store.specs.declared.batch_cache.CachedBatch.{CachedBatch}
+use Rattle.store.specs.declared.batch_cache.AffectedBatches.{AffectedBatches}
+use Rattle.store.specs.declared.batch_cache.AffectedBatches.TheVariants.{Nothing, Batch, Ward, All}
 use Rattle.store.specs.StateTables.{IsAt}
 use Rattle.store.specs.Overviews.{BatchView, WardView, batch_view, batch_view_of, batch_view_with, pile_in, ward_view, ward_view_of}
 
@@ -36,22 +36,22 @@ pub record KnownView : Type 0 where
 abbrev pub known_of : OfficeState → BatchEntry → KnownView
 known_of s b = record { view = batch_view_with s b None; pile = option_map checksum (pile_in s b) }
 
-abbrev pub known_view : Known → KnownView
+abbrev pub known_view : CachedBatch → KnownView
 known_view k = record { view = batch_view k.overview; pile = k.pile }
 
 -- the row of the batch of which it is kept
-abbrev pub row_of : Known → BatchEntry
+abbrev pub row_of : CachedBatch → BatchEntry
 row_of k = batch_entry k.overview.batch
 
 -- it is right in a state: it is what the state has of a batch with this row
-abbrev pub IsKnown : OfficeState → Known → Type 0
+abbrev pub IsKnown : OfficeState → CachedBatch → Type 0
 IsKnown s k = known_view k ≡ known_of s (row_of k)
 
-abbrev pub AreKnown : OfficeState → List Known → Type 0
+abbrev pub AreKnown : OfficeState → List CachedBatch → Type 0
 AreKnown s ks = AllByRecursion (IsKnown s) ks
 
 -- it is kept of every batch of a state, in the order of their numbers
-abbrev pub KnowsAll : OfficeState → List Known → Type 0
+abbrev pub KnowsAll : OfficeState → List CachedBatch → Type 0
 KnowsAll s ks = map known_view ks ≡ map (known_of s) s.batches
 
 -- both have a checksum, and it is the same
@@ -61,7 +61,7 @@ same_sum (Some a) None = false
 same_sum None b = false
 
 -- by what is kept of them, another batch may be a batch's twin
-abbrev pub may_be_twin : Known → Known → Bool
+abbrev pub may_be_twin : CachedBatch → CachedBatch → Bool
 may_be_twin k c = not (c.overview.batch.number == k.overview.batch.number) && same_sum k.pile c.pile
 
 -- the overview of a batch with its twin, if it is of this ward
@@ -85,7 +85,7 @@ is_about (stage_counted ward done) b = false
 is_about (lot_drawn l) b = false
 
 -- the batches among which are all that an effect concerns
-abbrev pub concerns : Concern → BatchEntry → Bool
+abbrev pub concerns : AffectedBatches → BatchEntry → Bool
 concerns Nothing b = false
 concerns (Batch number) b = b.number == number
 concerns (Ward ward) b = b.ward == ward
@@ -94,17 +94,17 @@ concerns All b = true
 -- ---- a store with such a memory
 
 -- While the connection is open, it keeps some state, in which all that is remembered is right.
-pub record Remembers (st : State) (ks : List Known) : Type 0 where
+pub record Remembers (st : State) (ks : List CachedBatch) : Type 0 where
   pub state : OfficeState
   pub at : IsAt state st
   pub known : AreKnown state ks
 
 -- a read leaves what is remembered right, in any state that the store keeps
-abbrev pub StaysKnown : State → State → List Known → List Known → Type 0
+abbrev pub StaysKnown : State → State → List CachedBatch → List CachedBatch → Type 0
 StaysKnown old new before after = HasCleanDisk new → (s : OfficeState) → IsAt s old → AreKnown s before → AreKnown s after
 
 -- the same for a memory, if there is one
-abbrev pub IsTied : State → Option (Vec Known) → Type 0
+abbrev pub IsTied : State → Option (Vec CachedBatch) → Type 0
 IsTied st memory = IfSome memory (λ known. HasCleanDisk st → IsTrue st.is_open → Remembers st known.items)
 
 -- ---- the batches of a ward
@@ -114,8 +114,8 @@ abbrev pub views_of : OfficeState → List BatchEntry → List BatchView
 views_of s bs = map (λ (b : BatchEntry). batch_view_with s b None) bs
 
 -- those that are kept of the batches of a ward
-abbrev pub views_in : List Known → ℕ → List BatchView
-views_in ks ward = map (λ (k : Known). batch_view k.overview) (filter (λ (k : Known). k.overview.batch.ward == ward) ks)
+abbrev pub views_in : List CachedBatch → ℕ → List BatchView
+views_in ks ward = map (λ (k : CachedBatch). batch_view k.overview) (filter (λ (k : CachedBatch). k.overview.batch.ward == ward) ks)
 
 -- the tally of a batch by its standing, and how many of its doubtful papers have no verdict
 abbrev pub tally_at : BatchStanding → ℕ → Tally

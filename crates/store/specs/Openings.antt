@@ -47,14 +47,14 @@ pub record IsDamaged (db : Database) : Type 0 where
   pub no_state : HoldsNoState db
 
 -- the database is one for which opening an office reports this fault; a failed allocation or a failed store may be reported for any
-abbrev pub IsToldBy : Database → Fault → Type 0
-IsToldBy db Memory = ⊤
-IsToldBy db Store = ⊤
-IsToldBy db Damaged = IsDamaged db
-IsToldBy db Closed = ⊥
-IsToldBy db WrongDatabase = HasNoOffice db
-IsToldBy db NewerSchema = IsNewer db
-IsToldBy db OlderSchema = (¬ HasNoOffice db) × HasVersion 1 db
+abbrev pub IsFaultOf : Database → Fault → Type 0
+IsFaultOf db Memory = ⊤
+IsFaultOf db Store = ⊤
+IsFaultOf db Damaged = IsDamaged db
+IsFaultOf db Closed = ⊥
+IsFaultOf db WrongDatabase = HasNoOffice db
+IsFaultOf db NewerSchema = IsNewer db
+IsFaultOf db OlderSchema = (¬ HasNoOffice db) × HasVersion 1 db
 
 -- a sound database that contains exactly the tables of this state, as a stop leaves it
 pub record IsLeftAt (s : OfficeState) (db : Database) : Type 0 where
@@ -87,34 +87,34 @@ abbrev pub IsVersion : ℕ → Row → Type 0
 IsVersion version row = at (column_places Office) row ≡ office_row version
 
 -- the fault reported for a row of the office table
-abbrev pub TellsRow : Row → Fault → Type 0
-TellsRow row Memory = ⊤
-TellsRow row Store = ⊥
-TellsRow row Damaged = (version : ℕ) → 0 < version → ¬ IsVersion version row
-TellsRow row Closed = ⊥
-TellsRow row WrongDatabase = ⊥
-TellsRow row NewerSchema = (version : ℕ) × (this_version < version) × IsVersion version row
-TellsRow row OlderSchema = IsVersion 1 row
+abbrev pub FaultOfRow : Row → Fault → Type 0
+FaultOfRow row Memory = ⊤
+FaultOfRow row Store = ⊥
+FaultOfRow row Damaged = (version : ℕ) → 0 < version → ¬ IsVersion version row
+FaultOfRow row Closed = ⊥
+FaultOfRow row WrongDatabase = ⊥
+FaultOfRow row NewerSchema = (version : ℕ) × (this_version < version) × IsVersion version row
+FaultOfRow row OlderSchema = IsVersion 1 row
 
 -- the fault reported for the rows of the office table
-abbrev pub TellsRows : List Row → Fault → Type 0
-TellsRows rows Memory = ⊤
-TellsRows rows Store = ⊥
-TellsRows rows Damaged = (rows ≢ []) × ((row : Row) → rows ≡ row ∷ [] → (version : ℕ) → 0 < version → ¬ IsVersion version row)
-TellsRows rows Closed = ⊥
-TellsRows rows WrongDatabase = rows ≡ []
-TellsRows rows NewerSchema = (row : Row) × (rows ≡ row ∷ []) × ((version : ℕ) × (this_version < version) × IsVersion version row)
-TellsRows rows OlderSchema = (row : Row) × (rows ≡ row ∷ []) × IsVersion 1 row
+abbrev pub FaultOfRows : List Row → Fault → Type 0
+FaultOfRows rows Memory = ⊤
+FaultOfRows rows Store = ⊥
+FaultOfRows rows Damaged = (rows ≢ []) × ((row : Row) → rows ≡ row ∷ [] → (version : ℕ) → 0 < version → ¬ IsVersion version row)
+FaultOfRows rows Closed = ⊥
+FaultOfRows rows WrongDatabase = rows ≡ []
+FaultOfRows rows NewerSchema = (row : Row) × (rows ≡ row ∷ []) × ((version : ℕ) × (this_version < version) × IsVersion version row)
+FaultOfRows rows OlderSchema = (row : Row) × (rows ≡ row ∷ []) × IsVersion 1 row
 
 -- the fault reported for the office table
-abbrev pub TellsOffice : Database → Fault → Type 0
-TellsOffice db Memory = ⊤
-TellsOffice db Store = ⊤
-TellsOffice db Damaged = (tuples Office db.trees ≢ []) × ((¬ IsNewer db) × ((¬ IsOlder db) × ¬ HasVersion this_version db))
-TellsOffice db Closed = ⊥
-TellsOffice db WrongDatabase = tuples Office db.trees ≡ []
-TellsOffice db NewerSchema = IsNewer db
-TellsOffice db OlderSchema = HasVersion 1 db
+abbrev pub FaultOfOfficeTable : Database → Fault → Type 0
+FaultOfOfficeTable db Memory = ⊤
+FaultOfOfficeTable db Store = ⊤
+FaultOfOfficeTable db Damaged = (tuples Office db.trees ≢ []) × ((¬ IsNewer db) × ((¬ IsOlder db) × ¬ HasVersion this_version db))
+FaultOfOfficeTable db Closed = ⊥
+FaultOfOfficeTable db WrongDatabase = tuples Office db.trees ≡ []
+FaultOfOfficeTable db NewerSchema = IsNewer db
+FaultOfOfficeTable db OlderSchema = HasVersion 1 db
 
 -- the tables whose rows are the entries of a state and of the tabulation of its counts
 abbrev pub has_entries : Table → Bool

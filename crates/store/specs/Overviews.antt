@@ -192,17 +192,17 @@ abbrev pub has_alike : KeyedEntry → List KeyedEntry → Bool
 has_alike k keying = list_any (λ (j : KeyedEntry). (j.paper == k.paper) && bytes_eq j.marks k.marks) keying
 
 -- some of the other keyings have it with other marks
-abbrev pub is_apart : List (List KeyedEntry) → KeyedEntry → Bool
-is_apart others k = list_any (λ keying. not (has_alike k keying)) others
+abbrev pub differs_in : List (List KeyedEntry) → KeyedEntry → Bool
+differs_in others k = list_any (λ keying. not (has_alike k keying)) others
 
 -- the numbers of such papers of a keying
-abbrev pub apart_among : List (List KeyedEntry) → List KeyedEntry → List ℕ
-apart_among others keying = map (λ (k : KeyedEntry). k.paper) (filter (is_apart others) keying)
+abbrev pub differing_among : List (List KeyedEntry) → List KeyedEntry → List ℕ
+differing_among others keying = map (λ (k : KeyedEntry). k.paper) (filter (differs_in others) keying)
 
 -- the numbers of the papers on which some keyings of a round differ: those that the first keying has with other marks than another one
-abbrev pub papers_apart : List (List KeyedEntry) → List ℕ
-papers_apart [] = []
-papers_apart (keying ∷ others) = apart_among others keying
+abbrev pub differing_papers : List (List KeyedEntry) → List ℕ
+differing_papers [] = []
+differing_papers (keying ∷ others) = differing_among others keying
 
 -- a batch, whether its keyings differ, and on which papers those of its current round do
 pub record DifferencesView : Type 0 where
@@ -211,7 +211,7 @@ pub record DifferencesView : Type 0 where
   pub papers : List ℕ
 
 abbrev pub differences_by : BatchEntry → List (List KeyedEntry) → DifferencesView
-differences_by b keyings = record { batch = b; differs = differ keyings; papers = papers_apart keyings }
+differences_by b keyings = record { batch = b; differs = differ keyings; papers = differing_papers keyings }
 
 abbrev pub differences_of : OfficeState → BatchEntry → DifferencesView
 differences_of s b = differences_by b (keyings_now s b)

@@ -20,7 +20,7 @@ use tables::presence::has_some_table;
 
 /// How much an office contains, so that a copy can be compared with it.
 #[derive(Clone, Copy)]
-pub struct Holdings {
+pub struct OfficeCounts {
     pub wards: usize,
     pub batches: usize,
     /// Keyings of a batch by a clerk in a round, including earlier rounds.
@@ -54,10 +54,10 @@ fn keyings_among(papers: &[KeyedPaper]) -> usize
 }
 
 /// Returns how much the office of these rows contains.
-fn holdings_of(rows: &Rows) -> Holdings
+fn holdings_of(rows: &Rows) -> OfficeCounts
     ensures { result ≡ holdings_of (state_of rows.now) }
 {
-    Holdings {
+    OfficeCounts {
         wards: rows.wards.len(),
         batches: rows.batches.len(),
         keyings: keyings_among(&rows.keyings),
@@ -87,7 +87,7 @@ pub fn copy<S: Alter, T: Alter>(
     alloc: Global,
     conn: &mut Connection<S>,
     copy: &mut Connection<T>,
-) -> Result<Holdings, CopyFault>
+) -> Result<OfficeCounts, CopyFault>
     ensures { CopiesTo S.Store T.Store conn.old conn.new copy.old copy.new result }
 {
     if !conn.is_autocommit() {

@@ -21,13 +21,13 @@
 //! The crate `tables` has the statements on any table; this one defines the rows of a state.
 #![tactic(auto)]
 
+mod batch_cache;
+mod cached_store;
 mod clerk_work;
 pub mod copying;
 pub mod earlier_keyings;
 mod entries;
-mod keeper;
 mod listing;
-mod memory;
 pub mod migration;
 pub mod older;
 mod opening;
@@ -40,9 +40,9 @@ mod views;
 pub mod whole;
 mod writing;
 
-pub use copying::{CopyFault, Holdings, copy};
+pub use cached_store::CachedStore;
+pub use copying::{CopyFault, OfficeCounts, copy};
 pub use earlier_keyings::KeyedRound;
-pub use keeper::Keeper;
 pub use migration::{Migrated, migrate};
 pub use overviews::batches::{BatchOverview, BatchStanding};
 pub use overviews::clerks::ClerkOverview;

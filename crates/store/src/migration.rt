@@ -94,9 +94,9 @@ fn open_or_migrate<S: Alter>(alloc: Global, conn: &mut Connection<S>) -> Result<
     }
 }
 
-/// Older rows determine their state: states with equal older tables of the same form are equal, so a database
-/// represents one of them. What a stop left of an older office is found again.
-fn older_tables_tell_states()
+/// Does nothing; it is a lemma for callers. Older rows determine their state: states with equal older tables of the
+/// same form are equal, so a database represents one of them. What a stop left of an older office is found again.
+fn older_tables_determine_states()
     ensures equal { (form : OlderForm) (s t : OfficeState) → IsOlderState s → IsOlderState t → SameContents (older_tables form s) (older_tables form t) → s ≡ t }
     ensures alone { (db : Database) (form other : OlderForm) (s t : OfficeState) → HoldsOlder form db s → HoldsOlder other db t → (form ≡ other) × (s ≡ t) }
     ensures again { (form : OlderForm) (s : OfficeState) (db : Database) → IsDatabase db → StoresOlder form s db.trees → HoldsOlder form db s }
@@ -115,7 +115,7 @@ fn older_tables_tell_states()
 pub fn migrate<S: Alter>(alloc: Global, conn: &mut Connection<S>) -> Result<Migrated, Fault>
     ensures { Migrates S.Store conn.old conn.new result }
 {
-    older_tables_tell_states();
+    older_tables_determine_states();
     if !conn.is_autocommit() {
         return Err(Fault::Store);
     }

@@ -93,7 +93,12 @@ fn are_about_thirds(receipts: &[Receipt]) -> bool
 }
 
 /// Returns the part of the tabulation that an office of this form lacks, if the part that it has is right.
-fn lacking(alloc: Global, form: OlderForm, rows: &Rows, counted: Tabulation) -> Option<Addition>
+fn missing_tabulation(
+    alloc: Global,
+    form: OlderForm,
+    rows: &Rows,
+    counted: Tabulation,
+) -> Option<Addition>
     requires { IsBare form (state_of rows.now) (tabulated rows.now) }
     ensures some { IfSome result (λ a. IsTabulatedAs (state_of rows.now) (tabulation_entries counted)
         → (tabulated rows.now ≡ tabulation_in form (state_of rows.now)) × IsCompletedBy form (state_of rows.now) (addition_entries a)) }
@@ -128,7 +133,7 @@ fn missing_of(alloc: Global, form: OlderForm, rows: &Rows) -> Result<Option<Addi
         return Ok(None);
     }
     match tabulation_of_state(alloc, rows) {
-        Ok(Some(counted)) => Ok(lacking(alloc, form, rows, counted)),
+        Ok(Some(counted)) => Ok(missing_tabulation(alloc, form, rows, counted)),
         Ok(None) => Ok(None),
         Err(fault) => Err(fault),
     }

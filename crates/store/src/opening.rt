@@ -14,7 +14,7 @@ ghost use Rattle.tables.specs.Presence.{IsOurs};
 ghost use Rattle.tables.specs.Reading.{OnlyReads, FailsToList};
 ghost use Rattle.store.specs.EntryRows.{this_version};
 ghost use Rattle.store.specs.StateTables.{HoldsState};
-ghost use Rattle.store.specs.Openings.{IsToldBy, TellsNoState, IsVersion, TellsRow, TellsRows, HasVersion, TellsOffice, IsTabulatedAs, HoldsEntries};
+ghost use Rattle.store.specs.Openings.{IsFaultOf, TellsNoState, IsVersion, FaultOfRow, FaultOfRows, HasVersion, FaultOfOfficeTable, IsTabulatedAs, HoldsEntries};
 
 use crate::listing::all_rows;
 use crate::writing::VERSION;
@@ -33,7 +33,7 @@ use tables::{Fault, Table};
 /// Checks that the row is that of an office of this program's version.
 fn check_row(row: &Row) -> Result<(), Fault>
     ensures version { OnOk result (IsVersion this_version row.now) }
-    ensures told { IfErr result (TellsRow row.now) }
+    ensures told { IfErr result (FaultOfRow row.now) }
 {
     let one = integer_at(row, 0)?;
     let version = integer_at(row, 1)?;
@@ -55,7 +55,7 @@ fn check_row(row: &Row) -> Result<(), Fault>
 /// Checks that there is one row, that of an office of this program's version.
 fn check_rows(rows: &[Row]) -> Result<(), Fault>
     ensures version { OnOk result ((row : _) × (rows.now ≡ row ∷ []) × IsVersion this_version row) }
-    ensures told { IfErr result (TellsRows rows.now) }
+    ensures told { IfErr result (FaultOfRows rows.now) }
 {
     if rows.is_empty() {
         return Err(Fault::WrongDatabase);
@@ -69,12 +69,12 @@ fn check_rows(rows: &[Row]) -> Result<(), Fault>
 
 /// Checks that the office table has the row of this version; faults are returned in the order in which opening an
 /// office reports them.
-fn check_office<S: Alter>(conn: &mut Connection<S>) -> Result<(), Fault>
+fn check_office<S: Alter>(alloc: Global, conn: &mut Connection<S>) -> Result<(), Fault>
     requires { conn.old.in_transaction ≡ false }
     ensures holds { HasCleanDisk (state S.Store conn.new) → (db : Database) → BeginsTo Table.Office db.schema → IsDatabase db → RestsAt db (state S.Store conn.old)
         → OnOk result (HasVersion this_version db) }
     ensures told { HasCleanDisk (state S.Store conn.new) → (db : Database) → BeginsTo Table.Office db.schema → IsDatabase db → RestsAt db (state S.Store conn.old)
-        → IfErr result (TellsOffice db) }
+        → IfErr result (FaultOfOfficeTable db) }
     ensures fails { HasCleanDisk (state S.Store conn.new) → (db : Database) → BeginsTo Table.Office db.schema → RestsAt db (state S.Store conn.old)
         → IfErr result (FailsToList db (state S.Store conn.old) (state S.Store conn.new)) }
     ensures older { HasCleanDisk (state S.Store conn.new) → (db : Database) → BeginsTo Table.Office db.schema → RestsAt db (state S.Store conn.old)
@@ -83,7 +83,7 @@ fn check_office<S: Alter>(conn: &mut Connection<S>) -> Result<(), Fault>
     ensures reads { OnlyReads (state S.Store conn.old) (state S.Store conn.new) }
     ensures outside { conn.new.in_transaction ≡ false }
 {
-    let rows = keyed_rows(conn, Table::Office)?;
+    let rows = keyed_rows(alloc, conn, Table::Office)?;
     check_rows(&rows)?;
     Ok(())
 }
@@ -163,7 +163,7 @@ pub(crate) fn checked_rows<S: Alter>(alloc: Global, conn: &mut Connection<S>) ->
     ensures holds { HasCleanDisk (state S.Store conn.new) → (db : Database) → IsOurs db.schema → RestsAt db (state S.Store conn.old)
         → IfOk result (λ rows. HoldsState db (state_of rows) × IsTabulationOf (tabulated rows) (state_of rows)) }
     ensures told { HasCleanDisk (state S.Store conn.new) → (db : Database) → IsOurs db.schema → RestsAt db (state S.Store conn.old)
-        → IfErr result (IsToldBy db) }
+        → IfErr result (IsFaultOf db) }
     ensures fails { HasCleanDisk (state S.Store conn.new) → (db : Database) → IsOurs db.schema → RestsAt db (state S.Store conn.old)
         → IfErr result (FailsToList db (state S.Store conn.old) (state S.Store conn.new)) }
     ensures older { HasCleanDisk (state S.Store conn.new) → (db : Database) → IsOurs db.schema → RestsAt db (state S.Store conn.old)
@@ -176,7 +176,7 @@ pub(crate) fn checked_rows<S: Alter>(alloc: Global, conn: &mut Connection<S>) ->
     if !has_table(conn, Table::Office) {
         return Err(Fault::WrongDatabase);
     }
-    check_office(conn)?;
+    check_office(alloc, conn)?;
     if !has_every_table(conn) {
         return Err(Fault::Damaged);
     }
@@ -194,7 +194,7 @@ pub fn check<S: Alter>(alloc: Global, conn: &mut Connection<S>) -> Result<(), Fa
     ensures holds { HasCleanDisk (state S.Store conn.new) → (db : Database) → IsOurs db.schema → RestsAt db (state S.Store conn.old)
         → OnOk result ((s : OfficeState) × HoldsState db s) }
     ensures told { HasCleanDisk (state S.Store conn.new) → (db : Database) → IsOurs db.schema → RestsAt db (state S.Store conn.old)
-        → IfErr result (IsToldBy db) }
+        → IfErr result (IsFaultOf db) }
     ensures fails { HasCleanDisk (state S.Store conn.new) → (db : Database) → IsOurs db.schema → RestsAt db (state S.Store conn.old)
         → IfErr result (FailsToList db (state S.Store conn.old) (state S.Store conn.new)) }
     ensures older { HasCleanDisk (state S.Store conn.new) → (db : Database) → IsOurs db.schema → RestsAt db (state S.Store conn.old)

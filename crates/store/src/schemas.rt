@@ -23,12 +23,12 @@ use tables::Fault;
 
 /// A part of a schema, which can be compared with another.
 trait Alike {
-    /// Returns whether this is the same as `other`; only if it is.
+    /// Returns true only if this is the same as `other`; false doesn't mean that they differ.
     fn is_same(&self, other: &Self) -> bool
         ensures { result ≡ true → self.now ≡ other.now };
 }
 
-/// Returns whether two lists are the same; only if they are.
+/// Returns true only if two lists are the same.
 fn all_same<T: Alike>(one: &[T], other: &[T]) -> bool
     ensures { result ≡ true → one.now ≡ other.now }
 {
@@ -143,7 +143,7 @@ impl Alike for Stamps {
     }
 }
 
-/// Returns whether two tables have the same name, tree and key; only if they have.
+/// Returns true only if two tables have the same name, tree and key.
 fn same_names(one: &Table, other: &Table) -> bool
     ensures { result ≡ true → (one.now.name ≡ other.now.name) × (one.now.tree ≡ other.now.tree) × (one.now.key ≡ other.now.key) × (one.now.is_counted ≡ other.now.is_counted) }
 {
@@ -153,7 +153,7 @@ fn same_names(one: &Table, other: &Table) -> bool
         && one.is_counted == other.is_counted
 }
 
-/// Returns whether two tables have the same columns, and the same of them are unique; only if they have.
+/// Returns true only if two tables have the same columns, and the same of them are unique.
 fn same_columns(one: &Table, other: &Table) -> bool
     ensures { result ≡ true → (one.now.columns ≡ other.now.columns) × (one.now.primary ≡ other.now.primary) × (one.now.uniques ≡ other.now.uniques) × (one.now.orders ≡ other.now.orders) }
 {
@@ -163,7 +163,7 @@ fn same_columns(one: &Table, other: &Table) -> bool
         && one.orders.is_same(&other.orders)
 }
 
-/// Returns whether two tables that refer to no other have the same rules; only if they have.
+/// Returns true only if two tables that refer to no other have the same rules.
 fn same_rules(one: &Table, other: &Table) -> bool
     ensures { result ≡ true → (one.now.checks ≡ other.now.checks) × (one.now.references ≡ other.now.references) × (one.now.computed ≡ other.now.computed) × (one.now.stamps ≡ other.now.stamps) }
 {
@@ -225,8 +225,7 @@ fn new_office(alloc: Global) -> Result<Connection<MemStore>, Fault>
     }
 }
 
-/// Returns whether a database has the tables of an office and no others; only if it does. It is false if an allocation
-/// fails.
+/// Returns true only if a database has the tables of an office and no others; false if an allocation fails.
 fn has_office_schema<S: Alter>(alloc: Global, conn: &Connection<S>) -> bool
     ensures { result ≡ true → IsOfficeSchema (state S.Store conn.now).now.schema }
 {
@@ -248,8 +247,8 @@ pub(crate) fn may_be_remembered<S: Alter>(alloc: Global, conn: &Connection<S>) -
 }
 
 impl<S: Alter> Store<S> {
-    /// Says, for proofs, that a store whose connection is open rests at its database.
-    pub(crate) fn is_settled(&self)
+    /// Does nothing; it is a lemma for callers. A store whose connection is open rests at its database.
+    pub(crate) fn open_store_rests(&self)
         ensures { IsTrue (state S.Store self.now).is_open → RestsAt (state S.Store self.now).now (state S.Store self.now) }
     {
         let _ = self.conn.is_autocommit();

@@ -14,10 +14,10 @@ ghost use Rattle.tables.specs.Presence.{has_some_table, has_every_table, IsOurs}
 ghost use Rattle.tables.specs.Reading.{OnlyReads, FailsToList, FailsBy};
 ghost use Rattle.store.specs.Copies.{CopiesTo};
 ghost use Rattle.store.specs.StateTables.{tables_of, ChangesTo, HoldsState, IsAt, LeavesState, KeepsConnection};
-ghost use Rattle.store.specs.Openings.{IsBlank, IsToldBy, IsLeftAt};
+ghost use Rattle.store.specs.Openings.{IsBlank, IsFaultOf, IsLeftAt};
 ghost use Rattle.store.specs.Whole.{ReadsOffice};
 
-use crate::copying::{CopyFault, Holdings, copy as copy_between};
+use crate::copying::{CopyFault, OfficeCounts, copy as copy_between};
 use crate::opening::check;
 use crate::whole::read_office;
 use crate::writing::{write_change, write_new_office};
@@ -91,8 +91,9 @@ fn commit_new_office<S: Alter>(conn: &mut Connection<S>) -> Result<(), Fault>
     Ok(())
 }
 
-/// Rows determine their state: states with equal tables are equal, so a database represents one state.
-fn tables_tell_states()
+/// Does nothing; it is a lemma for callers. Rows determine their state: states with equal tables are equal, so a
+/// database represents one state.
+fn tables_determine_states()
     ensures equal { (s t : OfficeState) → IsState s → IsState t → SameContents (tables_of s) (tables_of t) → s ≡ t }
     ensures alone { (db : Database) → (s t : OfficeState) → HoldsState db s → HoldsState db t → s ≡ t }
 {}
@@ -135,7 +136,7 @@ impl<S: Alter> Store<S> {
     pub fn open_from(alloc: Global, mut conn: Connection<S>) -> Result<Self, (Fault, Connection<S>)>
         ensures opened { IfOk result (λ store. HasCleanDisk (state S.Store store) → (db : Database) → IsOurs db.schema → RestsAt db (state S.Store conn)
             → (s : OfficeState) × HoldsState db s × IsAt s (state S.Store store)) }
-        ensures told { IfErr result (λ e. HasCleanDisk (state S.Store e.1) → (db : Database) → IsOurs db.schema → RestsAt db (state S.Store conn) → IsToldBy db e.0) }
+        ensures told { IfErr result (λ e. HasCleanDisk (state S.Store e.1) → (db : Database) → IsOurs db.schema → RestsAt db (state S.Store conn) → IsFaultOf db e.0) }
         ensures reopens { IfOk result (λ store. HasCleanDisk (state S.Store store) → (db : Database) → RestsAt db (state S.Store conn)
             → (s : OfficeState) → IsLeftAt s db → IsAt s (state S.Store store)) }
         ensures refuses { IfErr result (λ e. HasCleanDisk (state S.Store e.1) → (db : Database) → RestsAt db (state S.Store conn)
@@ -150,7 +151,7 @@ impl<S: Alter> Store<S> {
         ensures alone { (db : Database) → (s t : OfficeState) → HoldsState db s → HoldsState db t → s ≡ t }
         ensures equal { (s t : OfficeState) → IsState s → IsState t → SameContents (tables_of s) (tables_of t) → s ≡ t }
     {
-        tables_tell_states();
+        tables_determine_states();
         if !conn.is_autocommit() {
             return Err((Fault::Store, conn));
         }
@@ -178,7 +179,7 @@ impl<S: Alter> Store<S> {
 
     /// Copies the office into another database, which must be empty, in one transaction, and returns how much the copy
     /// contains. The office itself is only read.
-    pub fn copy_to<T: Alter>(&mut self, copy: &mut Connection<T>) -> Result<Holdings, CopyFault>
+    pub fn copy_to<T: Alter>(&mut self, copy: &mut Connection<T>) -> Result<OfficeCounts, CopyFault>
         ensures { CopiesTo S.Store T.Store self.old self.new copy.old copy.new result }
     {
         copy_between(self.alloc, &mut self.conn, copy)

@@ -4,7 +4,7 @@ use super::begun::{BAD_REQUEST, BEGUN};
 use super::clients::{Evening, TestClient};
 use super::disks::Disks;
 use super::steps::{Case, Step};
-use super::test_host::{TestHost, hear, hear_one_unchanged, play_acts};
+use super::test_host::{TestHost, expect, hear_one_unchanged, run_parts};
 use std::alloc::{AllocError, Global};
 use std::process::Abort;
 use std::test::Fail;
@@ -138,7 +138,7 @@ fn hear_one<M: TestHost + Drop>(
     host: M,
     case: Case<'_>,
 ) -> Result<M, Fail> {
-    hear(rt, host, &[case])
+    expect(rt, host, &[case])
 }
 
 /// Orders of the office are followed in turn.
@@ -168,7 +168,7 @@ fn are_not_followed<M: TestHost + Drop>(
 }
 
 fn are_sent<M: TestHost + Drop>(rt: &(impl Abort + AllocGlobal)) -> Result<(), Fail> {
-    let host: M = play_acts(rt, BEGUN)?;
+    let host: M = run_parts(rt, BEGUN)?;
     let host = are_not_followed(rt, host)?;
     are_followed(rt, host)?;
     Ok(())

@@ -4,7 +4,7 @@ use super::begun::{DIFFERING, FOUR_COMES_LATE, GIVEN_OUT, NOMINATED, PAPER_BY_PA
 use super::clients::{Evening, TestClient};
 use super::disks::Disks;
 use super::steps::{Case, Step};
-use super::test_host::{Act, TestHost, do_act, hear_one_unchanged, play_acts};
+use super::test_host::{Act, TestHost, do_act, hear_one_unchanged, run_parts};
 use std::alloc::{AllocError, Global};
 use std::process::Abort;
 use std::test::Fail;
@@ -233,7 +233,7 @@ fn console_reads<M: TestHost + Drop>(rt: &(impl Abort + AllocGlobal)) -> Result<
         Act::Typed(GIVEN_OUT),
         Act::Typed(DIFFERING),
     ];
-    let host: M = play_acts(rt, &begun)?;
+    let host: M = run_parts(rt, &begun)?;
     let mut host = read_all(rt, host, &WHILE_IT_DIFFERS)?;
     for then in [SET, PAPER_BY_PAPER, FOUR_COMES_LATE] {
         host = do_act(rt, host, &Act::Typed(then))?;

@@ -3,7 +3,7 @@
 use super::begun::{DIFFERING, GIVEN_OUT, NOMINATED};
 use super::disks::Disks;
 use super::steps::{Case, Step};
-use super::test_host::{Act, File, TestHost, are_same, hear_unchanged, lasting, play_acts, rows};
+use super::test_host::{Act, File, TestHost, are_same, expect_unchanged, lasting, rows, run_parts};
 use std::process::Abort;
 use std::test::Fail;
 
@@ -45,7 +45,7 @@ fn copy_once<M: TestHost + Drop>(
     };
     let (found, copy) = rows(rt.alloc(), copy.restarted())?;
     if found.as_str().is_empty() {
-        hear_unchanged(rt, copy, &[NOTHING])?;
+        expect_unchanged(rt, copy, &[NOTHING])?;
     }
     let is_none = !is_told && found.as_str().is_empty();
     assert!(rt;
@@ -57,7 +57,7 @@ fn copy_once<M: TestHost + Drop>(
 
 /// Stops a copy at each call of one of its files in turn, until a run has no stop. The office is unchanged.
 fn copy_each<M: TestHost + Drop>(rt: &(impl Abort + AllocGlobal), file: File) -> Result<(), Fail> {
-    let (whole, mut office): (String, M) = rows(rt.alloc(), play_acts(rt, &OFFICE)?)?;
+    let (whole, mut office): (String, M) = rows(rt.alloc(), run_parts(rt, &OFFICE)?)?;
     let blank: M = lasting(rt.alloc());
     for calls in 0..CALLS {
         let onto = blank.copied(rt.alloc(), file, calls)?;

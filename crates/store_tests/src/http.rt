@@ -5,7 +5,7 @@ use super::begun::{BAD_REQUEST, BEGUN, KEYED, KEYING};
 use super::clients::{Evening, TestClient, TestClients};
 use super::disks::Disks;
 use super::steps::Step;
-use super::test_host::{TestHost, hear, hear_unchanged, play_acts};
+use super::test_host::{TestHost, expect, expect_unchanged, run_parts};
 use office::texts_are_there;
 use register::elections::elections_are_fair;
 use std::alloc::{AllocError, Global};
@@ -66,7 +66,7 @@ fn serve<M: TestHost + Drop>(
 ) -> Result<M, Fail> {
     let out = taken(rt.alloc(), case.texts)?;
     let told = (0, out.as_str(), case.end);
-    hear(rt, host, &[(Step::Serve(case.evening), told)])
+    expect(rt, host, &[(Step::Serve(case.evening), told)])
 }
 
 /// All clients of an evening connect and are closed.
@@ -141,7 +141,7 @@ fn break_at_each_byte<M: TestHost + Drop>(
         fronts.push(KEYED.get(..takes).unwrap_or(""))?;
     }
     let unheard = Step::Serve(Evening::of(&unheard));
-    let host = hear_unchanged(rt, host, &[(unheard, (0, nothing.as_str(), "Ok(())"))])?;
+    let host = expect_unchanged(rt, host, &[(unheard, (0, nothing.as_str(), "Ok(())"))])?;
     serve_all(rt, host, Evening::of(&untold), &fronts)
 }
 
@@ -315,7 +315,7 @@ fn clients_with_codes<'a>(alloc: Global) -> Result<Vec<Option<TestClient<'a>>>, 
 }
 
 /// The responses to them.
-fn told_at_the_gate(alloc: Global) -> Result<Vec<&'static str>, AllocError> {
+fn responses_at_gate(alloc: Global) -> Result<Vec<&'static str>, AllocError> {
     let mut texts = Vec::new(alloc);
     for (_, told) in &AT_THE_GATE {
         texts.push(*told)?;
@@ -329,7 +329,7 @@ fn come_with_codes<M: TestHost + Drop>(
     host: M,
 ) -> Result<M, Fail> {
     let clients = clients_with_codes(rt.alloc())?;
-    let texts = told_at_the_gate(rt.alloc())?;
+    let texts = responses_at_gate(rt.alloc())?;
     let evening = Evening {
         codes: Some(CODES),
         ..Evening::of(&clients)
@@ -364,7 +364,7 @@ fn hold_too_much<M: TestHost + Drop>(rt: &(impl Abort + AllocGlobal), host: M) -
 
 /// Requests for work that no client can send.
 fn works<M: TestHost + Drop>(rt: &(impl Abort + AllocGlobal), host: M) -> Result<M, Fail> {
-    hear(
+    expect(
         rt,
         host,
         &[
@@ -376,14 +376,14 @@ fn works<M: TestHost + Drop>(rt: &(impl Abort + AllocGlobal), host: M) -> Result
 }
 
 fn come_at_once<M: TestHost + Drop>(rt: &(impl Abort + AllocGlobal)) -> Result<(), Fail> {
-    let host: M = play_acts(rt, BEGUN)?;
+    let host: M = run_parts(rt, BEGUN)?;
     let host = are_let_go(rt, host)?;
     let host = are_not_let_in(rt, host)?;
     let host = are_too_many(rt, host)?;
     let host = hold_too_much(rt, host)?;
     let host = come_with_codes(rt, host)?;
     have_their_turns(rt, host)?;
-    let host: M = play_acts(rt, BEGUN)?;
+    let host: M = run_parts(rt, BEGUN)?;
     let host = break_at_each_byte(rt, host)?;
     works(rt, host)?;
     Ok(())

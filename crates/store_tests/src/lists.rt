@@ -2,7 +2,7 @@
 
 use super::disks::Disks;
 use super::steps::Step;
-use super::test_host::{TestHost, hear, lasting};
+use super::test_host::{TestHost, expect, lasting};
 use register::{Command, Request, WardCommand};
 use std::alloc::{AllocError, Global};
 use std::process::Abort;
@@ -52,7 +52,7 @@ fn is_answered_in_turn<M: TestHost + Drop>(rt: &(impl Abort + AllocGlobal)) -> R
         (Step::Order(&["DB", "status", "7"]), (0, STATUS, "")),
     ];
     let host: M = lasting(alloc);
-    hear(rt, host, &cases)?;
+    expect(rt, host, &cases)?;
     Ok(())
 }
 

@@ -5,7 +5,7 @@ use super::begun::{
 };
 use super::disks::Disks;
 use super::steps::{Step, StepPrinted};
-use super::test_host::{Act, TestHost, do_act, follow, hear, play_acts};
+use super::test_host::{Act, TestHost, do_act, expect, follow, run_parts};
 use sqlite::{Alter, Connection};
 use std::alloc::Global;
 use std::fmt::Write;
@@ -68,7 +68,7 @@ pub fn loads<S: Alter + Drop>(
     };
     let text = told(alloc, &mut store, ward);
     let conn = store.into_connection();
-    Ok((StepPrinted::quietly(alloc, text?), conn))
+    Ok((StepPrinted::printed_only(alloc, text?), conn))
 }
 
 /// The worked ward before its first stage, and after its second.
@@ -138,9 +138,9 @@ fn read_twice<M: TestHost + Drop>(
     told: &str,
 ) -> Result<(), Fail> {
     let read = [(Step::Loads(7), (0, told, ""))];
-    let host = hear(rt, host, &read)?;
+    let host = expect(rt, host, &read)?;
     let host = follow(rt, host, seal)?;
-    hear(rt, host, &read)?;
+    expect(rt, host, &read)?;
     Ok(())
 }
 
@@ -150,7 +150,7 @@ fn thousand_papers<M: TestHost + Drop>(rt: &(impl Abort + AllocGlobal)) -> Resul
     for paper in 1..=500 {
         writeln!(rows, "< {paper},1,2,")?;
     }
-    let mut host: M = play_acts(rt, &[Act::Typed(NOMINATED), Act::Typed(TWO_BATCHES)])?;
+    let mut host: M = run_parts(rt, &[Act::Typed(NOMINATED), Act::Typed(TWO_BATCHES)])?;
     for (clerk, batch) in [(4, 12), (9, 12), (4, 13), (9, 13)] {
         let keyed = format!(in rt.alloc();
             "$ import-keying {clerk} {batch} 1 FILE --id k{batch}\n{rows}batch {batch} round 1 keyed\n"
@@ -162,16 +162,16 @@ fn thousand_papers<M: TestHost + Drop>(rt: &(impl Abort + AllocGlobal)) -> Resul
 
 /// Compares what is read of the worked ward before its first stage, and after its second.
 fn read_in_count<M: TestHost + Drop>(rt: &(impl Abort + AllocGlobal)) -> Result<(), Fail> {
-    let host: M = play_acts(rt, SEALED)?;
-    let host = hear(rt, host, &[(Step::Loads(7), (0, SEALED_LOADS, ""))])?;
+    let host: M = run_parts(rt, SEALED)?;
+    let host = expect(rt, host, &[(Step::Loads(7), (0, SEALED_LOADS, ""))])?;
     let host = do_act(rt, host, &TWO_STAGES)?;
-    hear(rt, host, &[(Step::Loads(7), (0, STAGED_LOADS, ""))])?;
+    expect(rt, host, &[(Step::Loads(7), (0, STAGED_LOADS, ""))])?;
     Ok(())
 }
 
 fn are_read_back<M: TestHost + Drop>(rt: &(impl Abort + AllocGlobal)) -> Result<(), Fail> {
     read_in_count::<M>(rt)?;
-    let late: M = play_acts(rt, LATE)?;
+    let late: M = run_parts(rt, LATE)?;
     read_twice(
         rt,
         late,

@@ -5,7 +5,7 @@ use super::begun::{BEGUN, KEYED, KEYING};
 use super::clients::{Evening, TestClient};
 use super::disks::Disks;
 use super::steps::{SERVER_SETTINGS, Step, StepPrinted};
-use super::test_host::{TestHost, hear, play_acts, rows};
+use super::test_host::{TestHost, expect, rows, run_parts};
 use rand_core::utils::NextWord;
 use rand_pcg::Pcg32;
 use std::alloc::{AllocError, Global};
@@ -31,10 +31,10 @@ const NINE: &str =
 
 /// Both clerks key the batch, so that it accepts no other keying.
 fn keyed_by_both<M: TestHost + Drop>(rt: &(impl Abort + AllocGlobal)) -> Result<M, Fail> {
-    let mut host: M = play_acts(rt, BEGUN)?;
+    let mut host: M = run_parts(rt, BEGUN)?;
     for keying in [KEYING, NINE] {
         let client = [Some(TestClient::whole(keying.as_bytes()))];
-        host = hear(
+        host = expect(
             rt,
             host,
             &[(Step::Serve(Evening::of(&client)), (0, KEYED, "Ok(())"))],

@@ -5,7 +5,7 @@ use super::begun::{BEGUN, KEYED, KEYING};
 use super::clients::{Evening, TestClient};
 use super::disks::Disks;
 use super::steps::{Case, SERVER_SETTINGS, Step};
-use super::test_host::{TestHost, hear, hear_unchanged, play_acts};
+use super::test_host::{TestHost, expect, expect_unchanged, run_parts};
 use desk::version::VERSION;
 use std::alloc::Global;
 use std::process::Abort;
@@ -138,7 +138,7 @@ fn are_told<'a, M: TestHost + Drop>(
     orders: &'a [Option<TestClient<'a>>],
     told: &'a str,
 ) -> Result<M, Fail> {
-    hear(rt, host, &[told_of(orders, told)])
+    expect(rt, host, &[told_of(orders, told)])
 }
 
 /// The same, and they change nothing.
@@ -148,7 +148,7 @@ fn are_told_unchanged<'a, M: TestHost + Drop>(
     orders: &'a [Option<TestClient<'a>>],
     told: &'a str,
 ) -> Result<M, Fail> {
-    hear_unchanged(rt, host, &[told_of(orders, told)])
+    expect_unchanged(rt, host, &[told_of(orders, told)])
 }
 
 /// Orders that are refused, each with its status and the reason: from another program, for another file, not possible while the
@@ -252,7 +252,7 @@ fn with_one_client<'a, M: TestHost + Drop>(
         ..Evening::of(clients)
     };
     let step = Step::Serve(evening);
-    hear(rt, host, &[(step, (0, told, "Ok(())"))])
+    expect(rt, host, &[(step, (0, told, "Ok(())"))])
 }
 
 /// Orders are processed in turn with clients: one before a keying and one after it print the ward's status. They arrive a few bytes
@@ -322,13 +322,13 @@ fn break_at_each_byte<M: TestHost + Drop>(
 }
 
 fn are_handed_over<M: TestHost + Drop>(rt: &(impl Abort + AllocGlobal)) -> Result<(), Fail> {
-    let host: M = play_acts(rt, BEGUN)?;
+    let host: M = run_parts(rt, BEGUN)?;
     let host = are_refused(rt, host)?;
     let host = are_none(rt, host)?;
     come_among_clients(rt, host)?;
-    let host: M = play_acts(rt, BEGUN)?;
+    let host: M = run_parts(rt, BEGUN)?;
     follow_scripts(rt, host)?;
-    let host: M = play_acts(rt, BEGUN)?;
+    let host: M = run_parts(rt, BEGUN)?;
     break_at_each_byte(rt, host)?;
     Ok(())
 }

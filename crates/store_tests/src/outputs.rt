@@ -3,7 +3,7 @@
 
 use super::disks::Disks;
 use super::steps::{OutputLimits, Step};
-use super::test_host::{Act, TestHost, hear, play_acts};
+use super::test_host::{Act, TestHost, expect, run_parts};
 use std::process::Abort;
 use std::test::Fail;
 
@@ -66,8 +66,8 @@ fn has_taken_a_beginning<M: TestHost + Drop>(rt: &(impl Abort + AllocGlobal)) ->
         // An order that needs a socket.
         (Step::Order(&["DB", "serve", "8080", "2"]), (3, "", BROKEN)),
     ];
-    let host: M = play_acts(rt, &[Act::Typed("$ init\noffice ready\n")])?;
-    hear(rt, host, &cases)?;
+    let host: M = run_parts(rt, &[Act::Typed("$ init\noffice ready\n")])?;
+    expect(rt, host, &cases)?;
     Ok(())
 }
 

@@ -4,7 +4,7 @@ use super::begun::{BAD_REQUEST, BEGUN, KEYED, KEYING};
 use super::clients::{Jumping, Port};
 use super::disks::Disks;
 use super::steps::Step;
-use super::test_host::{TestHost, hear, play_acts};
+use super::test_host::{TestHost, expect, run_parts};
 use mio::net::TcpListener;
 use sockets::{Loopback, Poller, SocketNetwork};
 use std::cell::RefCell;
@@ -29,8 +29,8 @@ fn received(rt: &HostRuntime, mut stream: TcpStream) -> Result<String, Fail> {
 
 /// Serves the clients of a port.
 fn serve<M: TestHost + Drop>(rt: &(impl Abort + AllocGlobal), port: &Port) -> Result<(), Fail> {
-    let host: M = play_acts(rt, BEGUN)?;
-    hear(rt, host, &[(Step::Listen(port), (0, "Ok(())", ""))])?;
+    let host: M = run_parts(rt, BEGUN)?;
+    expect(rt, host, &[(Step::Listen(port), (0, "Ok(())", ""))])?;
     Ok(())
 }
 

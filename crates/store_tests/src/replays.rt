@@ -4,7 +4,7 @@
 use super::disks::Disks;
 use super::steps::{Case, STOPPED, Step, TestFiles};
 use super::stops::CALLS;
-use super::test_host::{Act, File, TestHost, hear, play_acts, rows};
+use super::test_host::{Act, File, TestHost, expect, rows, run_parts};
 use super::transcripts::read;
 use std::process::Abort;
 use std::test::Fail;
@@ -93,7 +93,7 @@ fn beginnings<M: TestHost + Drop>(
     let (none, mut host) = rows(rt.alloc(), host)?;
     let mut all = vec![in rt.alloc(); none]?;
     for typed in read(rt.alloc(), REQUESTS)?.iter().take(requests) {
-        let (found, behind) = rows(rt.alloc(), hear(rt, host, &[typed.case()])?)?;
+        let (found, behind) = rows(rt.alloc(), expect(rt, host, &[typed.case()])?)?;
         all.push(found)?;
         host = behind;
     }
@@ -129,7 +129,7 @@ fn stop_script<M: TestHost + Drop>(
         may_stand.any(|rows| *rows == found),
         "{told:?} left other rows"
     );
-    let (end, _) = rows(rt.alloc(), hear(rt, left, &[case])?)?;
+    let (end, _) = rows(rt.alloc(), expect(rt, left, &[case])?)?;
     assert!(rt; beginnings.last() == Some(&end), "{told:?} sent again");
     Ok(told == whole)
 }
@@ -140,7 +140,7 @@ fn stop_scripts<M: TestHost + Drop>(
     file: File,
 ) -> Result<(), Fail> {
     for case in STOPPED_SCRIPTS {
-        let host: M = play_acts(rt, MADE)?;
+        let host: M = run_parts(rt, MADE)?;
         let copy = host.copied(rt.alloc(), file, u64::MAX)?;
         let beginnings = beginnings(rt, copy, case.1.1.lines().count())?;
         let mut ended = false;

@@ -7,7 +7,7 @@ use super::loads::loads;
 use codes::Codes;
 use desk::perform::perform;
 use desk::{Failure, Folder, Order, copy_office, order, tell_failure, tell_words};
-use office::{Answer, Office, Run, Stop, Work};
+use office::{Answer, Office, ReadError, RunOutcome, Work};
 use register::Request;
 use server::{Destination, FileNumbers, ServeError, ServedFile, ServerSettings, serve_connections};
 use sqlite::{Alter, Connection};
@@ -110,7 +110,7 @@ pub struct StepPrinted {
 }
 
 impl StepPrinted {
-    pub fn quietly(alloc: Global, out: String) -> StepPrinted {
+    pub fn printed_only(alloc: Global, out: String) -> StepPrinted {
         StepPrinted {
             status: 0,
             out,
@@ -155,14 +155,18 @@ fn give<S: Alter + Drop, O: Sink, E: Sink>(
             };
             perform(alloc, &task, conn, &folder, out, err)
         }
-        Ok(Order::Serve { .. } | Order::Copy { .. } | Order::Journal | Order::Codes { .. }) => {
-            (tell_failure(Failure::Output, err), conn)
-        }
+        Ok(
+            Order::Serve { .. }
+            | Order::Copy { .. }
+            | Order::Journal
+            | Order::Codes { .. }
+            | Order::Slips { .. },
+        ) => { (tell_failure(Failure::Output, err), conn) }
         Err(fault) => (tell_words(&fault, out, err), conn),
     }
 }
 
-fn answered(alloc: Global, run: &Run) -> Result<String, AllocError> {
+fn answered(alloc: Global, run: &RunOutcome) -> Result<String, AllocError> {
     let mut text = String::new(alloc);
     for answer in run.answers.iter() {
         let line = match answer {
@@ -188,7 +192,10 @@ fn list<S: Alter + Drop>(
     };
     let run = office.run(requests);
     let conn = office.into_connection();
-    Ok((StepPrinted::quietly(alloc, answered(alloc, &run)?), conn))
+    Ok((
+        StepPrinted::printed_only(alloc, answered(alloc, &run)?),
+        conn,
+    ))
 }
 
 /// Returns one line per batch of a clerk's work.
@@ -221,12 +228,12 @@ fn work<S: Alter + Drop>(
     let conn = office.into_connection();
     let text = match told {
         Ok(work) => work_lines(alloc, &work)?,
-        Err(Stop::Refused(why)) => {
+        Err(ReadError::Refused(why)) => {
             format!(in alloc; "refused {}: {}\n", why.number(), why.text())?
         }
-        Err(Stop::Fault(_)) => return Err(Fail::from("no work is told")),
+        Err(ReadError::Fault(_)) => return Err(Fail::from("no work is told")),
     };
-    Ok((StepPrinted::quietly(alloc, text), conn))
+    Ok((StepPrinted::printed_only(alloc, text), conn))
 }
 
 /// The settings for the file that is served: no proxy, no codes, and no copies or journals.
@@ -379,7 +386,7 @@ fn listen<S: Alter + Drop>(
     };
     let conn = office.into_connection();
     let text = format!(in alloc; "{served:?}")?;
-    Ok((StepPrinted::quietly(alloc, text), conn))
+    Ok((StepPrinted::printed_only(alloc, text), conn))
 }
 
 const TABLES: &str = "SELECT name FROM sqlite_schema WHERE type = 'table' ORDER BY name";
@@ -453,11 +460,11 @@ fn done<S: Alter + Drop>(
         Step::Listen(port) => listen(alloc, conn, port),
         Step::Change(statements) => {
             conn.execute_batch(statements)?;
-            Ok((StepPrinted::quietly(alloc, String::new(alloc)), conn))
+            Ok((StepPrinted::printed_only(alloc, String::new(alloc)), conn))
         }
         Step::Contents => {
             let text = contents(alloc, &mut conn)?;
-            Ok((StepPrinted::quietly(alloc, text), conn))
+            Ok((StepPrinted::printed_only(alloc, text), conn))
         }
     }
 }

@@ -8,7 +8,7 @@ use super::begun::{BEGUN, KEYED, KEYING, NOMINATED};
 use super::clients::{Evening, TestClient};
 use super::disks::Disks;
 use super::steps::{Case, STOPPED, STOPPED_ANSWER, Step, StepExpected};
-use super::test_host::{Act, File, TestHost, hear, hear_unchanged, play_acts, rows};
+use super::test_host::{Act, File, TestHost, expect, expect_unchanged, rows, run_parts};
 use super::transcripts::read;
 use std::process::Abort;
 use std::test::Fail;
@@ -26,7 +26,7 @@ const MADE: StepExpected<'static> = (3, "", "fault 105: wrong database\n");
 const MIGRATED: StepExpected<'static> = (0, "office is at version 2\n", "");
 
 /// Returns the output of an order that is repeated after all of its changes were found.
-fn told_again<'a>(case: Case<'a>, whole: bool) -> StepExpected<'a> {
+fn expect_repeated<'a>(case: Case<'a>, whole: bool) -> StepExpected<'a> {
     match case {
         (Step::Order(["DB", "init"]), _) if whole => MADE,
         (Step::Order(["DB", "migrate"]), _) if whole => MIGRATED,
@@ -52,9 +52,9 @@ fn sides_of<M: TestHost + Drop>(
     case: Case<'_>,
 ) -> Result<(Sides, M), Fail> {
     let (before, host) = rows(rt.alloc(), host)?;
-    let (after, host) = rows(rt.alloc(), hear(rt, host, &[case])?)?;
-    let again = (case.0, told_again(case, true));
-    let host = hear_unchanged(rt, host, &[again, again, again])?;
+    let (after, host) = rows(rt.alloc(), expect(rt, host, &[case])?)?;
+    let again = (case.0, expect_repeated(case, true));
+    let host = expect_unchanged(rt, host, &[again, again, again])?;
     let (said, host) = host.play(rt.alloc(), &[SHEET])?;
     let sheet = match said.as_slice() {
         [said] if said.is_done() => Some(String::from_str(rt.alloc(), said.told().1)?),
@@ -112,7 +112,7 @@ fn stop_once<M: TestHost + Drop>(
         "{order:?} left rows of neither side"
     );
     let (status, out, err) = told.told();
-    let (wanted, page, fault) = told_again(case, whole);
+    let (wanted, page, fault) = expect_repeated(case, whole);
     assert!(rt; status == wanted, "{order:?} given again");
     assert!(rt;
         out.as_bytes() == page.as_bytes() && err.as_bytes() == fault.as_bytes(),
@@ -209,7 +209,7 @@ fn stop_client<M: TestHost + Drop>(
 ) -> Result<(), Fail> {
     let client = [Some(TestClient::whole(KEYING.as_bytes()))];
     let case = (Step::Serve(Evening::of(&client)), (0, KEYED, "Ok(())"));
-    let host: M = play_acts(rt, BEGUN)?;
+    let host: M = run_parts(rt, BEGUN)?;
     stop_each(rt, host, case, file)?;
     Ok(())
 }
@@ -230,7 +230,7 @@ pub fn stop_orders<M: TestHost + Drop>(
     orders: &str,
     file: File,
 ) -> Result<(), Fail> {
-    let mut host: M = play_acts(rt, before)?;
+    let mut host: M = run_parts(rt, before)?;
     for order in &read(rt.alloc(), orders)? {
         host = stop_each(rt, host, order.case(), file)?;
     }
@@ -336,7 +336,7 @@ fn stop_twice<M: TestHost + Drop>(
 }
 
 fn closed_says_so<M: TestHost + Drop>(rt: &(impl Abort + AllocGlobal)) -> Result<(), Fail> {
-    let host: M = play_acts(rt, BEGUN)?;
+    let host: M = run_parts(rt, BEGUN)?;
     let mut closed = false;
     for calls in 0..CALLS {
         match stop_twice(rt, &host, calls)? {

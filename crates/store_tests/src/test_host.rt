@@ -63,7 +63,7 @@ pub fn lasting<M: TestHost + Drop>(alloc: Global) -> M {
 }
 
 /// Runs the steps, each of which must have this result.
-pub fn hear<M: TestHost + Drop>(
+pub fn expect<M: TestHost + Drop>(
     rt: &(impl Abort + AllocGlobal),
     host: M,
     cases: &[Case<'_>],
@@ -94,17 +94,17 @@ pub fn follow<M: TestHost + Drop>(
 ) -> Result<M, Fail> {
     let asked = read(rt.alloc(), transcript)?;
     let cases: Vec<Case<'_>> = asked.iter().map(|typed| typed.case()).collect(rt.alloc())?;
-    hear(rt, host, &cases)
+    expect(rt, host, &cases)
 }
 
 /// Runs the steps, each of which must have this result, and none of which may change a row.
-pub fn hear_unchanged<M: TestHost + Drop>(
+pub fn expect_unchanged<M: TestHost + Drop>(
     rt: &(impl Abort + AllocGlobal),
     host: M,
     cases: &[Case<'_>],
 ) -> Result<M, Fail> {
     let (before, host) = rows(rt.alloc(), host)?;
-    let (after, host) = rows(rt.alloc(), hear(rt, host, cases)?)?;
+    let (after, host) = rows(rt.alloc(), expect(rt, host, cases)?)?;
     assert_eq!(rt; before.as_str(), after.as_str());
     Ok(host)
 }
@@ -115,7 +115,7 @@ pub fn hear_one_unchanged<M: TestHost + Drop>(
     host: M,
     case: Case<'_>,
 ) -> Result<M, Fail> {
-    hear_unchanged(rt, host, &[case])
+    expect_unchanged(rt, host, &[case])
 }
 
 /// Both clerks of batch 12 key these papers, a file's text.
@@ -137,7 +137,7 @@ fn key<M: TestHost + Drop>(
             "k1",
         ];
         let keyed = (0, "batch 12 round 1 keyed\n", "");
-        host = hear(
+        host = expect(
             rt,
             host,
             &[(Step::FileOrder(&words, papers.as_bytes()), keyed)],
@@ -158,7 +158,7 @@ pub fn do_act<M: TestHost + Drop>(
 }
 
 /// Plays acts on new files.
-pub fn play_acts<M: TestHost + Drop>(
+pub fn run_parts<M: TestHost + Drop>(
     rt: &(impl Abort + AllocGlobal),
     acts: &[Act],
 ) -> Result<M, Fail> {

@@ -35,7 +35,11 @@ pub(crate) fn entries_of<E: Entries>(alloc: Global, rows: &[Row]) -> Result<Vec<
 }
 
 /// Returns all rows of a table in key order, after checking, if its rows change, that no two share a rowid.
-pub fn keyed_rows<S: Alter>(conn: &mut Connection<S>, table: Table) -> Result<Vec<Row>, Fault>
+pub fn keyed_rows<S: Alter>(
+    alloc: Global,
+    conn: &mut Connection<S>,
+    table: Table,
+) -> Result<Vec<Row>, Fault>
     requires { conn.old.in_transaction ≡ false }
     ensures lists { HasCleanDisk (state S.Store conn.new) → (db : Database) → BeginsTo table db.schema → RestsAt db (state S.Store conn.old)
         → IfOk result (λ rows. ListsKeyed table db rows.items) }
@@ -48,10 +52,10 @@ pub fn keyed_rows<S: Alter>(conn: &mut Connection<S>, table: Table) -> Result<Ve
         → IfErr result (FailsToList db (state S.Store conn.old) (state S.Store conn.new)) }
 {
     if !table.changes_rows() {
-        return all_rows(conn, table);
+        return all_rows(alloc, conn, table);
     }
     check_rowids(conn, table)?;
-    let rows = all_rows(conn, table)?;
+    let rows = all_rows(alloc, conn, table)?;
     Ok(rows)
 }
 
@@ -73,7 +77,7 @@ pub fn all_entries<E: Entries, S: Alter>(
     ensures reads { OnlyReads (state S.Store conn.old) (state S.Store conn.new) }
     ensures outside { conn.new.in_transaction ≡ false }
 {
-    let rows = keyed_rows(conn, E::TABLE)?;
+    let rows = keyed_rows(alloc, conn, E::TABLE)?;
     if !keys_rise(E::TABLE, &rows) {
         return Err(Fault::Damaged);
     }

@@ -10,8 +10,8 @@ use Rattle.tables.specs.declared.fault.Fault.{Fault}
 use Rattle.office.specs.Answers.{Handled, told, told_of}
 use Rattle.office.specs.Reads.{Read}
 use Rattle.office.specs.declared.answers.Answer.{Answer}
-use Rattle.office.specs.declared.answers.Stop.{Stop}
-use Rattle.office.specs.declared.answers.Stop.TheVariants.{Refused, Fault as Failed}
+use Rattle.office.specs.declared.answers.ReadError.{ReadError}
+use Rattle.office.specs.declared.answers.ReadError.TheVariants.{Refused, Fault as Failed}
 use Rattle.wire.proofs.OutcomeLemmas.{IsOutcome-handed}
 use Rattle.wire.specs.Requests.{HttpRequestEntry, keying, reading}
 use Rattle.wire.specs.Bodies.{KeyingEntry}
@@ -40,7 +40,7 @@ Readies-faulted s clerk batch entry request f response closed st is handled tell
     (fault_response (fault_number f), tells, inr (f, refl, (step_of s request, IsOutcome-handed s clerk batch entry request is, handled)))
 
 -- what was read
-pub Readies-read : {X Y : Type 0} (s : OfficeState) (what : Resource) (entry : X → ResponseEntry) (view : Y → X) (reads : Result X Reason) (r : Result Y Stop)
+pub Readies-read : {X Y : Type 0} (s : OfficeState) (what : Resource) (entry : X → ResponseEntry) (view : Y → X) (reads : Result X Reason) (r : Result Y ReadError)
     (response : Response) (closed : Bool) (st : State)
     → reading_response s what ≡ read_response entry reads → Read view s reads r closed st → IsReadTold entry view r response → Readies s (reading what) response closed st
 Readies-read s what entry view reads (Ok y) response closed st same read tells = (

@@ -6,14 +6,14 @@ use Rattle.std.specs.List.{list_all, prefix_len}
 use Rattle.std.proofs.lemmas.Bool.{and_parts}
 use Rattle.std.proofs.lemmas.Bool.Decides.{nat_tests}
 use Rattle.wire.proofs.DigitLemmas.{digits-utf8}
-use Rattle.wire.specs.Gates.{GateEntry, kept_out_by}
+use Rattle.wire.specs.Gates.{GateEntry, authentication_failure_by}
 use Rattle.wire.specs.declared.account.Account.{Account}
 use Rattle.wire.specs.declared.request_error.RequestError.TheVariants.{WrongCode}
 
 -- ---- the code of an account
 
 -- several values are a wrong code
-pub several-wrong : (gate : GateEntry) (account : Account) (values : List (List ℕ)) → 1 < length values → kept_out_by gate account values ≡ Some (WrongCode account)
+pub several-wrong : (gate : GateEntry) (account : Account) (values : List (List ℕ)) → 1 < length values → authentication_failure_by gate account values ≡ Some (WrongCode account)
 several-wrong gate account [] many = absurd (omega (arith, many))
 several-wrong gate account (value ∷ []) many = absurd (omega (arith, many))
 several-wrong gate account (value ∷ other ∷ more) many = refl

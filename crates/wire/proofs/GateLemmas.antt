@@ -12,8 +12,8 @@ use Rattle.wire.specs.declared.account.Account.{Account}
 use Rattle.wire.specs.declared.account.Account.TheVariants.{Clerk, Office as Officer}
 use Rattle.wire.specs.declared.target.OfficeTarget.TheVariants as office
 use Rattle.wire.specs.Bodies.{KeyingEntry, body_in, keying_of}
-use Rattle.wire.specs.Gates.{GateEntry, HttpSettingsEntry, PublicEntry, account_at, account_under, clerk_under, has_code, kept_out}
-use Rattle.wire.specs.Gates.{kept_out_by, needs_office, needs_public, number_before, reading_account, sent_codes, served_at, shown_by}
+use Rattle.wire.specs.Gates.{GateEntry, HttpSettingsEntry, PublicEntry, account_at, account_under, clerk_under, has_code, authentication_failure}
+use Rattle.wire.specs.Gates.{authentication_failure_by, needs_office, needs_public, number_before, reading_account, sent_codes, served_at, shown_by}
 use Rattle.wire.specs.Lengths.{NamedValue, body_length}
 use Rattle.wire.specs.Origins.{is_foreign}
 use Rattle.wire.specs.Numbers.{number_in}
@@ -28,7 +28,7 @@ use Rattle.wire.specs.declared.target.Target.{Target}
 use Rattle.wire.specs.declared.target.Target.TheVariants.{Keying, Leave, Office, Page, Public, Resource}
 use Rattle.wire.proofs.RequestLemmas.{AsksOneThing-all}
 use Rattle.wire.proofs.OfficeTargetLemmas.{number-digits}
-use Rattle.wire.proofs.PathLemmas.{NamesItsOwn-all}
+use Rattle.wire.proofs.PathLemmas.{NamesOnlyItsPath-all}
 
 -- ---- the clerk in front of a target
 
@@ -101,13 +101,13 @@ under-own own target (Office what) account has is same = ap (account_under own) 
 
 -- ---- what isn't kept out
 
-holds : (gate : GateEntry) (account : Account) (fields : List NamedValue) (values : List (List ℕ)) → sent_codes fields ≡ values → kept_out_by gate account values ≡ None
+holds : (gate : GateEntry) (account : Account) (fields : List NamedValue) (values : List (List ℕ)) → sent_codes fields ≡ values → authentication_failure_by gate account values ≡ None
     → HoldsCode gate account fields
 holds gate account fields [] sent none = let no : ⊥ = cc in absurd no
 holds gate account fields (value ∷ other ∷ more) sent none = let no : ⊥ = cc in absurd no
 holds gate account fields (value ∷ []) sent none = by (has_code gate account value) refl none
   where
-    by : (b : Bool) → has_code gate account value ≡ b → kept_out_by gate account (value ∷ []) ≡ None → HoldsCode gate account fields
+    by : (b : Bool) → has_code gate account value ≡ b → authentication_failure_by gate account (value ∷ []) ≡ None → HoldsCode gate account fields
     by true is none = record { value = value; once = sent; is_its = is }
     by false is none =
         let turned = rw is at none in
@@ -148,7 +148,7 @@ module _ (gate : GateEntry) (hall : Option PublicEntry) (fields : List NamedValu
   asked_served there named has is = by (bytes_eq method (verb_text (verb_of there))) refl is
     where
       by : (b : Bool) → bytes_eq method (verb_text (verb_of there)) ≡ b → IsAskedAs (Some there) → account_under gate.office target ≡ Some account
-      by true same is = under-own gate.office target there account has ((NamesItsOwn-all target there).0 named) (own-asked gate hall there size behind account (rw same at is))
+      by true same is = under-own gate.office target there account has ((NamesOnlyItsPath-all target there).0 named) (own-asked gate hall there size behind account (rw same at is))
       by false other is =
           let turned = rw other at is in
           let no : ⊥ = cc in
@@ -167,16 +167,16 @@ module _ (gate : GateEntry) (hall : Option PublicEntry) (fields : List NamedValu
       by true without is = let no : ⊥ = cc in absurd no
       by false has is = open_to (needs_public there && not (is_some hall)) refl has is
 
-  let_in-held : (why : Option RequestError) → kept_out (Some gate) (account_at (Some gate) target) fields ≡ why
+  let_in-held : (why : Option RequestError) → authentication_failure (Some gate) (account_at (Some gate) target) fields ≡ why
       → account_asked (asked_of (Some gate) hall (let_in why method (served_at (Some gate) hall (named_by target))) size behind) ≡ Some account → HoldsCode gate account fields
   let_in-held (Some why) kept is = let no : ⊥ = cc in absurd no
   let_in-held None kept is =
       let under : account_under gate.office target ≡ Some account = asked_there (named_by target) refl is in
-      holds gate account fields (sent_codes fields) refl (ap (λ a. kept_out (Some gate) a fields) (sym under) ∙ kept)
+      holds gate account fields (sent_codes fields) refl (ap (λ a. authentication_failure (Some gate) a fields) (sym under) ∙ kept)
 
   wanted-held : (foreign : Bool) → account_asked (asked_of (Some gate) hall (wanted_by foreign (Some gate) hall fields method target) size behind) ≡ Some account → HoldsCode gate account fields
   wanted-held true is = let no : ⊥ = cc in absurd no
-  wanted-held false is = let_in-held (kept_out (Some gate) (account_at (Some gate) target) fields) refl is
+  wanted-held false is = let_in-held (authentication_failure (Some gate) (account_at (Some gate) target) fields) refl is
 
 -- what needs an account's code is asked by the holder of it
 pub AsksByHolder-all : (settings : HttpSettingsEntry) (bytes : List ℕ) → AsksByHolder settings bytes

@@ -9,7 +9,7 @@ use Rattle.std.proofs.lemmas.Bool.Decides.{Decides-eqb}
 use Rattle.std.proofs.lemmas.List.{append-nil, length-drop, take-append-drop, take_all}
 use Rattle.std.proofs.lemmas.Slice.Eq.{bytes_eq-Decides, starts_is}
 use Rattle.wire.specs.Numbers.{is_number, most_digits, number_in}
-use Rattle.wire.specs.OfficeTargets.{IsReadTarget, actor_in, batch_read, behind_digits, leading_number, numbered_read, of_batch, of_ward, read_by, ward_read}
+use Rattle.wire.specs.OfficeTargets.{IsReadTarget, actor_in, batch_read, after_digits, leading_number, numbered_read, of_batch, of_ward, read_by, ward_read}
 use Rattle.wire.specs.Targets.{named_by}
 use Rattle.wire.specs.declared.office_read.OfficeRead.{OfficeRead}
 use Rattle.wire.specs.declared.office_read.OfficeRead.TheVariants.{Wards, Ward, Batches, Doubtful, Differences, Papers, Receipts}
@@ -39,7 +39,7 @@ module _ (part rest : List ℕ) (n : ℕ) (own : number_in part ≡ Some n) (non
   pub number-first : leading_number (part ++ rest) ≡ Some n
   number-first = ap (λ k. number_in (take k (part ++ rest))) (digits-first part rest (number-digits part n own) none) ∙ ap number_in (take-append_seam part rest) ∙ own
 
-  pub rest-behind : behind_digits (part ++ rest) ≡ rest
+  pub rest-behind : after_digits (part ++ rest) ≡ rest
   rest-behind = ap (λ k. drop k (part ++ rest)) (digits-first part rest (number-digits part n own) none) ∙ drop-append_seam part rest
 
   ward-numbered : ward_read (part ++ rest) ≡ of_ward rest n

@@ -9,11 +9,11 @@ use Rattle.httparse.specs.Grammar.{HasNoRequest, MayBecomeRequest, RequestHead, 
 use Rattle.httparse.specs.Spans.{IsRequestOf, RequestOverflows, header_bytes, name_and_value, span_bytes}
 use Rattle.httparse.specs.declared.spans.HeaderSpan.{HeaderSpan}
 use Rattle.httparse.specs.declared.spans.RequestSpans.{RequestSpans}
-use Rattle.wire.specs.Requests.{HttpRequestEntry, Asks, IsWanting, MissesBehind, MissesBytes, asked_by, http_request_entry, asked_in, asked_of, denied, ordered_in, reading, wanted}
+use Rattle.wire.specs.Requests.{HttpRequestEntry, Asks, IsIncomplete, MissesBehind, MissesBytes, asked_by, http_request_entry, asked_in, asked_of, denied, ordered_in, reading, wanted}
 use Rattle.wire.specs.declared.request.HttpRequest.{HttpRequest}
 use Rattle.wire.specs.Bodies.{KeyingEntry, body_in, keying_of}
 use Rattle.wire.specs.Gates.{GateEntry, HttpSettingsEntry, PublicEntry, IsAuthentication, authentication_at, authentication_entry}
-use Rattle.wire.specs.Heads.{BeginsWith, HasNoHead, IsHeadWanting}
+use Rattle.wire.specs.Heads.{BeginsWith, HasNoHead, IsHeadIncomplete}
 use Rattle.wire.specs.Completeness.{IsCompletenessOf, IsWhole}
 use Rattle.wire.specs.Lengths.{NamedValue, most_body_bytes}
 use Rattle.wire.specs.Parsing.{IsHeadOf, Says, needed, read_in}
@@ -153,7 +153,7 @@ MissesBehind-back settings got head is behind completeness_of =
 
 -- with fewer bytes than it needs
 wanting_parsed : (settings : HttpSettingsEntry) (got more : List ℕ) (head : Head) → IsHeadOf settings got head → length (got ++ more) < head.size + needed head.wanted head.body
-    → IsWanting settings (got ++ more)
+    → IsIncomplete settings (got ++ more)
 wanting_parsed settings got more head is few =
     let long = parts_of settings got head is in
     let short : length (is.behind ++ more) < needed head.wanted head.body = omega (arith, few, long, length-append got more, length-append is.behind more) in
@@ -168,7 +168,7 @@ wanting_parsed settings got more head is few =
 pub lacks_bytes : (settings : HttpSettingsEntry) (got : List ℕ) (head : Head) → IsHeadOf settings got head → length got < head.size + needed head.wanted head.body
     → IsCompletenessOf settings got (AtLeast (head.size + needed head.wanted head.body))
 lacks_bytes settings got head is few = (
-  subst (IsWanting settings) (append-nil got) (wanting_parsed settings got [] head is (subst (λ (xs : List ℕ). length xs < head.size + needed head.wanted head.body) (sym (append-nil got)) few)),
+  subst (IsIncomplete settings) (append-nil got) (wanting_parsed settings got [] head is (subst (λ (xs : List ℕ). length xs < head.size + needed head.wanted head.body) (sym (append-nil got)) few)),
   few,
   λ more less. wanting_parsed settings got more head is less,
 )
@@ -201,17 +201,17 @@ whole_parsed settings got head is enough =
     (λ completeness_of. enough_complete head.wanted head.body is.behind (omega (arith, enough, parts_of settings got head is)) (MissesBehind-back settings got head is is.behind completeness_of))
 
 -- no head has arrived yet, and one may
-pub lacks_head : (settings : HttpSettingsEntry) (got : List ℕ) → IsHeadWanting got → IsCompletenessOf settings got (AtLeast (length got + 1))
+pub lacks_head : (settings : HttpSettingsEntry) (got : List ℕ) → IsHeadIncomplete got → IsCompletenessOf settings got (AtLeast (length got + 1))
 lacks_head settings got may = (
   inl may,
   omega arith,
   λ more less.
       let nothing : more ≡ [] = nil_from_length more (omega (arith, less, length-append got more)) in
-      subst (IsWanting settings) (sym (ap (λ xs. got ++ xs) nothing ∙ append-nil got)) (inl may),
+      subst (IsIncomplete settings) (sym (ap (λ xs. got ++ xs) nothing ∙ append-nil got)) (inl may),
 )
 
 -- one byte more than has arrived
-pub one_more : (got : List ℕ) (come next : ℕ) → length got ≡ come → IsHeadWanting got → next ≡ min (come + 1) (2 ^ 64 - 1) → next ≡ length got + 1
+pub one_more : (got : List ℕ) (come next : ℕ) → length got ≡ come → IsHeadIncomplete got → next ≡ min (come + 1) (2 ^ 64 - 1) → next ≡ length got + 1
 one_more got come next long may is = omega (arith, long, may.short, is)
 
 -- ---- no head
@@ -242,7 +242,7 @@ pub none_over : (got : List ℕ) (n room : ℕ) → room ≡ 32 → RequestOverf
 none_over got n room is over more = subst (λ (xs : List ℕ). HasNoHead (xs ++ more)) (take-append-drop n got) (never_over (take n got) (drop n got) room is over more)
 
 -- none has arrived yet
-pub none_yet : (got : List ℕ) (n : ℕ) → length got ≤ n → length got < 8192 → HasNoRequest (take n got) → MayBecomeRequest (take n got) → IsHeadWanting got
+pub none_yet : (got : List ℕ) (n : ℕ) → length got ≤ n → length got < 8192 → HasNoRequest (take n got) → MayBecomeRequest (take n got) → IsHeadIncomplete got
 none_yet got n all short none may =
     let same : take n got ≡ got = take_all n got all in
     let none_there : HasNoRequest got = subst HasNoRequest same none in

@@ -18,7 +18,7 @@ use Rattle.wire.proofs.RowLemmas.{Fits, Gives, GoBySlash, HasNoSlash, seek-end, 
 use Rattle.wire.specs.Numbers.{number_in}
 use Rattle.wire.specs.OfficeTargets.{read_by}
 use Rattle.wire.specs.PublicTargets.{public_by}
-use Rattle.wire.specs.Targets.{IsTargetOf, NamesItsOwn, named_at, named_by, named_in, office_by, office_path, office_routes, public_or_routed, read_or_other, routed_by}
+use Rattle.wire.specs.Targets.{IsTargetOf, NamesOnlyItsPath, named_at, named_by, named_in, office_by, office_path, office_routes, public_or_routed, read_or_other, routed_by}
 use Rattle.wire.specs.declared.office_read.OfficeRead.{OfficeRead}
 use Rattle.wire.specs.declared.public_target.PublicTarget.{PublicTarget}
 use Rattle.wire.specs.declared.target.OfficeTarget.{OfficeTarget}
@@ -426,5 +426,5 @@ own-named target (Office office.ConsolePage) is = ap named_by is
 own-named target (Office office.Leave) is = ap named_by is
 own-named target (Office office.Orders) is = ap named_by is
 
-pub NamesItsOwn-all : (target : List ℕ) → NamesItsOwn target
-NamesItsOwn-all target there = (named-own target there, own-named target there)
+pub NamesOnlyItsPath-all : (target : List ℕ) → NamesOnlyItsPath target
+NamesOnlyItsPath-all target there = (named-own target there, own-named target there)

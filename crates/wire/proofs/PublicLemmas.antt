@@ -9,10 +9,10 @@ use Rattle.register.specs.declared.refusal.Reason.{Reason}
 use Rattle.store.specs.Overviews.{WardView}
 use Rattle.tables.specs.Faults.{fault_number}
 use Rattle.office.specs.Reads.{Read}
-use Rattle.office.specs.Sheets.{text_found, text_told}
-use Rattle.office.specs.declared.answers.Stop.{Stop}
-use Rattle.office.specs.declared.answers.Stop.TheVariants.{Refused, Fault as Failed}
-use Rattle.office.specs.declared.sheets.Text.TheVariants as text
+use Rattle.office.specs.Sheets.{text_found, text_answer}
+use Rattle.office.specs.declared.answers.ReadError.{ReadError}
+use Rattle.office.specs.declared.answers.ReadError.TheVariants.{Refused, Fault as Failed}
+use Rattle.office.specs.declared.sheets.WardText.TheVariants as text
 use Rattle.wire.specs.Gates.{PublicEntry}
 use Rattle.wire.specs.PublicReplies.{page_found, page_told, screen_of, screen_ward_data}
 use Rattle.wire.specs.Requests.{public}
@@ -33,16 +33,16 @@ page-found : (title : Bor (List ℕ)) (s : OfficeState) (found : Option WardEntr
 page-found title s None = refl
 page-found title s (Some w) = refl
 
-pub page-told : (title : Bor (List ℕ)) (s : OfficeState) (ward : ℕ) → text_told (text.Page title) s ward ≡ page_told title.now s ward
+pub page-told : (title : Bor (List ℕ)) (s : OfficeState) (ward : ℕ) → text_answer (text.Page title) s ward ≡ page_told title.now s ward
 page-told title s ward = by (is_ward_number ward) refl
   where
-    by : (b : Bool) → is_ward_number ward ≡ b → text_told (text.Page title) s ward ≡ page_told title.now s ward
+    by : (b : Bool) → is_ward_number ward ≡ b → text_answer (text.Page title) s ward ≡ page_told title.now s ward
     by true is = rw is (page-found title s (ward_at s ward))
     by false is = rw is refl
 
 -- ---- what was read for it
 
-pub Readies-public : {X Y : Type 0} (s : OfficeState) (its : PublicEntry) (what : PublicTarget) (entry : X → ResponseEntry) (view : Y → X) (reads : Result X Reason) (r : Result Y Stop)
+pub Readies-public : {X Y : Type 0} (s : OfficeState) (its : PublicEntry) (what : PublicTarget) (entry : X → ResponseEntry) (view : Y → X) (reads : Result X Reason) (r : Result Y ReadError)
     (response : Response) (closed : Bool) (st : State)
     → public_response s its what ≡ read_response entry reads → Read view s reads r closed st → IsReadTold entry view r response → Readies s (public its what) response closed st
 Readies-public s its what entry view reads (Ok y) response closed st same read tells = (

@@ -5,14 +5,14 @@ use Rattle.httparse.specs.Grammar.{RequestHead}
 use Rattle.httparse.specs.Spans.{name_and_value}
 use Rattle.wire.specs.Bodies.{KeyingEntry, body_in, keying_of}
 use Rattle.wire.specs.ConsoleOrders.{ConsoleOrderEntry, order_of}
-use Rattle.wire.specs.Gates.{GateEntry, HttpSettingsEntry, PublicEntry, account_at, kept_out, served_at, shown_by}
+use Rattle.wire.specs.Gates.{GateEntry, HttpSettingsEntry, PublicEntry, account_at, authentication_failure, served_at, shown_by}
 use Rattle.wire.specs.Heads.{BeginsWith}
 use Rattle.wire.specs.Lengths.{NamedValue, body_length}
 use Rattle.wire.specs.Origins.{is_foreign}
 use Rattle.wire.specs.PublicRequests.{AsksInPublic, IsAskedInPublic}
 use Rattle.wire.specs.PublicTargets.{IsPublicTarget}
 use Rattle.wire.specs.Requests.{Asks, HttpRequestEntry, asked_for, asked_in, asked_of, console, denied, keying, let_in, order, ordered_in, public, public_at, reading, shown}
-use Rattle.wire.specs.Requests.{wanted_behind}
+use Rattle.wire.specs.Requests.{wanted_after}
 use Rattle.wire.specs.Targets.{named_by}
 use Rattle.wire.specs.declared.public_target.PublicTarget.{PublicTarget}
 use Rattle.wire.specs.declared.public_target.PublicTarget.TheVariants.{Index, Screen, Wards, Page}
@@ -22,7 +22,7 @@ use Rattle.wire.specs.declared.target.OfficeTarget.TheVariants as office
 use Rattle.wire.specs.declared.target.Target.{Target}
 use Rattle.wire.specs.declared.target.Target.TheVariants as target
 use Rattle.wire.proofs.PublicTargetLemmas.{public-named}
-use Rattle.wire.proofs.RequestLemmas.{TakesOwn-all}
+use Rattle.wire.proofs.RequestLemmas.{DependsOnOwnBytes-all}
 
 -- ---- the target
 
@@ -36,15 +36,15 @@ no-account (Some gate) path (Page n) (part, is, own) = ap (account_at (Some gate
 
 -- it is served at every gate and without one, if something is shown in public
 let-in : (gate : Option GateEntry) (hall : Option PublicEntry) (fields : List NamedValue) (method : List ℕ) (what : PublicTarget)
-    → let_in (kept_out gate None fields) method (served_at gate hall (Some (target.Public what))) ≡ asked_for method (shown_by hall (Some (target.Public what)))
+    → let_in (authentication_failure gate None fields) method (served_at gate hall (Some (target.Public what))) ≡ asked_for method (shown_by hall (Some (target.Public what)))
 let-in None hall fields method what = refl
 let-in (Some gate) hall fields method what = refl
 
 wanted-there : (gate : Option GateEntry) (hall : Option PublicEntry) (fields : List NamedValue) (method path : List ℕ) (what : PublicTarget) → IsPublicTarget what path
-    → wanted_behind gate hall fields method path ≡ asked_for method (shown_by hall (Some (target.Public what)))
+    → wanted_after gate hall fields method path ≡ asked_for method (shown_by hall (Some (target.Public what)))
 wanted-there gate hall fields method path what is =
-    ap (λ account. let_in (kept_out gate account fields) method (served_at gate hall (named_by path))) (no-account gate path what is)
-    ∙ ap (λ (there : Option Target). let_in (kept_out gate None fields) method (served_at gate hall there)) (public-named path what is)
+    ap (λ account. let_in (authentication_failure gate account fields) method (served_at gate hall (named_by path))) (no-account gate path what is)
+    ∙ ap (λ (there : Option Target). let_in (authentication_failure gate None fields) method (served_at gate hall there)) (public-named path what is)
     ∙ let-in gate hall fields method what
 
 -- ---- what is asked there
@@ -114,7 +114,7 @@ AsksInPublic-all settings bytes = record { target = at; shown = by }
         → (what : PublicTarget) → IsPublicTarget what head.target → (asked : HttpRequestEntry) → Asks settings bytes asked → IsAskedInPublic settings head.method what asked
     at head behind begins own what is asked asks =
         let fields = map name_and_value head.fields in
-        let so = TakesOwn-all settings bytes head behind begins own asked asks
+        let so = DependsOnOwnBytes-all settings bytes head behind begins own asked asks
         ∙ ap (λ (there : Result Target RequestError). asked_of settings.gate settings.public there (body_length fields) behind)
         (wanted-there settings.gate settings.public fields head.method head.target what is) in
         record {

@@ -6,8 +6,8 @@ use Rattle.std.specs.List.{prefix_len, starts_with}
 use Rattle.std.proofs.lemmas.List.{length-drop, take-append-drop, take_all}
 use Rattle.std.proofs.lemmas.Slice.Eq.{bytes_eq-Decides}
 use Rattle.wire.specs.Numbers.{number_in}
-use Rattle.wire.specs.OfficeTargets.{behind_digits, leading_number}
-use Rattle.wire.specs.PublicTargets.{IsPublicTarget, page_behind, public_by, ward_page_by}
+use Rattle.wire.specs.OfficeTargets.{after_digits, leading_number}
+use Rattle.wire.specs.PublicTargets.{IsPublicTarget, page_after_prefix, public_by, ward_page_by}
 use Rattle.wire.specs.Targets.{named_by, routed_by}
 use Rattle.wire.specs.declared.public_target.PublicTarget.{PublicTarget}
 use Rattle.wire.specs.declared.public_target.PublicTarget.TheVariants.{Index, Screen, Wards, Page}
@@ -20,13 +20,13 @@ use Rattle.wire.proofs.OfficeTargetLemmas.{begun, number-first, rest-behind}
 tail-of : (n : ℕ) (target : List ℕ) → take (length target - n) (drop n target) ≡ drop n target
 tail-of n target = take_all (length target - n) (drop n target) (omega (arith, length-drop n target))
 
-pub of-page : (target : List ℕ) (r : Option PublicTarget) → starts_with nat_eq target (codes "/wards/") ≡ true → r ≡ page_behind (take (length target - 7) (drop 7 target))
+pub of-page : (target : List ℕ) (r : Option PublicTarget) → starts_with nat_eq target (codes "/wards/") ≡ true → r ≡ page_after_prefix (take (length target - 7) (drop 7 target))
     → r ≡ ward_page_by target
-of-page target r begins is = is ∙ ap page_behind (tail-of 7 target) ∙ sym (rw begins refl)
+of-page target r begins is = is ∙ ap page_after_prefix (tail-of 7 target) ∙ sym (rw begins refl)
 
 -- ---- a target of something that is shown in public names it
 
-page-numbered : (part : List ℕ) (n : ℕ) → number_in part ≡ Some n → page_behind (part ++ codes "/page") ≡ Some (Page n)
+page-numbered : (part : List ℕ) (n : ℕ) → number_in part ≡ Some n → page_after_prefix (part ++ codes "/page") ≡ Some (Page n)
 page-numbered part n own = rw (number-first part (codes "/page") n own refl, rest-behind part (codes "/page") n own refl) refl
 
 pub public-named : (target : List ℕ) (what : PublicTarget) → IsPublicTarget what target → named_by target ≡ Some (Public what)
@@ -36,7 +36,7 @@ public-named target Wards is = ap named_by is
 public-named target (Page n) (part, is, own) = ap named_by is ∙ rw (page-numbered part n own) refl
 
 -- a sheet and a declaration are no page
-no-page : (part rest : List ℕ) (n : ℕ) → number_in part ≡ Some n → prefix_len is_ascii_digit rest ≡ 0 → bytes_eq rest (codes "/page") ≡ false → page_behind (part ++ rest) ≡ None
+no-page : (part rest : List ℕ) (n : ℕ) → number_in part ≡ Some n → prefix_len is_ascii_digit rest ≡ 0 → bytes_eq rest (codes "/page") ≡ false → page_after_prefix (part ++ rest) ≡ None
 no-page part rest n own none other = rw (number-first part rest n own none, rest-behind part rest n own none, other) refl
 
 pub sheet-routed : (part : List ℕ) (n : ℕ) → number_in part ≡ Some n → named_by (codes "/wards/" ++ (part ++ codes "/sheet")) ≡ routed_by (codes "/wards/" ++ (part ++ codes "/sheet"))
@@ -57,10 +57,10 @@ module _ (target behind : List ℕ) (what : PublicTarget) where
   abbrev digits : ℕ
   digits = prefix_len is_ascii_digit behind
 
-  page-own : target ≡ codes "/wards/" ++ behind → page_behind behind ≡ Some what → IsPublicTarget what target
-  page-own is named = by (bytes_eq (behind_digits behind) (codes "/page")) refl named
+  page-own : target ≡ codes "/wards/" ++ behind → page_after_prefix behind ≡ Some what → IsPublicTarget what target
+  page-own is named = by (bytes_eq (after_digits behind) (codes "/page")) refl named
     where
-      numbered : (number : Option ℕ) → leading_number behind ≡ number → behind_digits behind ≡ codes "/page" → option_map (λ ward. Page ward) number ≡ Some what
+      numbered : (number : Option ℕ) → leading_number behind ≡ number → after_digits behind ≡ codes "/page" → option_map (λ ward. Page ward) number ≡ Some what
           → IsPublicTarget what target
       numbered None found rest named = let no : ⊥ = cc in absurd no
       numbered (Some n) found rest named =
@@ -71,15 +71,15 @@ module _ (target behind : List ℕ) (what : PublicTarget) where
             found,
           )
 
-      by : (b : Bool) → bytes_eq (behind_digits behind) (codes "/page") ≡ b → (if b then option_map (λ ward. Page ward) (leading_number behind) else None) ≡ Some what
+      by : (b : Bool) → bytes_eq (after_digits behind) (codes "/page") ≡ b → (if b then option_map (λ ward. Page ward) (leading_number behind) else None) ≡ Some what
           → IsPublicTarget what target
-      by true same named = numbered (leading_number behind) refl ((bytes_eq-Decides (behind_digits behind) (codes "/page")).0 same) named
+      by true same named = numbered (leading_number behind) refl ((bytes_eq-Decides (after_digits behind) (codes "/page")).0 same) named
       by false other named = let no : ⊥ = cc in absurd no
 
 pub public-own : (target : List ℕ) (what : PublicTarget) → public_by target ≡ Some what → IsPublicTarget what target
 public-own target what named = index (bytes_eq target (codes "/")) refl named
   where
-    pages : (b : Bool) → starts_with nat_eq target (codes "/wards/") ≡ b → (if b then page_behind (drop 7 target) else None) ≡ Some what → IsPublicTarget what target
+    pages : (b : Bool) → starts_with nat_eq target (codes "/wards/") ≡ b → (if b then page_after_prefix (drop 7 target) else None) ≡ Some what → IsPublicTarget what target
     pages true begins named = page-own target (drop 7 target) what (begun target (codes "/wards/") begins) named
     pages false other named = let no : ⊥ = cc in absurd no
 

@@ -9,8 +9,8 @@ use Rattle.httparse.specs.Spans.{IsRequestAt, IsRequestOf, header_bytes, name_an
 use Rattle.httparse.specs.declared.spans.HeaderSpan.{HeaderSpan}
 use Rattle.httparse.specs.declared.spans.RequestSpans.{RequestSpans}
 use Rattle.wire.proofs.HeadLemmas.{HasOneHead-all}
-use Rattle.wire.specs.Requests.{HttpRequestEntry, Asks, AsksOneThing, DeniesForeign, FailsAfter, IsWanting, MissesAt, MissesBehind, MissesBytes}
-use Rattle.wire.specs.Requests.{MissesFound, TakesOwn, asked_at, asked_by, http_request_entry, asked_of, denied, wanted, wanted_by}
+use Rattle.wire.specs.Requests.{HttpRequestEntry, Asks, AsksOneThing, DeniesForeign, FailsAfter, IsIncomplete, MissesAt, MissesBehind, MissesBytes}
+use Rattle.wire.specs.Requests.{MissesFound, DependsOnOwnBytes, asked_at, asked_by, http_request_entry, asked_of, denied, wanted, wanted_by}
 use Rattle.wire.specs.Gates.{HttpSettingsEntry}
 use Rattle.wire.specs.Heads.{BeginsWith, HasNoHead}
 use Rattle.wire.specs.Lengths.{NamedValue, body_length}
@@ -41,8 +41,8 @@ DeniesForeign-all settings bytes head behind begins foreign asked asks =
     ∙ ap (λ b. asked_of settings.gate settings.public (wanted_by b settings.gate settings.public (map name_and_value head.fields) head.method head.target)
     (body_length (map name_and_value head.fields)) behind) foreign
 
-pub TakesOwn-all : (settings : HttpSettingsEntry) (bytes : List ℕ) → TakesOwn settings bytes
-TakesOwn-all settings bytes head behind begins own asked asks =
+pub DependsOnOwnBytes-all : (settings : HttpSettingsEntry) (bytes : List ℕ) → DependsOnOwnBytes settings bytes
+DependsOnOwnBytes-all settings bytes head behind begins own asked asks =
     AsksOneThing-all settings bytes asked (asked_by settings head behind) asks (inr (head, behind, begins, refl))
     ∙ ap (λ b. asked_of settings.gate settings.public (wanted_by b settings.gate settings.public (map name_and_value head.fields) head.method head.target)
     (body_length (map name_and_value head.fields)) behind) own
@@ -101,20 +101,20 @@ module _ (settings : HttpSettingsEntry) (got : List ℕ) (headers : List HeaderS
       (subst (λ m. MissesBytes (wanted settings fields m (span_bytes got spans.path)) (body_length fields) behind) there.method completeness_of))
 
   -- bytes that begin with what was read don't say what is asked, where what was found in that lacks more
-  pub IsWanting-found : (bytes left : List ℕ) → IsRequestOf got headers spans → length got ≤ 8192 → length headers ≡ 32 → bytes ≡ got ++ left
-      → MissesFound settings got headers spans (drop spans.len got ++ left) → IsWanting settings bytes
-  IsWanting-found bytes left (head, there) fits places e completeness_of =
+  pub IsIncomplete-found : (bytes left : List ℕ) → IsRequestOf got headers spans → length got ≤ 8192 → length headers ≡ 32 → bytes ≡ got ++ left
+      → MissesFound settings got headers spans (drop spans.len got ++ left) → IsIncomplete settings bytes
+  IsIncomplete-found bytes left (head, there) fits places e completeness_of =
       let behind = drop spans.len got ++ left in
       inr (head, behind, begins bytes got left headers spans head there fits places e, MissesBehind-of head there behind completeness_of)
 
 -- there is a whole head, and what it asks for isn't all there
 pub FailsAfter-behind : (settings : HttpSettingsEntry) (old mid new : Option (List ℕ)) (got : List ℕ) (headers : List HeaderSpan) (spans : RequestSpans)
     → IsRequestOf got headers spans → (r : Result HttpRequest ReadFailure)
-    → length got ≤ 8192 → length headers ≡ 32 → Consumes old mid got → IfErr r (FailsAfter mid new (MissesAt settings got headers spans)) → IfErr r (FailsAfter old new (IsWanting settings))
+    → length got ≤ 8192 → length headers ≡ 32 → Consumes old mid got → IfErr r (FailsAfter mid new (MissesAt settings got headers spans)) → IfErr r (FailsAfter old new (IsIncomplete settings))
 FailsAfter-behind settings old mid new got headers spans found (Ok asked) fits places took after = tt
 FailsAfter-behind settings old mid new got headers spans found (Err Memory) fits places took after = tt
 FailsAfter-behind settings old mid new got headers spans found (Err Broken) fits places took (more, then, completeness_of) =
-    (got ++ more, Consumes-trans old mid new got more took then, IsWanting-found settings got headers spans (got ++ more) more found fits places refl completeness_of)
+    (got ++ more, Consumes-trans old mid new got more took then, IsIncomplete-found settings got headers spans (got ++ more) more found fits places refl completeness_of)
 
 -- ---- by what its head says that was parsed
 
@@ -142,7 +142,8 @@ module _ (settings : HttpSettingsEntry) (got : List ℕ) (headers : List HeaderS
 
   pub FailsAfter-said : (old mid new : Option (List ℕ)) → IsRequestOf got headers spans → SaysFound → (r : Result HttpRequest ReadFailure) → length got ≤ 8192
       → length headers ≡ 32 → Consumes old mid got
-      → (behind : List ℕ) → behind ≡ drop spans.len got → IfErr r (FailsAfter mid new (λ more. MissesBytes head.wanted head.body (behind ++ more))) → IfErr r (FailsAfter old new (IsWanting settings))
+      → (behind : List ℕ) → behind ≡ drop spans.len got → IfErr r (FailsAfter mid new (λ more. MissesBytes head.wanted head.body (behind ++ more)))
+      → IfErr r (FailsAfter old new (IsIncomplete settings))
   FailsAfter-said old mid new found says r fits places took behind there after =
       let fields = map (header_bytes got) (take spans.headers headers) in
       let target = wanted settings fields (span_bytes got spans.method) (span_bytes got spans.path) in

@@ -7,7 +7,7 @@ use Rattle.wire.specs.declared.account.Account.{Account}
 use Rattle.wire.specs.declared.request_error.RequestError.{RequestError}
 use Rattle.wire.specs.declared.request_error.RequestError.TheVariants.{BadRequest, Forbidden, MethodNotAllowed, NotFound, TooLarge, Unauthorized, WrongCode}
 use Rattle.wire.specs.declared.request_error.Verb.TheVariants.{Get, Post}
-use Rattle.wire.specs.declared.response.TheConstants.{BAD_REQUEST, FORBIDDEN, GONE, LEFT, NOT_FOUND, NO_MEMORY, ONLY_GET, ONLY_POST, OUTPUT_FAILED, TOO_LARGE, WAITS}
+use Rattle.wire.specs.declared.response.TheConstants.{BAD_REQUEST, FORBIDDEN, GONE, SIGNED_OUT, NOT_FOUND, NO_MEMORY, ONLY_GET, ONLY_POST, OUTPUT_FAILED, TOO_LARGE, WAITS}
 
 pub bad_request-told : BAD_REQUEST.now ≡ response_bytes (denied_response BadRequest)
 unfolding digits lines_and_body
@@ -49,7 +49,7 @@ pub output_failed-told : OUTPUT_FAILED.now ≡ response_bytes (fault_response 10
 unfolding digits lines_and_body
 output_failed-told = refl
 
-pub left-told : LEFT.now ≡ response_bytes (shown_response has_left)
+pub left-told : SIGNED_OUT.now ≡ response_bytes (shown_response has_left)
 unfolding digits lines_and_body
 left-told = refl
 

@@ -39,13 +39,13 @@ key_members (member a id no_members) = None
 key_members no_members = None
 
 -- the keying made of three values
-abbrev pub said_by : Data × Data × Data → Option KeyingEntry
-said_by (id, papers, round) =
+abbrev pub keying_from : Data × Data × Data → Option KeyingEntry
+keying_from (id, papers, round) =
     option_and_then (λ i. option_and_then (λ ps. option_map (λ r. record { id = i; round = r; papers = ps }) (round_in round)) (list_in papers)) (as_str id)
 
 -- the keying in a value
 abbrev pub keying_in : Data → Option KeyingEntry
-keying_in value = option_and_then said_by (option_and_then key_members (as_object value))
+keying_in value = option_and_then keying_from (option_and_then key_members (as_object value))
 
 -- the body of n bytes that follows a head, if so many bytes follow it
 abbrev pub body_in : ℕ → List ℕ → Option (List ℕ)

@@ -150,10 +150,10 @@ needs_public (target.Office place) = false
 needs_public (target.Public what) = true
 
 -- what is served, at a gate or without one
-abbrev pub let_through : Option GateEntry → Option Target → Option Target
-let_through gate None = None
-let_through None (Some there) = if needs_gate there then None else Some there
-let_through (Some gate) (Some there) = if needs_office there && not (is_some gate.office) then None else Some there
+abbrev pub served_with_gate : Option GateEntry → Option Target → Option Target
+served_with_gate gate None = None
+served_with_gate None (Some there) = if needs_gate there then None else Some there
+served_with_gate (Some gate) (Some there) = if needs_office there && not (is_some gate.office) then None else Some there
 
 -- what is served of that, in public or not
 abbrev pub shown_by : Option PublicEntry → Option Target → Option Target
@@ -162,7 +162,7 @@ shown_by public (Some there) = if needs_public there && not (is_some public) the
 
 -- what is served by a gate and what is shown in public
 abbrev pub served_at : Option GateEntry → Option PublicEntry → Option Target → Option Target
-served_at gate public there = shown_by public (let_through gate there)
+served_at gate public there = shown_by public (served_with_gate gate there)
 
 -- ---- what is let in
 
@@ -172,20 +172,20 @@ has_code gate (Clerk clerk) value = is_of gate.holders clerk value
 has_code gate Office value = is_office gate.office value
 
 -- Why authentication failed, by the values of `Authorization`. It succeeds with exactly one value, which is the account's.
-abbrev pub kept_out_by : GateEntry → Account → List (List ℕ) → Option RequestError
-kept_out_by gate account [] = Some (Unauthorized account)
-kept_out_by gate account (value ∷ []) = if has_code gate account value then None else Some (WrongCode account)
-kept_out_by gate account (value ∷ other ∷ more) = Some (WrongCode account)
+abbrev pub authentication_failure_by : GateEntry → Account → List (List ℕ) → Option RequestError
+authentication_failure_by gate account [] = Some (Unauthorized account)
+authentication_failure_by gate account (value ∷ []) = if has_code gate account value then None else Some (WrongCode account)
+authentication_failure_by gate account (value ∷ other ∷ more) = Some (WrongCode account)
 
 -- the values of `Authorization`
 abbrev pub sent_codes : List NamedValue → List (List ℕ)
 sent_codes fields = values_of (codes "authorization") fields
 
 -- why authentication failed, by the account whose code the target needs, if it needs one
-abbrev pub kept_out : Option GateEntry → Option Account → List NamedValue → Option RequestError
-kept_out None account fields = None
-kept_out (Some gate) None fields = None
-kept_out (Some gate) (Some account) fields = kept_out_by gate account (sent_codes fields)
+abbrev pub authentication_failure : Option GateEntry → Option Account → List NamedValue → Option RequestError
+authentication_failure None account fields = None
+authentication_failure (Some gate) None fields = None
+authentication_failure (Some gate) (Some account) fields = authentication_failure_by gate account (sent_codes fields)
 
 -- ---- authentication
 
@@ -207,7 +207,7 @@ is_wrong_code (Some other) = false
 abbrev pub authentication_by : Option GateEntry → Option Account → List NamedValue → Option AuthenticationEntry
 authentication_by None account fields = None
 authentication_by (Some gate) None fields = None
-authentication_by (Some gate) (Some account) fields = Some (record { account = account; is_wrong = is_wrong_code (kept_out_by gate account (sent_codes fields)) })
+authentication_by (Some gate) (Some account) fields = Some (record { account = account; is_wrong = is_wrong_code (authentication_failure_by gate account (sent_codes fields)) })
 
 -- the authentication of a request with these header fields and this target; a request of a foreign page has none
 abbrev pub authentication_at : HttpSettingsEntry → List NamedValue → List ℕ → Option AuthenticationEntry

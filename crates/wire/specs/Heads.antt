@@ -22,7 +22,7 @@ abbrev pub HasNoHead : List ℕ → Type 0
 HasNoHead bytes = (head : RequestHead) (behind : List ℕ) → ¬ (BeginsWith bytes head behind)
 
 -- what was read has no complete head yet, may still become one (according to `httparse`), and isn't as long as a head may be
-pub record IsHeadWanting (got : List ℕ) : Type 0 where
+pub record IsHeadIncomplete (got : List ℕ) : Type 0 where
   pub none : HasNoHead got
   pub may : MayBecomeRequest got
   pub short : length got < most_head_bytes

@@ -4,8 +4,8 @@ use Rattle.register.specs.Offices.{OfficeState, ReceiptEntry}
 use Rattle.register.specs.NextSteps.{NextStepEntry, step_entry}
 use Rattle.register.specs.declared.refusal.Reason.{Reason}
 use Rattle.store.specs.Overviews.{BatchView, DoubtfulPapersView, WardView, batch_view, doubtful_papers_view, ward_view}
-use Rattle.office.specs.Overviews.{batches_told, doubtful_told, receipts_told, wards_told}
-use Rattle.office.specs.Reads.{next_told}
+use Rattle.office.specs.Overviews.{batches_answer, doubtful_answer, receipts_answer, wards_answer}
+use Rattle.office.specs.Reads.{next_answer}
 use Rattle.wire.specs.declared.read_responses.found.WardsRead.{WardsRead}
 use Rattle.wire.specs.declared.read_responses.found.WardProgress.{WardProgress}
 use Rattle.wire.specs.declared.read_responses.found.WardPapers.{WardPapers}
@@ -28,7 +28,7 @@ abbrev pub wards_with : List ReceiptEntry → List WardView → WardsReadView
 wards_with receipts wards = record { receipts = length receipts; wards = wards }
 
 abbrev pub wards_read_told : OfficeState → Result WardsReadView Reason
-wards_read_told s = made_of wards_with (receipts_told s None) (wards_told s)
+wards_read_told s = made_of wards_with (receipts_answer s None) (wards_answer s)
 
 abbrev pub wards_read_view : WardsRead → WardsReadView
 wards_read_view found = record { receipts = found.receipts; wards = map ward_view found.wards.items }
@@ -44,7 +44,7 @@ abbrev pub progress_with : NextStepEntry → List WardView → WardProgressView
 progress_with next wards = record { next = next; wards = wards }
 
 abbrev pub progress_told : OfficeState → ℕ → Result WardProgressView Reason
-progress_told s ward = made_of progress_with (next_told s ward) (wards_told s)
+progress_told s ward = made_of progress_with (next_answer s ward) (wards_answer s)
 
 abbrev pub progress_view : WardProgress → WardProgressView
 progress_view found = record { next = step_entry found.next; wards = map ward_view found.wards.items }
@@ -58,7 +58,7 @@ abbrev pub papers_with : List BatchView → DoubtfulPapersView → WardPapersVie
 papers_with batches doubtful = record { batches = batches; doubtful = doubtful }
 
 abbrev pub ward_papers_told : OfficeState → ℕ → Result WardPapersView Reason
-ward_papers_told s ward = made_of papers_with (batches_told s ward) (doubtful_told s ward)
+ward_papers_told s ward = made_of papers_with (batches_answer s ward) (doubtful_answer s ward)
 
 abbrev pub ward_papers_view : WardPapers → WardPapersView
 ward_papers_view found = record { batches = map batch_view found.batches.items; doubtful = doubtful_papers_view found.doubtful }

@@ -10,8 +10,8 @@ use Rattle.wire.specs.declared.office_read.OfficeRead.TheVariants.{Wards, Ward, 
 abbrev pub leading_number : List ℕ → Option ℕ
 leading_number text = number_in (take (prefix_len is_ascii_digit text) text)
 
-abbrev pub behind_digits : List ℕ → List ℕ
-behind_digits text = drop (prefix_len is_ascii_digit text) text
+abbrev pub after_digits : List ℕ → List ℕ
+after_digits text = drop (prefix_len is_ascii_digit text) text
 
 -- what is read of a ward, by what follows its number
 abbrev pub of_ward : List ℕ → ℕ → Option OfficeRead
@@ -28,10 +28,10 @@ of_batch rest batch =
 
 -- the same, by all that follows `/office/wards/` or `/office/batches/`
 abbrev pub ward_read : List ℕ → Option OfficeRead
-ward_read behind = option_and_then (of_ward (behind_digits behind)) (leading_number behind)
+ward_read behind = option_and_then (of_ward (after_digits behind)) (leading_number behind)
 
 abbrev pub batch_read : List ℕ → Option OfficeRead
-batch_read behind = option_and_then (of_batch (behind_digits behind)) (leading_number behind)
+batch_read behind = option_and_then (of_batch (after_digits behind)) (leading_number behind)
 
 -- an actor: the office itself, 0, or a number
 abbrev pub actor_in : List ℕ → Option ℕ

@@ -4,7 +4,7 @@ use Rattle.httparse.specs.Grammar.{RequestHead, print_request}
 use Rattle.httparse.specs.Spans.{name_and_value}
 use Rattle.wire.specs.Requests.{wanted}
 use Rattle.wire.specs.Gates.{HttpSettingsEntry, authentication_at, authentication_entry}
-use Rattle.wire.specs.Heads.{BeginsWith, HasNoHead, IsHeadWanting}
+use Rattle.wire.specs.Heads.{BeginsWith, HasNoHead, IsHeadIncomplete}
 use Rattle.wire.specs.Lengths.{NamedValue, body_length, most_body_bytes}
 use Rattle.wire.specs.declared.request_error.RequestError.{RequestError}
 use Rattle.wire.specs.declared.parsed.Head.{Head}
@@ -57,5 +57,5 @@ pub record IsHeadOf (settings : HttpSettingsEntry) (got : List ℕ) (head : Head
 -- the result of parsing: the bytes begin with this head, or may still become one, or have none, whatever follows
 abbrev pub IsParsed : HttpSettingsEntry → List ℕ → Parsed → Type 0
 IsParsed settings got (parsed.Head head) = IsHeadOf settings got head
-IsParsed settings got parsed.Partial = IsHeadWanting got
+IsParsed settings got parsed.Partial = IsHeadIncomplete got
 IsParsed settings got parsed.Malformed = (more : List ℕ) → HasNoHead (got ++ more)

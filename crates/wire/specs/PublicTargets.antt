@@ -2,16 +2,16 @@
 use Rattle.std.specs.Prelude.{◌≡◌, ◌++◌, List, Option, Some, None, bytes_eq, codes, drop, if◌then◌else◌, nat_eq, option_map, ℕ}
 use Rattle.std.specs.List.{starts_with}
 use Rattle.wire.specs.Numbers.{number_in}
-use Rattle.wire.specs.OfficeTargets.{behind_digits, leading_number}
+use Rattle.wire.specs.OfficeTargets.{after_digits, leading_number}
 use Rattle.wire.specs.declared.public_target.PublicTarget.{PublicTarget}
 use Rattle.wire.specs.declared.public_target.PublicTarget.TheVariants.{Index, Screen, Wards, Page}
 
 -- the page of a ward, by all that follows `/wards/`
-abbrev pub page_behind : List ℕ → Option PublicTarget
-page_behind behind = if bytes_eq (behind_digits behind) (codes "/page") then option_map (λ ward. Page ward) (leading_number behind) else None
+abbrev pub page_after_prefix : List ℕ → Option PublicTarget
+page_after_prefix behind = if bytes_eq (after_digits behind) (codes "/page") then option_map (λ ward. Page ward) (leading_number behind) else None
 
 abbrev pub ward_page_by : List ℕ → Option PublicTarget
-ward_page_by target = if starts_with nat_eq target (codes "/wards/") then page_behind (drop 7 target) else None
+ward_page_by target = if starts_with nat_eq target (codes "/wards/") then page_after_prefix (drop 7 target) else None
 
 -- what is shown in public at a target
 abbrev pub public_by : List ℕ → Option PublicTarget

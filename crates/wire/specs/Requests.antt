@@ -8,9 +8,9 @@ use Rattle.httparse.specs.declared.spans.HeaderSpan.{HeaderSpan}
 use Rattle.httparse.specs.declared.spans.RequestSpans.{RequestSpans}
 use Rattle.wire.specs.declared.request.HttpRequest.{HttpRequest}
 use Rattle.wire.specs.declared.public_target.PublicTarget.{PublicTarget}
-use Rattle.wire.specs.declared.request.HttpRequest.TheVariants.{ConsolePage, Denied, Keying, Order, Public, Resource as Reads, Shown}
-use Rattle.wire.specs.declared.settings.Show.{Show}
-use Rattle.wire.specs.declared.settings.Show.TheVariants.{Left, Page}
+use Rattle.wire.specs.declared.request.HttpRequest.TheVariants.{ConsolePage, Denied, Keying, Order, Public, Resource as Reads, ClerkPage}
+use Rattle.wire.specs.declared.settings.FixedPage.{FixedPage}
+use Rattle.wire.specs.declared.settings.FixedPage.TheVariants.{SignedOut, Page}
 use Rattle.wire.specs.declared.read_failure.ReadFailure.{ReadFailure}
 use Rattle.wire.specs.declared.read_failure.ReadFailure.TheVariants.{Broken, Memory}
 use Rattle.wire.specs.declared.request_error.RequestError.{RequestError}
@@ -25,8 +25,9 @@ use Rattle.wire.specs.declared.account.Account.{Account}
 use Rattle.wire.specs.declared.account.Account.TheVariants.{Clerk, Office}
 use Rattle.wire.specs.ConsoleOrders.{ConsoleOrderEntry, console_order_entry, order_of}
 use Rattle.wire.specs.Bodies.{KeyingEntry, body_in, keying_of}
-use Rattle.wire.specs.Gates.{GateEntry, HttpSettingsEntry, PageEntry, PublicEntry, account_at, has_code, kept_out, page_entry, public_entry, reader_of, reading_account, sent_codes, served_at}
-use Rattle.wire.specs.Heads.{BeginsWith, HasNoHead, IsHeadWanting}
+use Rattle.wire.specs.Gates.{GateEntry, HttpSettingsEntry, PageEntry, PublicEntry, account_at}
+use Rattle.wire.specs.Gates.{has_code, authentication_failure, page_entry, public_entry, reader_of, reading_account, sent_codes, served_at}
+use Rattle.wire.specs.Heads.{BeginsWith, HasNoHead, IsHeadIncomplete}
 use Rattle.wire.specs.Lengths.{NamedValue, body_length}
 use Rattle.wire.specs.Origins.{is_foreign}
 use Rattle.wire.specs.Targets.{named_by}
@@ -36,9 +37,9 @@ pub data ShowEntry : Type 0 where
   page : PageEntry → ShowEntry
   has_left : ShowEntry
 
-abbrev pub show_entry : Show → ShowEntry
+abbrev pub show_entry : FixedPage → ShowEntry
 show_entry (Page its) = page (page_entry its)
-show_entry Left = has_left
+show_entry SignedOut = has_left
 
 -- What is asked: nothing, since it is rejected; to be shown something for a clerk, for the office or in public; to keep a clerk's keying of a batch; to read; or to follow
 -- an order of the office.
@@ -54,7 +55,7 @@ pub data HttpRequestEntry : Type 0 where
 -- what a request asks that was read
 abbrev pub http_request_entry : HttpRequest → HttpRequestEntry
 http_request_entry (Denied why) = denied why
-http_request_entry (Shown clerk show) = shown clerk (show_entry show)
+http_request_entry (ClerkPage clerk show) = shown clerk (show_entry show)
 http_request_entry (Keying k) = keying k.clerk k.batch (record { id = string_bytes k.id; round = k.round; papers = map string_bytes k.papers.items })
 http_request_entry (Reads what) = reading what
 http_request_entry (ConsolePage show) = console (show_entry show)
@@ -113,13 +114,13 @@ let_in (Some why) method there = Err why
 let_in None method there = asked_for method there
 
 -- what is asked for after the gate: nothing if authentication failed there, whatever the target names
-abbrev pub wanted_behind : Option GateEntry → Option PublicEntry → List NamedValue → List ℕ → List ℕ → Result Target RequestError
-wanted_behind gate hall fields method target = let_in (kept_out gate (account_at gate target) fields) method (served_at gate hall (named_by target))
+abbrev pub wanted_after : Option GateEntry → Option PublicEntry → List NamedValue → List ℕ → List ℕ → Result Target RequestError
+wanted_after gate hall fields method target = let_in (authentication_failure gate (account_at gate target) fields) method (served_at gate hall (named_by target))
 
 -- what is asked for by a request with these header fields: nothing by a foreign one
 abbrev pub wanted_by : Bool → Option GateEntry → Option PublicEntry → List NamedValue → List ℕ → List ℕ → Result Target RequestError
 wanted_by true gate hall fields method target = Err Forbidden
-wanted_by false gate hall fields method target = wanted_behind gate hall fields method target
+wanted_by false gate hall fields method target = wanted_after gate hall fields method target
 
 abbrev pub wanted : HttpSettingsEntry → List NamedValue → List ℕ → List ℕ → Result Target RequestError
 wanted settings fields method target = wanted_by (is_foreign settings.origin fields) settings.gate settings.public fields method target
@@ -178,11 +179,11 @@ DeniesForeign settings bytes =
     → (asked : HttpRequestEntry) → Asks settings bytes asked → asked ≡ denied Forbidden
 
 -- Every other one asks what its target names, whatever origin the settings have, unless authentication fails at the gate.
-abbrev pub TakesOwn : HttpSettingsEntry → List ℕ → Type 0
-TakesOwn settings bytes =
+abbrev pub DependsOnOwnBytes : HttpSettingsEntry → List ℕ → Type 0
+DependsOnOwnBytes settings bytes =
     (head : RequestHead) (behind : List ℕ) → BeginsWith bytes head behind → is_foreign settings.origin (map name_and_value head.fields) ≡ false
     → (asked : HttpRequestEntry) → Asks settings bytes asked
-    → asked ≡ asked_of settings.gate settings.public (wanted_behind settings.gate settings.public (map name_and_value head.fields) head.method head.target)
+    → asked ≡ asked_of settings.gate settings.public (wanted_after settings.gate settings.public (map name_and_value head.fields) head.method head.target)
     (body_length (map name_and_value head.fields)) behind
 
 -- the clerk under whose number something is asked: the page, signing out, a keying, the work, or the candidates of a batch
@@ -252,8 +253,8 @@ abbrev pub MissesAt : HttpSettingsEntry → List ℕ → List HeaderSpan → Req
 MissesAt settings got headers spans more = MissesFound settings got headers spans (drop spans.len got ++ more)
 
 -- What was read doesn't say yet what is asked: it has no complete head yet, or the head of a keying or an order whose body isn't complete.
-abbrev pub IsWanting : HttpSettingsEntry → List ℕ → Type 0
-IsWanting settings got = IsHeadWanting got ⊎ ((head : RequestHead) × (behind : List ℕ) × BeginsWith got head behind × MissesBehind settings head behind)
+abbrev pub IsIncomplete : HttpSettingsEntry → List ℕ → Type 0
+IsIncomplete settings got = IsHeadIncomplete got ⊎ ((head : RequestHead) × (behind : List ℕ) × BeginsWith got head behind × MissesBehind settings head behind)
 
 -- something was read for which P holds, and of known bytes exactly that
 abbrev pub HasRead : Option (List ℕ) → Option (List ℕ) → (List ℕ → Type 0) → Type 0

@@ -20,14 +20,14 @@ use Rattle.tables.specs.declared.fault.Fault.TheVariants.{Closed, Store}
 use Rattle.office.specs.Answers.{IsClosedIn, IsKeptOpen, IsOpenAt, Told, again, done, no, told_of}
 use Rattle.store.specs.EarlierKeyings.{KeyedRoundEntry}
 use Rattle.store.specs.Overviews.{WardView}
-use Rattle.office.specs.Index.{index_told}
-use Rattle.office.specs.Overviews.{batches_told, differences_told, doubtful_told, papers_told, receipts_told, wards_told}
+use Rattle.office.specs.Index.{index_answer}
+use Rattle.office.specs.Overviews.{batches_answer, differences_answer, doubtful_answer, papers_answer, receipts_answer, wards_answer}
 use Rattle.office.specs.EarlierKeyings.{earlier_told}
-use Rattle.office.specs.Reads.{IsClosedReading, paper_told, work_told}
-use Rattle.office.specs.Sheets.{text_told}
-use Rattle.office.specs.declared.answers.Stop.{Stop}
-use Rattle.office.specs.declared.answers.Stop.TheVariants.{Refused, Fault as Failed}
-use Rattle.office.specs.declared.sheets.Text.TheVariants as text
+use Rattle.office.specs.Reads.{IsClosedReading, paper_answer, work_answer}
+use Rattle.office.specs.Sheets.{text_answer}
+use Rattle.office.specs.declared.answers.ReadError.{ReadError}
+use Rattle.office.specs.declared.answers.ReadError.TheVariants.{Refused, Fault as Failed}
+use Rattle.office.specs.declared.sheets.WardText.TheVariants as text
 use Rattle.wire.specs.Requests.{HttpRequestEntry, Asks, ShowEntry, console, denied, keying, order, page, public, reading, shown}
 use Rattle.wire.specs.Bodies.{KeyingEntry}
 use Rattle.wire.specs.Gates.{HttpSettingsEntry, PublicEntry}
@@ -93,26 +93,26 @@ ward_response ward v = found_response v (find (λ (w : WardView). w.ward.number 
 abbrev pub office_response : OfficeState → OfficeRead → ResponseEntry
 office_response s read.Wards = read_response (λ wards. data_response (wards_data wards)) (wards_read_told s)
 office_response s (read.Ward ward) = read_response (ward_response ward) (ward_read_told s ward)
-office_response s (read.Batches ward) = read_response (λ batches. data_response (batches_data ward batches)) (batches_told s ward)
-office_response s (read.Doubtful ward) = read_response (λ papers. data_response (doubtful_papers_data ward papers)) (doubtful_told s ward)
-office_response s (read.Differences batch) = read_response (λ differences. data_response (differences_data batch differences)) (differences_told s batch)
-office_response s (read.Papers batch) = read_response (λ papers. data_response (papers_data batch papers)) (papers_told s batch)
-office_response s (read.Receipts actor) = read_response (λ receipts. data_response (receipts_data receipts)) (receipts_told s actor)
+office_response s (read.Batches ward) = read_response (λ batches. data_response (batches_data ward batches)) (batches_answer s ward)
+office_response s (read.Doubtful ward) = read_response (λ papers. data_response (doubtful_papers_data ward papers)) (doubtful_answer s ward)
+office_response s (read.Differences batch) = read_response (λ differences. data_response (differences_data batch differences)) (differences_answer s batch)
+office_response s (read.Papers batch) = read_response (λ papers. data_response (papers_data batch papers)) (papers_answer s batch)
+office_response s (read.Receipts actor) = read_response (λ receipts. data_response (receipts_data receipts)) (receipts_answer s actor)
 
 -- the response to a read at a state
 abbrev pub reading_response : OfficeState → Resource → ResponseEntry
-reading_response s (Work clerk) = read_response (work_response clerk) (work_told s clerk)
-reading_response s (Candidates clerk batch) = read_response (paper_response batch) (paper_told s clerk batch)
+reading_response s (Work clerk) = read_response (work_response clerk) (work_answer s clerk)
+reading_response s (Candidates clerk batch) = read_response (paper_response batch) (paper_answer s clerk batch)
 reading_response s (Keyed clerk batch) = read_response (earlier_response batch) (earlier_told s clerk batch)
-reading_response s (Sheet ward) = read_response text_response (text_told text.Sheet s ward)
-reading_response s (Declaration ward) = read_response text_response (text_told text.Declaration s ward)
+reading_response s (Sheet ward) = read_response text_response (text_answer text.Sheet s ward)
+reading_response s (Declaration ward) = read_response text_response (text_answer text.Declaration s ward)
 reading_response s (Office its) = office_response s its
 
 -- the response with what is shown in public at a state
 abbrev pub public_response : OfficeState → PublicEntry → PublicTarget → ResponseEntry
-public_response s its public_target.Index = read_response printed_response (index_told its.title s)
+public_response s its public_target.Index = read_response printed_response (index_answer its.title s)
 public_response s its public_target.Screen = shown_response (page its.screen)
-public_response s its public_target.Wards = read_response (λ views. data_response (screen_of its.title views)) (wards_told s)
+public_response s its public_target.Wards = read_response (λ views. data_response (screen_of its.title views)) (wards_answer s)
 public_response s its (public_target.Page ward) = read_response printed_response (page_told its.title s ward)
 
 -- the request as which a clerk's keying of a batch is sent to the office
@@ -171,7 +171,7 @@ abbrev pub Readies : OfficeState → HttpRequestEntry → Response → Bool → 
 Readies s asked response closed st = (answer : ResponseEntry) × IsTold answer response × Leaves s asked answer closed st
 
 -- a response that is ready has the result of a read, seen through a view
-abbrev pub IsReadTold : {X Y : Type 0} → (X → ResponseEntry) → (Y → X) → Result Y Stop → Response → Type 0
+abbrev pub IsReadTold : {X Y : Type 0} → (X → ResponseEntry) → (Y → X) → Result Y ReadError → Response → Type 0
 IsReadTold entry view (Ok y) response = IsTold (entry (view y)) response
 IsReadTold entry view (Err (Refused why)) response = IsTold (refused_for why) response
 IsReadTold entry view (Err (Failed f)) response = IsTold (fault_response (fault_number f)) response

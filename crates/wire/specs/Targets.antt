@@ -127,5 +127,5 @@ IsTargetOf (Resource (Reads read)) target = IsReadTarget read target
 IsTargetOf (Resource (Declaration ward)) target = (w : List ℕ) × (target ≡ codes "/wards/" ++ (w ++ codes "/result")) × (number_in w ≡ Some ward)
 
 -- a target names exactly what it is the path of, and so no other target names that
-abbrev pub NamesItsOwn : List ℕ → Type 0
-NamesItsOwn target = (there : Target) → (named_by target ≡ Some there) ↔ IsTargetOf there target
+abbrev pub NamesOnlyItsPath : List ℕ → Type 0
+NamesOnlyItsPath target = (there : Target) → (named_by target ≡ Some there) ↔ IsTargetOf there target

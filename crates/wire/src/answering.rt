@@ -24,7 +24,7 @@ use crate::response::{Content, Response};
 use crate::target::Resource;
 use crate::work::work_body;
 use http::StatusCode;
-use office::{Answer, Office, Stop};
+use office::{Answer, Office, ReadError};
 use register::{BallotPaper, Command, KeyingCommand, Work};
 use sqlite::Alter;
 use std::alloc::Global;
@@ -68,18 +68,18 @@ pub fn answer_keying<S: Alter>(alloc: Global, office: &mut Office<S>, keying: Ke
 }
 
 /// Returns the response with a ward's stage sheet or declaration, or with the refusal or fault.
-fn answer_text(alloc: Global, told: Result<String, Stop>) -> Response
+fn answer_text(alloc: Global, told: Result<String, ReadError>) -> Response
     ensures { IsReadTold text_response string_bytes told result }
 {
     match told {
         Ok(text) => Response::made(alloc, StatusCode::OK, Content::Text, Ok(text)),
-        Err(Stop::Refused(why)) => refused(alloc, &why),
-        Err(Stop::Fault(fault)) => faulted(alloc, fault),
+        Err(ReadError::Refused(why)) => refused(alloc, &why),
+        Err(ReadError::Fault(fault)) => faulted(alloc, fault),
     }
 }
 
 /// Returns the response with a clerk's work, or with the refusal or fault.
-fn answer_work(alloc: Global, clerk: u32, told: Result<Vec<Work>, Stop>) -> Response
+fn answer_work(alloc: Global, clerk: u32, told: Result<Vec<Work>, ReadError>) -> Response
     ensures { IsReadTold (work_response clerk) (λ work. map work_entry work.items) told result }
 {
     match told {
@@ -87,13 +87,13 @@ fn answer_work(alloc: Global, clerk: u32, told: Result<Vec<Work>, Stop>) -> Resp
             let body = work_body(alloc, clerk, &work);
             Response::made(alloc, StatusCode::OK, Content::Json, body)
         }
-        Err(Stop::Refused(why)) => refused(alloc, &why),
-        Err(Stop::Fault(fault)) => faulted(alloc, fault),
+        Err(ReadError::Refused(why)) => refused(alloc, &why),
+        Err(ReadError::Fault(fault)) => faulted(alloc, fault),
     }
 }
 
 /// Returns the response with the candidates of a batch, or with the refusal or fault.
-fn answer_paper(alloc: Global, batch: u32, told: Result<BallotPaper, Stop>) -> Response
+fn answer_paper(alloc: Global, batch: u32, told: Result<BallotPaper, ReadError>) -> Response
     ensures { IsReadTold (paper_response batch) paper_entry told result }
 {
     match told {
@@ -101,8 +101,8 @@ fn answer_paper(alloc: Global, batch: u32, told: Result<BallotPaper, Stop>) -> R
             let body = paper_body(alloc, batch, &paper);
             Response::made(alloc, StatusCode::OK, Content::Json, body)
         }
-        Err(Stop::Refused(why)) => refused(alloc, &why),
-        Err(Stop::Fault(fault)) => faulted(alloc, fault),
+        Err(ReadError::Refused(why)) => refused(alloc, &why),
+        Err(ReadError::Fault(fault)) => faulted(alloc, fault),
     }
 }
 
@@ -142,7 +142,7 @@ pub(crate) fn answer<S: Alter>(
 {
     match asked {
         HttpRequest::Denied(why) => Response::denied(alloc, why),
-        HttpRequest::Shown(_, show) => Response::shown(alloc, show),
+        HttpRequest::ClerkPage(_, show) => Response::shown(alloc, show),
         HttpRequest::Keying(keying) => answer_keying(alloc, office, keying),
         HttpRequest::Resource(what) => answer_reading(alloc, office, what),
         HttpRequest::ConsolePage(show) => Response::shown(alloc, show),

@@ -3,7 +3,8 @@
 ghost use Rattle.std.specs.Prelude.{◌≡◌, List, length, map, option_map};
 ghost use Rattle.std.specs.List.{All};
 ghost use Rattle.httparse.specs.Spans.{IsHeaderWithin, header_bytes};
-ghost use Rattle.wire.specs.Gates.{account_at, authentication_by, authentication_entry, clerk_under, gate_entry, has_code, is_wrong_code, kept_out, kept_out_by, sent_codes};
+ghost use Rattle.wire.specs.Gates.{account_at, authentication_by, authentication_entry, clerk_under, gate_entry, has_code, is_wrong_code};
+ghost use Rattle.wire.specs.Gates.{authentication_failure, authentication_failure_by, sent_codes};
 ghost use Rattle.wire.specs.Lengths.{NamedValue};
 
 use crate::account::Account;
@@ -71,14 +72,14 @@ fn has_code(gate: Gate<'_>, account: Account, value: &[u8]) -> bool
 }
 
 /// Returns why authentication failed, by the header fields, whose names and values are in a buffer; `None` if it succeeded.
-fn kept_out_by(
+fn authentication_failure_by(
     gate: Gate<'_>,
     account: Account,
     buffer: &[u8],
     headers: &[HeaderSpan],
 ) -> Option<RequestError>
     requires { All (IsHeaderWithin (length buffer.now)) headers.now }
-    ensures { result ≡ kept_out_by (gate_entry gate.entry) account (sent_codes (map (header_bytes buffer.now) headers.now)) }
+    ensures { result ≡ authentication_failure_by (gate_entry gate.entry) account (sent_codes (map (header_bytes buffer.now) headers.now)) }
 {
     match value_of(buffer, headers, b"authorization") {
         Ok(Some(value)) => {
@@ -94,18 +95,18 @@ fn kept_out_by(
 }
 
 /// Returns why authentication failed at the gate, by the account whose code the target needs, if it needs one.
-pub(crate) fn kept_out(
+pub(crate) fn authentication_failure(
     gate: Option<Gate<'_>>,
     account: Option<Account>,
     buffer: &[u8],
     headers: &[HeaderSpan],
 ) -> Option<RequestError>
     requires { All (IsHeaderWithin (length buffer.now)) headers.now }
-    ensures { result ≡ kept_out (option_map gate_entry gate.entry) account (map (header_bytes buffer.now) headers.now) }
+    ensures { result ≡ authentication_failure (option_map gate_entry gate.entry) account (map (header_bytes buffer.now) headers.now) }
 {
     match gate {
         Some(gate) => match account {
-            Some(account) => kept_out_by(gate, account, buffer, headers),
+            Some(account) => authentication_failure_by(gate, account, buffer, headers),
             None => None,
         },
         None => None,
@@ -130,7 +131,7 @@ pub(crate) fn authentication_by(
     account: Option<Account>,
     why: Option<RequestError>,
 ) -> Option<Authentication>
-    ensures { (fields : List NamedValue) → why ≡ kept_out (option_map gate_entry gate.entry) account fields
+    ensures { (fields : List NamedValue) → why ≡ authentication_failure (option_map gate_entry gate.entry) account fields
         → option_map authentication_entry result ≡ authentication_by (option_map gate_entry gate.entry) account fields }
 {
     match (gate, account) {

@@ -6,7 +6,7 @@ ghost use Rattle.std.specs.Io.KnownBytes.{Consumes};
 ghost use Rattle.serde_json.specs.View.{view, items_view, members_view};
 ghost use Rattle.serde_json.specs.Find.{as_object, as_str};
 ghost use Rattle.wire.specs.Requests.{FailsAfter, HasRead, IsUnread};
-ghost use Rattle.wire.specs.Bodies.{body_entry, body_in, json_in, key_members, keying_of, list_in, round_in, said_by, texts_in};
+ghost use Rattle.wire.specs.Bodies.{body_entry, body_in, json_in, key_members, keying_of, list_in, round_in, keying_from, texts_in};
 
 use crate::read_failure::ReadFailure;
 use serde_json::{Category, Map, Value};
@@ -137,13 +137,13 @@ fn key_members(mut members: Map<String, Value>) -> Option<(Value, Value, Value)>
 }
 
 /// Returns the keying made of three values, if each of them has its type.
-fn said_by(
+fn keying_from(
     alloc: Global,
     id: Value,
     papers: Value,
     round: Value,
 ) -> Result<Option<KeyingBody>, AllocError>
-    ensures { IfOk result (λ found. option_map body_entry found ≡ said_by (view id, view papers, view round)) }
+    ensures { IfOk result (λ found. option_map body_entry found ≡ keying_from (view id, view papers, view round)) }
 {
     let Some(id) = text_in(id) else {
         return Ok(None);
@@ -186,7 +186,7 @@ pub(crate) fn keying_of(alloc: Global, body: &[u8]) -> Result<Option<KeyingBody>
 {
     let value = json_in(alloc, body)?;
     match value.and_then(members_in).and_then(key_members) {
-        Some((id, papers, round)) => said_by(alloc, id, papers, round),
+        Some((id, papers, round)) => keying_from(alloc, id, papers, round),
         None => Ok(None),
     }
 }

@@ -11,7 +11,7 @@ ghost use Rattle.wire.specs.Told.{IsTold};
 use crate::office_responses::{faulted, refused, valued};
 use crate::request_error::RequestError;
 use crate::response::Response;
-use office::Stop;
+use office::ReadError;
 use register::KeyedPaper;
 use serde_json::{Value, json};
 use std::alloc::{AllocError, Global};
@@ -57,13 +57,13 @@ fn answer_found(alloc: Global, batch: u32, found: Option<KeyedRound>) -> Respons
 pub(crate) fn answer_earlier(
     alloc: Global,
     batch: u32,
-    told: Result<Option<KeyedRound>, Stop>,
+    told: Result<Option<KeyedRound>, ReadError>,
 ) -> Response
     ensures { IsReadTold (earlier_response batch) (option_map keyed_round_entry) told result }
 {
     match told {
         Ok(found) => answer_found(alloc, batch, found),
-        Err(Stop::Refused(why)) => refused(alloc, &why),
-        Err(Stop::Fault(fault)) => faulted(alloc, fault),
+        Err(ReadError::Refused(why)) => refused(alloc, &why),
+        Err(ReadError::Fault(fault)) => faulted(alloc, fault),
     }
 }

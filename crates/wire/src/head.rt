@@ -4,7 +4,7 @@ ghost use Rattle.std.specs.Prelude.{◌≡◌, ◌+◌, ◌-◌, ◌^◌, ◌<�
 ghost use Rattle.std.specs.Io.KnownBytes.{Consumes};
 ghost use Rattle.httparse.specs.Spans.{IsRequestOf, IsRequestWithin};
 ghost use Rattle.wire.specs.Requests.{HasRead};
-ghost use Rattle.wire.specs.Heads.{HasNoHead, IsHeadWanting};
+ghost use Rattle.wire.specs.Heads.{HasNoHead, IsHeadIncomplete};
 
 use httparse::Status;
 use httparse::spans::{HeaderSpan, RequestSpans, parse_request};
@@ -42,7 +42,7 @@ pub(crate) fn read_head<R: Source>(
     ensures none { IfOk result (λ found. IfNone found (IfSome (R.held reader.old) HasNoHead)) }
     ensures ok { OnOk result (R.failed reader.new ≡ R.failed reader.old) }
     ensures err { OnErr result (R.failed reader.new ≡ R.failed reader.old + 1) }
-    ensures wanting { OnErr result (HasRead (R.held reader.old) (R.held reader.new) IsHeadWanting) }
+    ensures wanting { OnErr result (HasRead (R.held reader.old) (R.held reader.new) IsHeadIncomplete) }
 {
     let mut filled = 0;
     'reading: loop {

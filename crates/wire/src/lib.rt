@@ -85,7 +85,7 @@ pub use serving::{
     Served, respond, serve_one, write_gone_response, write_no_memory_response, write_response,
     write_wait_response,
 };
-pub use settings::{Gate, HttpSettings, Page, Public, Show};
+pub use settings::{FixedPage, Gate, HttpSettings, Page, Public};
 pub use target::{Resource, Routes};
 /// The original name of [`without_settings`].
 pub use without_settings as plain;

@@ -1,7 +1,7 @@
 //! What the officer's console reads, and the target of each read.
 
 ghost use Rattle.std.specs.Prelude.{◌≡◌, ◌≤◌, drop, length};
-ghost use Rattle.wire.specs.OfficeTargets.{actor_in, batch_read, behind_digits, leading_number, numbered_read, of_batch, of_ward, read_by, ward_read};
+ghost use Rattle.wire.specs.OfficeTargets.{actor_in, batch_read, after_digits, leading_number, numbered_read, of_batch, of_ward, read_by, ward_read};
 
 use crate::digits::{digits_length, number_of};
 
@@ -41,8 +41,8 @@ pub(crate) fn leading_number(text: &[u8]) -> Option<u32>
 }
 
 /// Returns what follows the digits with which a text begins.
-pub(crate) fn behind_digits(text: &[u8]) -> &[u8]
-    ensures { result.now ≡ behind_digits text.now }
+pub(crate) fn after_digits(text: &[u8]) -> &[u8]
+    ensures { result.now ≡ after_digits text.now }
 {
     &text[digits_length(text)..]
 }
@@ -81,7 +81,7 @@ fn ward_read(behind: &[u8]) -> Option<OfficeRead>
     ensures { result ≡ ward_read behind.now }
 {
     match leading_number(behind) {
-        Some(ward) => of_ward(behind_digits(behind), ward),
+        Some(ward) => of_ward(after_digits(behind), ward),
         None => None,
     }
 }
@@ -91,7 +91,7 @@ fn batch_read(behind: &[u8]) -> Option<OfficeRead>
     ensures { result ≡ batch_read behind.now }
 {
     match leading_number(behind) {
-        Some(batch) => of_batch(behind_digits(behind), batch),
+        Some(batch) => of_batch(after_digits(behind), batch),
         None => None,
     }
 }

@@ -8,7 +8,9 @@ ghost use Rattle.wire.specs.Completeness.{IsCompletenessOf};
 ghost use Rattle.wire.specs.Parsing.{IsParsed, Says, needed, read_in};
 ghost use Rattle.wire.specs.declared.target.Resource.{Resource};
 
-use crate::authentication::{Authentication, account_at, authentication_by, kept_out};
+use crate::authentication::{
+    Authentication, account_at, authentication_by, authentication_failure,
+};
 use crate::body::{KeyingBody, keying_of};
 use crate::completeness::Completeness;
 use crate::console_order::order_of;
@@ -17,7 +19,7 @@ use crate::length::{MAX_BODY_BYTES, body_length};
 use crate::origin::is_foreign;
 use crate::request::{HttpRequest, Keying, asked_for, console_at, page_at, public_at, served_at};
 use crate::request_error::RequestError;
-use crate::settings::{HttpSettings, Show};
+use crate::settings::{FixedPage, HttpSettings};
 use crate::target::{OfficeTarget, Resource, Routes, Target};
 use httparse::Status;
 use httparse::spans::{EMPTY_HEADER_SPAN, HeaderSpan, RequestSpans, parse_request};
@@ -122,7 +124,7 @@ impl Head {
         }
         let target = spans.path.of(read);
         let account = account_at(settings.gate, target);
-        let why = kept_out(settings.gate, account, read, headers);
+        let why = authentication_failure(settings.gate, account, read, headers);
         let authentication = authentication_by(settings.gate, account, why);
         let wanted = match why {
             Some(why) => Err(why),
@@ -150,10 +152,12 @@ impl Head {
                 keying_in(alloc, clerk, batch, self.body, behind)
             }
             Ok(Target::Page { clerk }) => Ok(page_at(settings.gate, clerk)),
-            Ok(Target::Leave { clerk }) => Ok(HttpRequest::Shown(clerk, Show::Left)),
+            Ok(Target::Leave { clerk }) => Ok(HttpRequest::ClerkPage(clerk, FixedPage::SignedOut)),
             Ok(Target::Resource(what)) => Ok(HttpRequest::Resource(what)),
             Ok(Target::Office(OfficeTarget::ConsolePage)) => Ok(console_at(settings.gate)),
-            Ok(Target::Office(OfficeTarget::Leave)) => Ok(HttpRequest::ConsolePage(Show::Left)),
+            Ok(Target::Office(OfficeTarget::Leave)) => Ok(HttpRequest::ConsolePage(
+                FixedPage::SignedOut,
+            )),
             Ok(Target::Office(OfficeTarget::Orders)) => order_in(alloc, self.body, behind),
             Ok(Target::Public(what)) => Ok(public_at(settings.public, what)),
             Err(why) => Ok(HttpRequest::Denied(why)),

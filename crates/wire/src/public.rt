@@ -20,8 +20,8 @@ use crate::office_responses::{faulted, refused, valued};
 use crate::public_target::PublicTarget;
 use crate::read_responses::phase_word;
 use crate::response::Response;
-use crate::settings::{Public, Show};
-use office::{Office, Stop, Text};
+use crate::settings::{FixedPage, Public};
+use office::{Office, ReadError, WardText};
 use serde_json::{Value, json};
 use sqlite::Alter;
 use std::alloc::{AllocError, Global};
@@ -65,24 +65,24 @@ fn screen_value(alloc: Global, title: &str, wards: &[WardOverview]) -> Result<Va
 }
 
 /// Returns the response with the title and all wards, or with the refusal or fault.
-fn answer_wards(alloc: Global, title: &str, told: Result<Vec<WardOverview>, Stop>) -> Response
+fn answer_wards(alloc: Global, title: &str, told: Result<Vec<WardOverview>, ReadError>) -> Response
     ensures { IsReadTold (λ views. data_response (screen_of title.now views)) (λ wards. map ward_view wards.items) told result }
 {
     match told {
         Ok(wards) => valued(alloc, screen_value(alloc, title, &wards)),
-        Err(Stop::Refused(why)) => refused(alloc, &why),
-        Err(Stop::Fault(fault)) => faulted(alloc, fault),
+        Err(ReadError::Refused(why)) => refused(alloc, &why),
+        Err(ReadError::Fault(fault)) => faulted(alloc, fault),
     }
 }
 
 /// Returns the response with a page that an order prints, or with the refusal or fault.
-fn answer_printed(alloc: Global, told: Result<String, Stop>) -> Response
+fn answer_printed(alloc: Global, told: Result<String, ReadError>) -> Response
     ensures { IsReadTold printed_response string_bytes told result }
 {
     match told {
         Ok(text) => Response::printed(alloc, text.as_str()),
-        Err(Stop::Refused(why)) => refused(alloc, &why),
-        Err(Stop::Fault(fault)) => faulted(alloc, fault),
+        Err(ReadError::Refused(why)) => refused(alloc, &why),
+        Err(ReadError::Fault(fault)) => faulted(alloc, fault),
     }
 }
 
@@ -101,10 +101,10 @@ pub(crate) fn answer_public<S: Alter>(
 {
     match what {
         PublicTarget::Index => answer_printed(alloc, office.index(shown.title)),
-        PublicTarget::Screen => Response::shown(alloc, Show::Page(shown.screen)),
+        PublicTarget::Screen => Response::shown(alloc, FixedPage::Page(shown.screen)),
         PublicTarget::Wards => answer_wards(alloc, shown.title, office.wards()),
         PublicTarget::Page { ward } => {
-            answer_printed(alloc, office.text(ward, Text::Page(shown.title)))
+            answer_printed(alloc, office.text(ward, WardText::Page(shown.title)))
         }
     }
 }

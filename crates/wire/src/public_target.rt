@@ -1,9 +1,9 @@
 //! What is shown in public, and its targets.
 
 ghost use Rattle.std.specs.Prelude.{◌≡◌};
-ghost use Rattle.wire.specs.PublicTargets.{page_behind, public_by, ward_page_by};
+ghost use Rattle.wire.specs.PublicTargets.{page_after_prefix, public_by, ward_page_by};
 
-use crate::office_read::{behind_digits, leading_number};
+use crate::office_read::{after_digits, leading_number};
 
 /// The prefix of the target of a ward's page.
 const WARDS: &[u8] = b"/wards/";
@@ -22,10 +22,10 @@ pub enum PublicTarget {
 }
 
 /// Returns the page of a ward, by what follows its prefix.
-fn page_behind(behind: &[u8]) -> Option<PublicTarget>
-    ensures { result ≡ page_behind behind.now }
+fn page_after_prefix(behind: &[u8]) -> Option<PublicTarget>
+    ensures { result ≡ page_after_prefix behind.now }
 {
-    if behind_digits(behind) == "/page".as_bytes() {
+    if after_digits(behind) == "/page".as_bytes() {
         return match leading_number(behind) {
             Some(ward) => Some(PublicTarget::Page { ward }),
             None => None,
@@ -39,7 +39,7 @@ fn ward_page_by(target: &[u8]) -> Option<PublicTarget>
     ensures { result ≡ ward_page_by target.now }
 {
     if target.starts_with(WARDS) {
-        return page_behind(&target[WARDS.len()..]);
+        return page_after_prefix(&target[WARDS.len()..]);
     }
     None
 }

@@ -1,12 +1,12 @@
 //! What a request asks.
 
 ghost use Rattle.std.specs.Prelude.{◌≡◌, ◌≢◌, ◌-◌, ◌^◌, ◌<◌, ◌++◌, IfErr, IfOk, IfSome, List, Ok, OnOk, option_map, ℕ};
-ghost use Rattle.wire.specs.Requests.{Asks, AsksByHolder, AsksOneThing, ShowEntry, DeniesForeign, FailsAfter, IsUnread, IsWanting};
-ghost use Rattle.wire.specs.Requests.{MissesBytes, TakesOwn, http_request_entry, asked_for, asked_of, console_at, page_at, public_at, verb_of, verb_text};
-ghost use Rattle.wire.specs.Gates.{GateEntry, HttpSettingsEntry, gate_entry, let_through, needs_public, public_entry};
+ghost use Rattle.wire.specs.Requests.{Asks, AsksByHolder, AsksOneThing, ShowEntry, DeniesForeign, FailsAfter, IsUnread, IsIncomplete};
+ghost use Rattle.wire.specs.Requests.{MissesBytes, DependsOnOwnBytes, http_request_entry, asked_for, asked_of, console_at, page_at, public_at, verb_of, verb_text};
+ghost use Rattle.wire.specs.Gates.{GateEntry, HttpSettingsEntry, gate_entry, served_with_gate, needs_public, public_entry};
 ghost use Rattle.wire.specs.Gates.{settings_entry, needs_gate, needs_office, reading_needs_gate, reading_needs_office, served_at};
 ghost use Rattle.wire.specs.PublicRequests.{AsksInPublic};
-ghost use Rattle.wire.specs.Targets.{NamesItsOwn, named_by};
+ghost use Rattle.wire.specs.Targets.{NamesOnlyItsPath, named_by};
 ghost use Rattle.wire.specs.Serving.{IsConsoleAlike, IsDeniedAlike, IsShownAlike};
 ghost use Rattle.wire.specs.declared.request_error.RequestError.{RequestError};
 
@@ -17,7 +17,7 @@ use crate::parsed::Head;
 use crate::public_target::PublicTarget;
 use crate::read_failure::ReadFailure;
 use crate::request_error::{RequestError, Verb};
-use crate::settings::{Gate, HttpSettings, Public, Show};
+use crate::settings::{FixedPage, Gate, HttpSettings, Public};
 use crate::target::{OfficeTarget, Resource, Routes, Target};
 use httparse::spans::EMPTY_HEADER_SPAN;
 use std::alloc::Global;
@@ -40,13 +40,13 @@ pub enum HttpRequest<'a> {
     /// Nothing. The request is rejected, and the office isn't asked.
     Denied(RequestError),
     /// To show a clerk the keying page, which is the same at every state of the office.
-    Shown(u32, Show<'a>),
+    ClerkPage(u32, FixedPage<'a>),
     /// To keep a clerk's keying.
     Keying(Keying),
     /// To read a resource.
     Resource(Resource),
     /// To show the office its console, or that it is signed out.
-    ConsolePage(Show<'a>),
+    ConsolePage(FixedPage<'a>),
     /// To follow an order of the office.
     Order(ConsoleOrder),
     /// To show something in public.
@@ -138,8 +138,8 @@ impl Target {
 }
 
 /// Returns what a target names, if it is served with this gate, or without a gate.
-fn let_through(gate: Option<Gate<'_>>, routes: &Routes, target: &[u8]) -> Option<Target>
-    ensures { result ≡ let_through (option_map gate_entry gate.entry) (named_by target.now) }
+fn served_with_gate(gate: Option<Gate<'_>>, routes: &Routes, target: &[u8]) -> Option<Target>
+    ensures { result ≡ served_with_gate (option_map gate_entry gate.entry) (named_by target.now) }
 {
     let there = routes.named_by(target)?;
     let is_served = match gate {
@@ -157,7 +157,7 @@ pub(crate) fn served_at(
 ) -> Option<Target>
     ensures { result ≡ served_at (settings_entry settings.entry).gate (settings_entry settings.entry).public (named_by target.now) }
 {
-    let there = let_through(settings.gate, routes, target)?;
+    let there = served_with_gate(settings.gate, routes, target)?;
     if there.needs_public() && settings.public.is_none() {
         return None;
     }
@@ -184,7 +184,7 @@ pub(crate) fn page_at<'a>(gate: Option<Gate<'a>>, clerk: u32) -> HttpRequest<'a>
     ensures { http_request_entry result ≡ page_at (option_map gate_entry gate.entry) clerk }
 {
     match gate {
-        Some(gate) => HttpRequest::Shown(clerk, Show::Page(gate.page)),
+        Some(gate) => HttpRequest::ClerkPage(clerk, FixedPage::Page(gate.page)),
         None => HttpRequest::Denied(RequestError::NotFound),
     }
 }
@@ -194,7 +194,7 @@ pub(crate) fn console_at<'a>(gate: Option<Gate<'a>>) -> HttpRequest<'a>
     ensures { http_request_entry result ≡ console_at (option_map gate_entry gate.entry) }
 {
     match gate {
-        Some(gate) => HttpRequest::ConsolePage(Show::Page(gate.console)),
+        Some(gate) => HttpRequest::ConsolePage(FixedPage::Page(gate.console)),
         None => HttpRequest::Denied(RequestError::NotFound),
     }
 }
@@ -210,7 +210,7 @@ pub(crate) fn public_at<'a>(public: Option<Public<'a>>, what: PublicTarget) -> H
 }
 
 /// Reads the rest of a request whose head was parsed and is followed by these bytes, and returns what the request asks.
-fn read_behind<'a, R: Source>(
+fn read_body_after<'a, R: Source>(
     alloc: Global,
     settings: HttpSettings<'a>,
     reader: &mut R,
@@ -248,7 +248,7 @@ fn read_from_head<'a, R: Source>(
     ensures asks { IfSome (R.held reader.old) (λ bytes. IfOk result (λ asked. Asks (settings_entry settings.entry) bytes (http_request_entry asked))) }
     ensures ok { OnOk result (R.failed reader.new ≡ R.failed reader.old) }
     ensures err { IfErr result (IsUnread (R.failed reader.old) (R.failed reader.new)) }
-    ensures wanting { IfErr result (FailsAfter (R.held reader.old) (R.held reader.new) (IsWanting (settings_entry settings.entry))) }
+    ensures wanting { IfErr result (FailsAfter (R.held reader.old) (R.held reader.new) (IsIncomplete (settings_entry settings.entry))) }
 {
     let mut buffer = [0; MAX_HEAD_BYTES];
     let mut headers = [EMPTY_HEADER_SPAN; MAX_HEADERS];
@@ -258,7 +258,7 @@ fn read_from_head<'a, R: Source>(
     let routes = Routes::new(alloc)?;
     let read = &buffer[..front.filled];
     let head = Head::found(settings, &routes, read, &headers, front.spans);
-    read_behind(alloc, settings, reader, &head, &read[front.spans.len..])
+    read_body_after(alloc, settings, reader, &head, &read[front.spans.len..])
 }
 
 /// Reads a request, and returns what it asks, by the settings: the origin of pages that come through a proxy, the gate, and what is
@@ -269,7 +269,7 @@ fn read_from_head<'a, R: Source>(
 /// with that clerk's code; and one whose target begins with `/office/` only with the office's, if the office has one. Otherwise it
 /// is `Unauthorized`, or a `WrongCode`, whatever else it asks. So what is asked under a clerk's number is asked by the holder of
 /// that clerk's code, and what is asked of the console by the holder of the office's. Every other request needs no such check.
-/// The response to a rejected request is the same at every state of the office, and so is what is `Shown`, and the `ConsolePage`.
+/// The response to a rejected request is the same at every state of the office, and so is what is `ClerkPage`, and the `ConsolePage`.
 /// What is shown in public needs no code, and is there only if the settings have it.
 ///
 /// `Broken` comes only from the source, which then counts one failure more. It comes only while what was read doesn't say yet
@@ -288,16 +288,16 @@ pub fn read_request<'a, R: Source>(
     ensures asks { IfSome (R.held reader.old) (λ bytes. IfOk result (λ asked. Asks (settings_entry settings.entry) bytes (http_request_entry asked))) }
     ensures ok { OnOk result (R.failed reader.new ≡ R.failed reader.old) }
     ensures err { IfErr result (IsUnread (R.failed reader.old) (R.failed reader.new)) }
-    ensures wanting { IfErr result (FailsAfter (R.held reader.old) (R.held reader.new) (IsWanting (settings_entry settings.entry))) }
+    ensures wanting { IfErr result (FailsAfter (R.held reader.old) (R.held reader.new) (IsIncomplete (settings_entry settings.entry))) }
     ensures one { (bytes : List ℕ) → AsksOneThing (settings_entry settings.entry) bytes }
     ensures foreign { (its : HttpSettingsEntry) (bytes : List ℕ) → DeniesForeign its bytes }
-    ensures others { (its : HttpSettingsEntry) (bytes : List ℕ) → TakesOwn its bytes }
+    ensures others { (its : HttpSettingsEntry) (bytes : List ℕ) → DependsOnOwnBytes its bytes }
     ensures held { (its : HttpSettingsEntry) (bytes : List ℕ) → AsksByHolder its bytes }
     ensures alike { (why : RequestError) → IsDeniedAlike why }
     ensures shown { (show : ShowEntry) → IsShownAlike show }
     ensures console { (show : ShowEntry) → IsConsoleAlike show }
     ensures public { (its : HttpSettingsEntry) (bytes : List ℕ) → AsksInPublic its bytes }
-    ensures targets { (target : List ℕ) → NamesItsOwn target }
+    ensures targets { (target : List ℕ) → NamesOnlyItsPath target }
 {
     read_from_head(alloc, settings, reader)
 }

@@ -10,7 +10,7 @@ ghost use Rattle.wire.specs.Responses.{media_type, nothing, order_response, phra
 use crate::account::Account;
 use crate::bodies::order_body;
 use crate::request_error::{RequestError, Verb};
-use crate::settings::{Page, Show};
+use crate::settings::{FixedPage, Page};
 use http::StatusCode;
 use std::alloc::{AllocError, Global};
 
@@ -80,7 +80,7 @@ const OUTPUT_FAILED: &str =
     "HTTP/1.1 503 Service Unavailable\r\nContent-Type: application/json\r\nContent-Length: 13\r\nConnection: close\r\n\r\n{\"fault\":107}";
 
 /// The response to signing out.
-const LEFT: &str =
+const SIGNED_OUT: &str =
     "HTTP/1.1 200 OK\r\nContent-Type: application/json\r\nContent-Length: 13\r\nClear-Site-Data: \"cookies\"\r\nCache-Control: no-store\r\nConnection: close\r\n\r\n{\"left\":true}";
 
 /// The response to a request without a code, or with a wrong one.
@@ -244,7 +244,7 @@ fn unauthorized_text(alloc: Global, account: Account) -> Result<String, AllocErr
 
 /// Returns the response that is a page.
 fn page_response_text(alloc: Global, page: Page<'_>) -> Result<String, AllocError>
-    ensures { IfOk result (λ text. string_bytes text ≡ response_bytes (shown_response (show_entry (Show.Page page.entry)))) }
+    ensures { IfOk result (λ text. string_bytes text ≡ response_bytes (shown_response (show_entry (FixedPage.Page page.entry)))) }
 {
     let beside = guard_lines(alloc, page.policy)?;
     response_with(
@@ -290,17 +290,17 @@ impl Response {
     {
         Response {
             status: 200,
-            bytes: Bytes::Fixed(LEFT),
+            bytes: Bytes::Fixed(SIGNED_OUT),
         }
     }
 
     /// Returns the response that shows a page, or that somebody is signed out; or the out-of-memory response if the allocation fails.
-    pub(crate) fn shown(alloc: Global, show: Show<'_>) -> Response
+    pub(crate) fn shown(alloc: Global, show: FixedPage<'_>) -> Response
         ensures { IsTold (shown_response (show_entry show.entry)) result }
     {
         match show {
-            Show::Page(page) => Response::of_text(200, page_response_text(alloc, page)),
-            Show::Left => Response::left(),
+            FixedPage::Page(page) => Response::of_text(200, page_response_text(alloc, page)),
+            FixedPage::SignedOut => Response::left(),
         }
     }
 

@@ -5,7 +5,7 @@ ghost use Rattle.sqlite.specs.State.{HasCleanDisk};
 ghost use Rattle.sqlite.specs.Held.{state};
 ghost use Rattle.register.specs.Offices.{OfficeState};
 ghost use Rattle.store.specs.StateTables.{IsAt};
-ghost use Rattle.wire.specs.Requests.{HasRead, IsWanting, http_request_entry};
+ghost use Rattle.wire.specs.Requests.{HasRead, IsIncomplete, http_request_entry};
 ghost use Rattle.wire.specs.Gates.{settings_entry};
 ghost use Rattle.wire.specs.Responses.{fault_response, waits_response};
 ghost use Rattle.wire.specs.Told.{IsTold, IsWritten};
@@ -133,7 +133,7 @@ pub fn serve_one<R: Source, W: Sink, S: Alter>(
     ensures served { HasCleanDisk (state S.Store office.new.held) → office.old.closed ≡ false → (s : OfficeState) → IsAt s (state S.Store office.old.held)
         → Serves (settings_entry settings.entry) (R.held reader.old) (W.taken writer.old) (W.taken writer.new) s result office.new.closed (state S.Store office.new.held) }
     ensures read_failed { OnReadFailed result ((R.failed reader.new ≡ R.failed reader.old + 1) × (writer.new ≡ writer.old) × (office.new ≡ office.old)) }
-    ensures wanting { OnReadFailed result (HasRead (R.held reader.old) (R.held reader.new) (IsWanting (settings_entry settings.entry))) }
+    ensures wanting { OnReadFailed result (HasRead (R.held reader.old) (R.held reader.new) (IsIncomplete (settings_entry settings.entry))) }
     ensures answered { OnAnswered result ((R.failed reader.new ≡ R.failed reader.old) × (W.failed writer.new ≡ W.failed writer.old)) }
     ensures write_failed { OnWriteFailed result ((R.failed reader.new ≡ R.failed reader.old) × (W.failed writer.new ≡ W.failed writer.old + 1)) }
     ensures closed { office.old.closed ≡ true → office.new ≡ office.old }

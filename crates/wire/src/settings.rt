@@ -36,9 +36,9 @@ pub struct HttpSettings<'a> {
 
 /// What is shown to a clerk, to the office or in public, independently of the office's state.
 #[derive(Clone, Copy)]
-pub enum Show<'a> {
+pub enum FixedPage<'a> {
     /// The page on which the clerk keys, the console, or the page for the screen in the hall.
     Page(Page<'a>),
     /// That the clerk or the office is signed out. The browser is to forget the code.
-    Left,
+    SignedOut,
 }

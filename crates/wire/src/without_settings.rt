@@ -5,7 +5,7 @@ ghost use Rattle.sqlite.specs.State.{HasCleanDisk};
 ghost use Rattle.sqlite.specs.Held.{state};
 ghost use Rattle.register.specs.Offices.{OfficeState};
 ghost use Rattle.store.specs.StateTables.{IsAt};
-ghost use Rattle.wire.specs.Requests.{HasRead, IsWanting};
+ghost use Rattle.wire.specs.Requests.{HasRead, IsIncomplete};
 ghost use Rattle.wire.specs.Gates.{no_settings};
 ghost use Rattle.wire.specs.Serving.{OnAnswered, OnReadFailed, OnWriteFailed, Serves, ServesClosed};
 
@@ -30,7 +30,7 @@ pub fn serve_one<R: Source, W: Sink, S: Alter>(
     ensures served { HasCleanDisk (state S.Store office.new.held) → office.old.closed ≡ false → (s : OfficeState) → IsAt s (state S.Store office.old.held)
         → Serves no_settings (R.held reader.old) (W.taken writer.old) (W.taken writer.new) s result office.new.closed (state S.Store office.new.held) }
     ensures read_failed { OnReadFailed result ((R.failed reader.new ≡ R.failed reader.old + 1) × (writer.new ≡ writer.old) × (office.new ≡ office.old)) }
-    ensures wanting { OnReadFailed result (HasRead (R.held reader.old) (R.held reader.new) (IsWanting no_settings)) }
+    ensures wanting { OnReadFailed result (HasRead (R.held reader.old) (R.held reader.new) (IsIncomplete no_settings)) }
     ensures answered { OnAnswered result ((R.failed reader.new ≡ R.failed reader.old) × (W.failed writer.new ≡ W.failed writer.old)) }
     ensures write_failed { OnWriteFailed result ((R.failed reader.new ≡ R.failed reader.old) × (W.failed writer.new ≡ W.failed writer.old + 1)) }
     ensures closed { office.old.closed ≡ true → office.new ≡ office.old }

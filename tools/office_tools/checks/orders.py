@@ -39,7 +39,7 @@ def in_script(order):
     with temporary_folder() as folder:
         office = Office(folder).begin()
         office.write(SCRIPT, [shlex.join(order.example)])
-        return "stands in no script" not in office.run("replay", SCRIPT).err
+        return "can't be used in a script" not in office.run("replay", SCRIPT).err
 
 
 def unlike(place, found, wanted):

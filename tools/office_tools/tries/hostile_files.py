@@ -34,8 +34,8 @@ BEGUN, FRAME = 41, 24 + PAGE
 LENGTHS = [0, 1, 31, 32, BEGUN, BEGUN + 1, 55, 56, 511, 512, 567, 568, FRAME + 31, FRAME + 32, 3 * PAGE]
 FAULT_105 = (3, "", "fault 105: wrong database\n")
 STRANGER = 65534
-FOREIGN_LOG = (3, "", "fault 102: store\ntown.db-wal belongs to another account than town.db, and isn't read\n")
-NO_SOCKET = "no socket for orders beside the database: the database belongs to another account\n"
+FOREIGN_LOG = (3, "", "fault 102: store\ntown.db-wal doesn't belong to the owner of town.db, so it isn't read\n")
+NO_SOCKET = "no socket for orders next to the database: the database belongs to another account\n"
 
 
 def kinds(town, chance):

@@ -56,9 +56,9 @@ def key(four, nine, papers):
 def send(four, nine, papers):
     """Both send: a line breaks once the keying was kept, and the server is gone when the other sends. Each is kept as it was typed."""
     four.evening.line.cuts = 1
-    four.keys("s").shows("doesn\u2019t answer", "said").pictured("unanswered").shows("batch 12 round 1 keyed", "said")
+    four.keys("s").shows("is not responding", "said").pictured("unanswered").shows("batch 12 round 1 keyed", "said")
     four.evening.server.kill()
-    nine.keys("s").shows("doesn\u2019t answer", "said").reload()
+    nine.keys("s").shows("is not responding", "said").reload()
     nine.evening.start()
     nine.reload()
     nine.shows("batch 12 round 1 keyed", "said")

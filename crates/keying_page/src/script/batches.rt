@@ -78,7 +78,7 @@ const refreshLater = (shown, text) => {
 
 const showBatches = async (list, said) => {
   const turn = turns;
-  const text = told([said, list.length ? '' : 'No batch is given to you now.']);
+  const text = told([said, list.length ? '' : 'You have no batches at the moment.']);
   const draw = () => showList([...list.map(entryOf), ...leftOver(list).map(leftEntry)], text);
   draw();
   const isNamed = await nameWards(list);
@@ -93,10 +93,10 @@ const showStart = (work) => {
   at('start-batch').textContent = work.batch;
   at('anew').hidden = work.round === 1;
   at('anew').textContent = earlier
-    ? `This is a new round. Go through your own keying of round ${earlier.round}: the page shows it paper by paper. Press Enter only if the paper says just that. If it doesn\u2019t, mend it.`
-    : 'This is a new round. Key every paper anew, from the paper.';
+    ? `This is a new round. Go through your own keying of round ${earlier.round}: the page shows it paper by paper. Press Enter only if the paper says just that. If it doesn\u2019t, correct it.`
+    : 'This is a new round. Key every paper again, from the paper itself.';
   at('through').hidden = !earlier;
-  at('begin').textContent = earlier ? 'Key every paper anew' : 'Begin (Enter)';
+  at('begin').textContent = earlier ? 'Key every paper again' : 'Begin (Enter)';
   at('begin').className = earlier ? '' : 'main';
   show('start', at(earlier ? 'through' : 'begin'));
 };

@@ -24,7 +24,7 @@ at('out').addEventListener('close', () => { if (view === 'papers') putCursor(); 
 at('go').addEventListener('keydown', (event) => {
   const {value} = at('go');
   event.stopPropagation();
-  if (event.key === 'Enter') take(() => (/^[1-9][0-9]*$/.test(value) && value <= count() ? goTo(value - 1) : 'That is no number of a paper.'));
+  if (event.key === 'Enter') take(() => (/^[1-9][0-9]*$/.test(value) && value <= count() ? goTo(value - 1) : 'There is no paper with that number.'));
   if (event.key === 'Escape') showPapers();
 });
 
@@ -55,7 +55,7 @@ addEventListener('focus', () => {
   if (isForPaper()) putCursor();
 });
 addEventListener('beforeunload', (event) => { if (draft && !keeps) event.preventDefault(); });
-// Nobody finds a clerk's papers by the browser's button Back.
+// The browser's button Back can't bring a clerk's papers back.
 addEventListener('pagehide', () => document.body.replaceChildren());
 addEventListener('pageshow', ({persisted}) => { if (persisted) location.reload(); });
 

@@ -38,7 +38,7 @@ const take = (act) => {
 const askPaper = () => at('go').focus();
 
 const askTakeOut = () => {
-  at('out-text').textContent = `Take paper ${paper()} out? Each paper behind it moves up by one.`;
+  at('out-text').textContent = `Remove paper ${paper()}? Each later paper moves up by one.`;
   at('out').showModal();
   at('out-no').focus();
 };
@@ -86,7 +86,7 @@ const isLost = ({key}) => view === 'papers' && !at('out').open && document.activ
 const onLostKey = (event) => {
   event.preventDefault();
   putCursor();
-  refuse('The cursor wasn\u2019t in the paper, so that key is lost. Now it is there.');
+  refuse('The cursor wasn\u2019t in the paper, so that key had no effect. It is in the paper now.');
 };
 
 const backToPapers = (text) => {

@@ -10,7 +10,7 @@ let candidates = [];
 let pending = null;
 // A key was pressed after the last candidate, so the paper must be checked again.
 let extra = false;
-// The last key was a mark, and the cursor went on by itself.
+// The last key was a mark, and the cursor moved by itself.
 let wentOn = false;
 
 const width = () => draft.columns.length;
@@ -21,7 +21,7 @@ const isBehind = () => row().column === width();
 // How many papers there are to key: too many only until one is taken out.
 const count = () => Math.max(draft.size, draft.rows.length);
 
-// Behind each of these nothing is half keyed any more.
+// After each of these no number is half typed.
 const settle = () => { pending = null; extra = false; wentOn = false; };
 
 const write = (column, mark) => {
@@ -36,7 +36,7 @@ const refuseBehind = () => {
   extra = true;
   return row().state === KEYED
     ? `Paper ${paper()} is keyed. Arrows go to a mark; Delete empties the paper.`
-    : `Paper ${paper()} is at its end, and another key came. Look at the paper again. Backspace takes that key back.`;
+    : `Paper ${paper()} is at its end, and another key came. Look at the paper again. Backspace undoes that key.`;
 };
 
 // Enters a mark for the candidate at the cursor, or none, and moves the cursor on.
@@ -70,7 +70,7 @@ const jump = (digits) => {
 const digit = (key) => {
   const digits = pending.digits + key;
   if (pending.what === 'candidate') return jump(digits);
-  if (digits === '0') return 'No mark begins with 0.';
+  if (digits === '0') return 'A mark never begins with 0.';
   if (digits.length < 2) {
     pending.digits = digits;
     return undefined;
@@ -89,7 +89,7 @@ const empty = () => {
   draft.rows[draft.at] = {...newRow(draft.columns), was: row().was};
 };
 
-// Before the first key of a paper the last one was Enter: the paper before is open again, as it was.
+// At the start of a paper, Backspace undoes Enter: it reopens the previous paper.
 const reopen = () => {
   if (draft.at === 0 || draft.rows[draft.at - 1].state !== KEYED) return;
   draft.at -= 1;
@@ -142,7 +142,7 @@ const toNext = () => (row().state === BEGUN && firstOpen() === draft.at ? `Paper
 // Finishes a paper and goes to the next; after the last, to the first that was left out.
 const finish = () => {
   if (pending?.what === 'candidate' && pending.digits) return goToCandidate(Number(pending.digits));
-  if (pending) return 'Two digits are wanted. Backspace takes the key back.';
+  if (pending) return 'Type two digits. Backspace undoes the key.';
   if (extra) return refuseBehind();
   if (row().state === NEW) return `Nothing is keyed for paper ${paper()}. Has it no number at all? Then press 0, and Enter.`;
   row().state = KEYED;
@@ -180,7 +180,7 @@ const isDigitKey = (key) => /^[0-9]$/.test(key);
 const press = (key) => {
   wentOn = false;
   if (pending && isDigitKey(key)) return digit(key);
-  if (pending && key.length === 1) return 'A digit is wanted. Backspace takes the key back.';
+  if (pending && key.length === 1) return 'Type a digit. Backspace undoes the key.';
   if (isMarkKey(key)) return mark(key);
   return STEPS[key] ? STEPS[key]() : `The key ${key} means nothing here.`;
 };

@@ -23,23 +23,23 @@ const ask = async (target, body) => {
 
 // What to do about each refusal, by its number, and about each other answer, by its status.
 const AFTER_REFUSAL = {
-  2: 'Press Send once more: the batch goes out under a new id.',
+  2: 'Press Send once more: the batch is sent under a new id.',
   7: 'Compare the number on your pile. If it is right, tell the returning officer.',
   9: 'The ward isn\u2019t being keyed. Tell the returning officer.',
   14: 'The office hasn\u2019t given this batch to your number. Tell the returning officer.',
-  15: 'The batch is in another round. Ask for your batches. If it is in the list, begin it again.',
-  16: 'Your keying of this round is there already. Nothing is left to do.',
+  15: 'The batch is in another round. Ask for your batches. If it is listed, begin it again.',
+  16: 'The office already has your keying of this round. Do nothing.',
   17: 'The batch has another number of papers. Tell the returning officer.',
-  18: 'Look at that paper, and mend it.',
+  18: 'Look at that paper, and correct it.',
 };
 const AFTER_STATUS = {
   401: 'The code is wrong, or none was sent. Try again, and type your number and your code when the browser asks for them.',
   403: 'This page was opened by an address that the office doesn\u2019t know. Open it by the one you were given.',
   429: 'The code is wrong, and very many wrong codes were sent to the office. Wait a minute, try again, and type your number and your code when the browser asks for them.',
 };
-const TELL = 'Tell the returning officer what stands here.';
-const NOBODY = 'The office doesn\u2019t answer.';
-const LATER = 'Ask again in a moment. What you keyed is kept here.';
+const TELL = 'Show this message to the returning officer.';
+const NOBODY = 'The office is not responding.';
+const LATER = 'Try again in a moment. What you keyed is kept here.';
 
 const isRefusal = (answer) => answer?.status === 409 && Number.isInteger(answer.says?.refusal);
 const isFault = (answer) => answer?.status === 503 && Number.isInteger(answer.says?.fault);

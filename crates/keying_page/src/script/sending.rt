@@ -5,7 +5,7 @@ pub(crate) const SENDING: &str = r#"// ---- the end of a batch
 
 const numbersOf = (isMeant) => draft.rows.flatMap((it, index) => (isMeant(it.text, it.was) ? [index + 1] : []));
 
-// How many papers something is so of, and which the first of them are.
+// Counts the papers that match, and lists the first of them.
 const counted = (what, numbers) => {
   const first = numbers.slice(0, 20).join(', ') + (numbers.length > 20 ? ', ..' : '');
   return `${what}: ${papersOf(numbers.length)}${numbers.length ? `, by number ${first}` : ''}`;
@@ -26,7 +26,7 @@ const askToSend = () => {
   at('summary').replaceChildren(
     made('li', {}, counted('Doubtful', numbersOf((text) => text === 'D'))),
     made('li', {}, counted('Without any number', numbersOf((text) => !/[0-9D]/.test(text)))),
-    ...(draft.from ? [made('li', {}, counted('Mended', numbersOf((text, was) => text !== was)))] : []));
+    ...(draft.from ? [made('li', {}, counted('Corrected', numbersOf((text, was) => text !== was)))] : []));
   tries = 0;
   show('end', at('end-title'));
   showEnd('', {sends: true, goesBack: true});
@@ -36,7 +36,7 @@ const askToSend = () => {
 const sendNow = async () => {
   clearTimeout(timer);
   const sent = draft;
-  showEnd('It is being sent.', {sends: false, goesBack: false});
+  showEnd('Sending ..', {sends: false, goesBack: false});
   const {kept, why, isOpen, waits, refusal} = await send();
   if (draft !== sent) return undefined;
   if (kept) return showKept(kept);

@@ -106,7 +106,7 @@ impl<S: Alter> Store<S> {
         Ok(overview_by(batch, clerks, keyings, &verdicts))
     }
 
-    /// Returns the same for a batch of this ward, and nothing for one of another ward.
+    /// Returns the overview of a batch of this ward; `None` for a batch of another ward.
     fn overview_in(
         &mut self,
         batch: Batch,
@@ -158,7 +158,7 @@ impl<S: Alter> Store<S> {
         })
     }
 
-    /// Does the same for batches, one after another.
+    /// Reads batches in order, each as `read_batch` does.
     fn read_batches(&mut self, batches: Vec<Batch>, ward: u32) -> Result<Vec<ReadBatch>, Fault>
         requires { IsOpen S.Store self.old }
         ensures { Loads S.Store self.old self.new result (λ s found. map read_view found.items ≡ map (read_view_of s ward) (map batch_entry batches.items)) }

@@ -42,7 +42,7 @@ impl<S: Alter> Store<S> {
         Ok(ClerkOverview { clerk, keyed })
     }
 
-    /// Does the same for several clerks, one after another.
+    /// Returns the overviews of several clerks, in order.
     pub(crate) fn clerk_overviews(
         &mut self,
         batch: &Batch,

@@ -5,7 +5,7 @@ ghost use Rattle.register.specs.Offices.{batch_entry, keyed_entry};
 ghost use Rattle.register.specs.Agreement.{is_keyed, differ};
 ghost use Rattle.tables.specs.declared.fault.Fault.{Fault};
 ghost use Rattle.store.specs.Keyings.{keyings_by};
-ghost use Rattle.store.specs.Overviews.{has_alike, is_apart, apart_among, papers_apart, differences_view, differences_by, differences_of, differences_at};
+ghost use Rattle.store.specs.Overviews.{has_alike, differs_in, differing_among, differing_papers, differences_view, differences_by, differences_of, differences_at};
 ghost use Rattle.store.specs.Loads.{Loads};
 
 use crate::storage::Store;
@@ -38,24 +38,24 @@ fn has_alike(keyed: &KeyedPaper, keying: &[KeyedPaper]) -> bool
 
 #[tactic(auto, using(crate::proofs::OverviewLemmas::apart_two))]
 /// Returns whether one of the two other keyings, if it is there, has the paper with other marks.
-fn is_apart(keyed: &KeyedPaper, second: &[KeyedPaper], third: &[KeyedPaper]) -> bool
-    ensures { result ≡ is_apart (filter is_keyed (map keyed_entry second.now ∷ map keyed_entry third.now ∷ [])) (keyed_entry keyed.now) }
+fn differs_in(keyed: &KeyedPaper, second: &[KeyedPaper], third: &[KeyedPaper]) -> bool
+    ensures { result ≡ differs_in (filter is_keyed (map keyed_entry second.now ∷ map keyed_entry third.now ∷ [])) (keyed_entry keyed.now) }
 {
     (is_keyed(second) & !has_alike(keyed, second)) | (is_keyed(third) & !has_alike(keyed, third))
 }
 
 /// Returns the numbers of the papers of one keying that one of the two others, if it is there, has with other marks.
-fn apart_among(
+fn differing_among(
     alloc: Global,
     keying: &[KeyedPaper],
     second: &[KeyedPaper],
     third: &[KeyedPaper],
 ) -> Result<Vec<u32>, AllocError>
-    ensures { IfOk result (λ papers. papers.items ≡ apart_among (filter is_keyed (map keyed_entry second.now ∷ map keyed_entry third.now ∷ [])) (map keyed_entry keying.now)) }
+    ensures { IfOk result (λ papers. papers.items ≡ differing_among (filter is_keyed (map keyed_entry second.now ∷ map keyed_entry third.now ∷ [])) (map keyed_entry keying.now)) }
 {
     let mut papers = Vec::new(alloc);
     for keyed in keying {
-        if is_apart(keyed, second, third) {
+        if differs_in(keyed, second, third) {
             papers.push(keyed.paper)?;
         }
     }
@@ -65,8 +65,8 @@ fn apart_among(
 #[tactic(auto, using(crate::proofs::OverviewLemmas::apart_three))]
 /// Returns the numbers of the papers on which these keyings differ: those of the first one there that another one has
 /// with other marks.
-fn papers_apart(alloc: Global, keyings: &Keyings) -> Result<Vec<u32>, AllocError>
-    ensures { IfOk result (λ papers. papers.items ≡ papers_apart (keyings_by keyings.now)) }
+fn differing_papers(alloc: Global, keyings: &Keyings) -> Result<Vec<u32>, AllocError>
+    ensures { IfOk result (λ papers. papers.items ≡ differing_papers (keyings_by keyings.now)) }
 {
     let Keyings {
         first,
@@ -75,9 +75,9 @@ fn papers_apart(alloc: Global, keyings: &Keyings) -> Result<Vec<u32>, AllocError
         ..
     } = keyings;
     if is_keyed(first) {
-        apart_among(alloc, first, second, third)
+        differing_among(alloc, first, second, third)
     } else {
-        apart_among(alloc, second, third, &[])
+        differing_among(alloc, second, third, &[])
     }
 }
 
@@ -86,7 +86,7 @@ fn differences_by(alloc: Global, batch: Batch, keyings: &Keyings) -> Result<Diff
     ensures is { IfOk result (λ found. differences_view found ≡ differences_by (batch_entry batch) (keyings_by keyings.now)) }
     ensures cause { IfErr result (λ f. f ≡ Fault.Memory) }
 {
-    let Ok(papers) = papers_apart(alloc, keyings) else {
+    let Ok(papers) = differing_papers(alloc, keyings) else {
         return Err(Fault::Memory);
     };
     Ok(Differences {

@@ -1,4 +1,4 @@
-//! What is kept in memory of the batches, renewed from the tables.
+//! What is kept in memory of the batches, refreshed from the tables.
 
 ghost use Rattle.std.specs.Prelude.{◌≡◌, map, option_map, string_bytes};
 ghost use Rattle.sqlite.specs.Held.{state};
@@ -7,7 +7,7 @@ ghost use Rattle.store.specs.Overviews.{batch_view};
 ghost use Rattle.store.specs.Loads.{Loads, IsOpen};
 ghost use Rattle.store.specs.Memories.{checksum, known_of, known_view, AreKnown, KnowsAll, StaysKnown};
 
-use crate::memory::{Known, checksum_of, copy_known, known_at, next_place};
+use crate::batch_cache::{CachedBatch, checksum_of, copy_known, known_at, next_place};
 use crate::overviews::batches::BatchOverview;
 use crate::storage::Store;
 use register::Batch;
@@ -15,10 +15,10 @@ use sqlite::Alter;
 use tables::Fault;
 
 /// Returns what is kept of a batch with this overview and, if it is taken, these papers.
-fn known_with(overview: BatchOverview, papers: &Option<String>) -> Known
+fn known_with(overview: BatchOverview, papers: &Option<String>) -> CachedBatch
     ensures { known_view result ≡ record { view = batch_view overview; pile = option_map checksum (option_map string_bytes papers.now) } }
 {
-    Known {
+    CachedBatch {
         overview,
         pile: checksum_of(papers),
     }
@@ -26,7 +26,7 @@ fn known_with(overview: BatchOverview, papers: &Option<String>) -> Known
 
 impl<S: Alter> Store<S> {
     /// Reads what is kept of a batch.
-    fn read_known(&mut self, batch: Batch) -> Result<Known, Fault>
+    fn read_known(&mut self, batch: Batch) -> Result<CachedBatch, Fault>
         ensures { Loads S.Store self.old self.new result (λ s found. known_view found ≡ known_of s (batch_entry batch)) }
     {
         let keyings = self.keyings_of(&batch)?;
@@ -36,7 +36,12 @@ impl<S: Alter> Store<S> {
     }
 
     /// Returns what is kept of a batch, if that is at this place; otherwise reads it.
-    fn known_or_read(&mut self, known: &[Known], place: usize, batch: Batch) -> Result<Known, Fault>
+    fn known_or_read(
+        &mut self,
+        known: &[CachedBatch],
+        place: usize,
+        batch: Batch,
+    ) -> Result<CachedBatch, Fault>
         requires { IsOpen S.Store self.old }
         ensures { Loads S.Store self.old self.new result (λ s found. AreKnown s known.now → known_view found ≡ known_of s (batch_entry batch)) }
     {
@@ -49,8 +54,12 @@ impl<S: Alter> Store<S> {
         }
     }
 
-    /// Does the same for batches in the order of their numbers, one after another.
-    fn all_known(&mut self, known: &[Known], batches: Vec<Batch>) -> Result<Vec<Known>, Fault>
+    /// Returns what is kept of batches in the order of their numbers, and reads those of which nothing is.
+    fn all_known(
+        &mut self,
+        known: &[CachedBatch],
+        batches: Vec<Batch>,
+    ) -> Result<Vec<CachedBatch>, Fault>
         requires { IsOpen S.Store self.old }
         ensures { Loads S.Store self.old self.new result (λ s found. AreKnown s known.now → map known_view found.items ≡ map (known_of s) (map batch_entry batches.items)) }
     {
@@ -67,7 +76,7 @@ impl<S: Alter> Store<S> {
     }
 
     /// Returns what is kept of every batch: what is in memory, or else what is read.
-    fn renewed(&mut self, known: &[Known]) -> Result<Vec<Known>, Fault>
+    fn refreshed(&mut self, known: &[CachedBatch]) -> Result<Vec<CachedBatch>, Fault>
         ensures { Loads S.Store self.old self.new result (λ s found. AreKnown s known.now → KnowsAll s found.items) }
     {
         let batches = self.all_batches()?;
@@ -75,13 +84,13 @@ impl<S: Alter> Store<S> {
         Ok(found)
     }
 
-    /// Renews what is in memory, so that it has every batch. Reads the rows of all batches, and the papers of those that
-    /// aren't in memory.
-    pub(crate) fn renew(&mut self, known: &mut Vec<Known>) -> Result<(), Fault>
-        ensures renews { Loads S.Store self.old self.new result (λ s _. AreKnown s known.old.items → KnowsAll s known.new.items) }
+    /// Refreshes the cache, so that it has every batch. Reads the rows of all batches, and the papers of those that
+    /// aren't in the cache.
+    pub(crate) fn refresh(&mut self, known: &mut Vec<CachedBatch>) -> Result<(), Fault>
+        ensures refreshes { Loads S.Store self.old self.new result (λ s _. AreKnown s known.old.items → KnowsAll s known.new.items) }
         ensures stays { StaysKnown (state S.Store self.old) (state S.Store self.new) known.old.items known.new.items }
     {
-        let found = self.renewed(known)?;
+        let found = self.refreshed(known)?;
         *known = found;
         Ok(())
     }

@@ -1,4 +1,4 @@
-//! The status of a ward, its next step, and the overviews of all wards, by what is kept in memory of all batches.
+//! The status of a ward, its next step, and the overviews of all wards, from the cached batches.
 
 ghost use Rattle.std.specs.Prelude.{◌≡◌, [], ◌∷◌, ◌++◌, List, map, option_map, Some, IfOk};
 ghost use Rattle.sqlite.specs.Held.{state};
@@ -13,7 +13,7 @@ ghost use Rattle.store.specs.Tallies.{IsTally};
 ghost use Rattle.store.specs.Loads.{Loads, IsOpen};
 ghost use Rattle.store.specs.Memories.{AreKnown, KnowsAll, StaysKnown, views_in, views_of, tally_at};
 
-use crate::memory::{Known, copy_overview};
+use crate::batch_cache::{CachedBatch, copy_overview};
 use crate::overviews::batches::{BatchOverview, BatchStanding};
 use crate::overviews::wards::WardOverview;
 use crate::status::{Tally, both};
@@ -27,7 +27,7 @@ use tables::Fault;
 fn put_own(
     alloc: Global,
     found: &mut Vec<BatchOverview>,
-    one: &Known,
+    one: &CachedBatch,
     ward: u32,
 ) -> Result<(), AllocError>
     ensures { IfOk result (λ _. map batch_view found.new.items ≡ map batch_view found.old.items ++ views_in (one.now ∷ []) ward) }
@@ -40,7 +40,11 @@ fn put_own(
 }
 
 /// Returns the overviews of the batches of a ward, without their twins.
-fn overviews_in(alloc: Global, known: &[Known], ward: u32) -> Result<Vec<BatchOverview>, AllocError>
+fn overviews_in(
+    alloc: Global,
+    known: &[CachedBatch],
+    ward: u32,
+) -> Result<Vec<BatchOverview>, AllocError>
     ensures { IfOk result (λ found. map batch_view found.items ≡ views_in known.now ward) }
 {
     let mut found = Vec::new(alloc);
@@ -109,8 +113,8 @@ impl<S: Alter> Store<S> {
         })
     }
 
-    /// Returns the status of a ward, by what is kept of all batches.
-    fn ward_status_by(&mut self, known: &[Known], ward: &Ward) -> Result<Status, Fault>
+    /// Returns the status of a ward, from the cached batches.
+    fn ward_status_by(&mut self, known: &[CachedBatch], ward: &Ward) -> Result<Status, Fault>
         requires { IsOpen S.Store self.old }
         ensures { Loads S.Store self.old self.new result (λ s found. KnowsAll s known.now → status_entry found ≡ status_of s (ward_entry ward.now)) }
     {
@@ -120,8 +124,8 @@ impl<S: Alter> Store<S> {
         self.status_by(ward, &batches)
     }
 
-    /// Returns the overview of a ward, by what is kept of all batches.
-    fn ward_overview_by(&mut self, known: &[Known], ward: Ward) -> Result<WardOverview, Fault>
+    /// Returns the overview of a ward, from the cached batches.
+    fn ward_overview_by(&mut self, known: &[CachedBatch], ward: Ward) -> Result<WardOverview, Fault>
         requires { IsOpen S.Store self.old }
         ensures { Loads S.Store self.old self.new result (λ s found. ward_at s ward.number ≡ Some (ward_entry ward) → KnowsAll s known.now → ward_view found ≡ ward_view_of s (ward_entry ward)) }
     {
@@ -135,10 +139,10 @@ impl<S: Alter> Store<S> {
         })
     }
 
-    /// Returns the overviews of these wards, all those of an office, by what is kept of all batches.
+    /// Returns the overviews of these wards, all those of an office, from the cached batches.
     fn ward_overviews_by(
         &mut self,
-        known: &[Known],
+        known: &[CachedBatch],
         wards: Vec<Ward>,
     ) -> Result<Vec<WardOverview>, Fault>
         requires { IsOpen S.Store self.old }
@@ -154,19 +158,22 @@ impl<S: Alter> Store<S> {
         Ok(found)
     }
 
-    /// Does the same as `load_wards`, by what is in memory of all batches, which it renews.
-    pub(crate) fn wards_with(&mut self, known: &mut Vec<Known>) -> Result<Vec<WardOverview>, Fault>
+    /// Returns the same as `load_wards`, from the cache, which it refreshes first.
+    pub(crate) fn wards_with(
+        &mut self,
+        known: &mut Vec<CachedBatch>,
+    ) -> Result<Vec<WardOverview>, Fault>
         ensures loads { Loads S.Store self.old self.new result (λ s found. AreKnown s known.old.items → map ward_view found.items ≡ ward_views s) }
         ensures stays { StaysKnown (state S.Store self.old) (state S.Store self.new) known.old.items known.new.items }
     {
-        self.renew(known)?;
+        self.refresh(known)?;
         let wards = self.all_wards()?;
         let found = self.ward_overviews_by(known, wards)?;
         Ok(found)
     }
 
-    /// Returns the status of the ward with this number, if there is one, by what is kept of all batches.
-    fn status_at_by(&mut self, known: &[Known], ward: u32) -> Result<Option<Status>, Fault>
+    /// Returns the status of the ward with this number, if there is one, from the cached batches.
+    fn status_at_by(&mut self, known: &[CachedBatch], ward: u32) -> Result<Option<Status>, Fault>
         ensures { Loads S.Store self.old self.new result (λ s found. KnowsAll s known.now → option_map status_entry found ≡ status_at s ward) }
     {
         let found = self.find_ward(ward)?;
@@ -179,22 +186,22 @@ impl<S: Alter> Store<S> {
         }
     }
 
-    /// Does the same as `load_status`, by what is in memory of all batches, which it renews.
+    /// Returns the same as `load_status`, from the cache, which it refreshes first.
     pub(crate) fn status_with(
         &mut self,
-        known: &mut Vec<Known>,
+        known: &mut Vec<CachedBatch>,
         ward: u32,
     ) -> Result<Option<Status>, Fault>
         ensures loads { Loads S.Store self.old self.new result (λ s found. AreKnown s known.old.items → option_map status_entry found ≡ status_at s ward) }
         ensures stays { StaysKnown (state S.Store self.old) (state S.Store self.new) known.old.items known.new.items }
     {
-        self.renew(known)?;
+        self.refresh(known)?;
         let found = self.status_at_by(known, ward)?;
         Ok(found)
     }
 
-    /// Returns the next step in a ward that was found with its count, by what is kept of all batches.
-    fn step_by(&mut self, known: &[Known], found: CountedWard) -> Result<NextStep, Fault>
+    /// Returns the next step in a ward that was found with its count, from the cached batches.
+    fn step_by(&mut self, known: &[CachedBatch], found: CountedWard) -> Result<NextStep, Fault>
         requires { IsOpen S.Store self.old }
         ensures { Loads S.Store self.old self.new result (λ s step. (w : WardEntry) → IsCountedWard (election_of s w) found → KnowsAll s known.now → step_entry step ≡ next_of s w) }
     {
@@ -207,8 +214,8 @@ impl<S: Alter> Store<S> {
         }
     }
 
-    /// Returns the next step in the ward with this number, if there is one, by what is kept of all batches.
-    fn next_by(&mut self, known: &[Known], ward: u32) -> Result<Option<NextStep>, Fault>
+    /// Returns the next step in the ward with this number, if there is one, from the cached batches.
+    fn next_by(&mut self, known: &[CachedBatch], ward: u32) -> Result<Option<NextStep>, Fault>
         ensures { Loads S.Store self.old self.new result (λ s found. KnowsAll s known.now → option_map step_entry found ≡ next_at s ward) }
     {
         let found = self.load_counted(ward)?;
@@ -221,16 +228,16 @@ impl<S: Alter> Store<S> {
         }
     }
 
-    /// Does the same as `load_next`, by what is in memory of all batches, which it renews.
+    /// Returns the same as `load_next`, from the cache, which it refreshes first.
     pub(crate) fn next_with(
         &mut self,
-        known: &mut Vec<Known>,
+        known: &mut Vec<CachedBatch>,
         ward: u32,
     ) -> Result<Option<NextStep>, Fault>
         ensures loads { Loads S.Store self.old self.new result (λ s found. AreKnown s known.old.items → option_map step_entry found ≡ next_at s ward) }
         ensures stays { StaysKnown (state S.Store self.old) (state S.Store self.new) known.old.items known.new.items }
     {
-        self.renew(known)?;
+        self.refresh(known)?;
         let found = self.next_by(known, ward)?;
         Ok(found)
     }

@@ -83,7 +83,7 @@ fn put_under(
     Ok(())
 }
 
-/// Does the same for a batch that was read, if it is taken.
+/// Appends the number of a batch that was read, if it is taken.
 fn put_batch(
     alloc: Global,
     numbers: &mut HashMap<String, Vec<u32>>,
@@ -156,7 +156,7 @@ fn paired(numbers: &HashMap<String, Vec<u32>>, batch: ReadBatch) -> Option<Batch
     }
 }
 
-/// Does the same for batches, one after another.
+/// Returns the overviews of batches that were read, in order, each with its twin.
 pub(crate) fn all_paired(
     alloc: Global,
     numbers: &HashMap<String, Vec<u32>>,

@@ -1,4 +1,4 @@
-//! Twins: batches that are taken with exactly the same papers, found by what is kept in memory of all batches. The
+//! Twins: batches that are taken with exactly the same papers, found from the cached batches. The
 //! papers of two batches are read and compared only if their checksums are equal.
 
 ghost use Rattle.std.specs.Prelude.{◌≡◌, ◌++◌, true, map, find, Some, List, ℕ, option_map, string_bytes, IfOk};
@@ -11,7 +11,7 @@ ghost use Rattle.store.specs.Overviews.{batch_view, batch_view_of, batch_views, 
 ghost use Rattle.store.specs.Loads.{Loads, IsOpen};
 ghost use Rattle.store.specs.Memories.{batch_view_in, row_of, same_sum, may_be_twin, AreKnown, IsKnown, KnowsAll, StaysKnown};
 
-use crate::memory::{Known, copy_overview};
+use crate::batch_cache::{CachedBatch, copy_overview};
 use crate::overviews::batches::BatchOverview;
 use crate::storage::Store;
 use register::Batch;
@@ -30,7 +30,7 @@ fn same_sum(one: Option<u64>, other: Option<u64>) -> bool
 }
 
 /// Returns whether another batch may be a batch's twin, by what is kept of both.
-fn may_be_twin(one: &Known, other: &Known) -> bool
+fn may_be_twin(one: &CachedBatch, other: &CachedBatch) -> bool
     ensures { result ≡ may_be_twin one.now other.now }
 {
     (other.overview.batch.number != one.overview.batch.number) & same_sum(one.pile, other.pile)
@@ -83,7 +83,7 @@ impl<S: Alter> Store<S> {
     }
 
     /// Returns whether another batch is a twin of one that is taken, by what is kept of both.
-    fn is_twin(&mut self, one: &Known, other: &Known) -> Result<bool, Fault>
+    fn is_twin(&mut self, one: &CachedBatch, other: &CachedBatch) -> Result<bool, Fault>
         requires { IsOpen S.Store self.old }
         ensures { Loads S.Store self.old self.new result (λ s found. IsKnown s one.now → is_taken s (row_of one.now) ≡ true → IsKnown s other.now
             → found ≡ is_twin s (row_of one.now) (row_of other.now)) }
@@ -96,7 +96,7 @@ impl<S: Alter> Store<S> {
     }
 
     /// Returns the number of the first of these batches that is a twin of one that is taken.
-    fn find_twin(&mut self, known: &[Known], one: &Known) -> Result<Option<u32>, Fault>
+    fn find_twin(&mut self, known: &[CachedBatch], one: &CachedBatch) -> Result<Option<u32>, Fault>
         requires { IsOpen S.Store self.old }
         ensures { Loads S.Store self.old self.new result (λ s found. IsKnown s one.now → is_taken s (row_of one.now) ≡ true → AreKnown s known.now
             → found ≡ option_map (λ (b : BatchEntry). b.number) (find (is_twin s (row_of one.now)) (map row_of known.now))) }
@@ -110,8 +110,8 @@ impl<S: Alter> Store<S> {
         Ok(None)
     }
 
-    /// Returns the number of a batch's twin, if it has one, by what is kept of all batches.
-    fn twin_of(&mut self, known: &[Known], one: &Known) -> Result<Option<u32>, Fault>
+    /// Returns the number of a batch's twin, if it has one, from the cached batches.
+    fn twin_of(&mut self, known: &[CachedBatch], one: &CachedBatch) -> Result<Option<u32>, Fault>
         requires { IsOpen S.Store self.old }
         ensures { Loads S.Store self.old self.new result (λ s found. KnowsAll s known.now → IsKnown s one.now → found ≡ twin_of s (row_of one.now)) }
     {
@@ -121,8 +121,12 @@ impl<S: Alter> Store<S> {
         }
     }
 
-    /// Returns the overview of a batch with its twin, by what is kept of all batches.
-    fn with_twin(&mut self, known: &[Known], one: &Known) -> Result<BatchOverview, Fault>
+    /// Returns the overview of a batch with its twin, from the cached batches.
+    fn with_twin(
+        &mut self,
+        known: &[CachedBatch],
+        one: &CachedBatch,
+    ) -> Result<BatchOverview, Fault>
         requires { IsOpen S.Store self.old }
         ensures { Loads S.Store self.old self.new result (λ s found. KnowsAll s known.now → IsKnown s one.now → batch_view found ≡ batch_view_of s (row_of one.now)) }
     {
@@ -136,8 +140,8 @@ impl<S: Alter> Store<S> {
     /// Returns the same for a batch of this ward, and nothing for one of another ward.
     fn with_twin_in(
         &mut self,
-        known: &[Known],
-        one: &Known,
+        known: &[CachedBatch],
+        one: &CachedBatch,
         ward: u32,
     ) -> Result<Option<BatchOverview>, Fault>
         requires { IsOpen S.Store self.old }
@@ -151,8 +155,12 @@ impl<S: Alter> Store<S> {
         Ok(Some(overview))
     }
 
-    /// Returns the overviews of the batches of a ward, by what is kept of all batches.
-    fn ward_batches_by(&mut self, known: &[Known], ward: u32) -> Result<Vec<BatchOverview>, Fault>
+    /// Returns the overviews of the batches of a ward, from the cached batches.
+    fn ward_batches_by(
+        &mut self,
+        known: &[CachedBatch],
+        ward: u32,
+    ) -> Result<Vec<BatchOverview>, Fault>
         requires { IsOpen S.Store self.old }
         ensures { Loads S.Store self.old self.new result (λ s found. KnowsAll s known.now → map batch_view found.items ≡ batch_views s ward) }
     {
@@ -166,11 +174,11 @@ impl<S: Alter> Store<S> {
         Ok(found)
     }
 
-    /// Returns the overviews of the batches of the ward with this number, in the order of their numbers, by what is kept
-    /// of all batches; none if there is no such ward.
+    /// Returns the overviews of the batches of the ward with this number, in the order of their numbers, from the
+    /// cached batches; none if there is no such ward.
     fn batches_by(
         &mut self,
-        known: &[Known],
+        known: &[CachedBatch],
         ward: u32,
     ) -> Result<Option<Vec<BatchOverview>>, Fault>
         ensures { Loads S.Store self.old self.new result (λ s found. KnowsAll s known.now
@@ -186,17 +194,17 @@ impl<S: Alter> Store<S> {
         }
     }
 
-    /// Does the same as `load_batches`, by what is in memory of all batches, which it renews.
+    /// Returns the same as `load_batches`, from the cache, which it refreshes first.
     pub(crate) fn batches_with(
         &mut self,
-        known: &mut Vec<Known>,
+        known: &mut Vec<CachedBatch>,
         ward: u32,
     ) -> Result<Option<Vec<BatchOverview>>, Fault>
         ensures loads { Loads S.Store self.old self.new result (λ s found. AreKnown s known.old.items
             → option_map (λ batches. map batch_view batches.items) found ≡ batch_views_at s ward) }
         ensures stays { StaysKnown (state S.Store self.old) (state S.Store self.new) known.old.items known.new.items }
     {
-        self.renew(known)?;
+        self.refresh(known)?;
         let found = self.batches_by(known, ward)?;
         Ok(found)
     }

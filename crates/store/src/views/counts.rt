@@ -7,7 +7,7 @@ ghost use Rattle.register.specs.Elections.{ElectionEntry, election_of, has_count
 ghost use Rattle.register.specs.Counts.{poll_for, due_for, elected_for};
 ghost use Rattle.register.specs.CommandInputs.{empty_input, input_entries};
 ghost use Rattle.register.specs.Tabulated.{has_stages};
-ghost use Rattle.store.specs.Elections.{IsFoundFor, polled_part, counted_part, election_in, IsThere, IsWardCount, IsBegun, IsCounted, IsCountedFor, IsShown};
+ghost use Rattle.store.specs.Elections.{IsFoundFor, polled_part, counted_part, election_in, WasFound, IsWardCount, IsBegun, IsCounted, IsCountedFor, IsCountIfExists};
 ghost use Rattle.store.specs.Loads.{Loads};
 
 use crate::storage::Store;
@@ -20,7 +20,7 @@ use sqlite::Alter;
 use std::alloc::Global;
 use tables::Fault;
 
-/// Returns the part of a command that needs the poll of an election, if there is one. It fails only if the ward has no
+/// Returns the input of a command that needs the poll of an election, if there is one. It fails only if the ward has no
 /// seats, or more than a ward can have; no ward of an office does.
 fn polled(alloc: Global, found: Option<Election>) -> Result<CommandInput, Fault>
     ensures part { IfOk result (λ part. (entry : Option ElectionEntry) → IsFoundFor found entry → input_entries part ≡ polled_part entry) }
@@ -54,10 +54,10 @@ fn progress_of(found: &CountedWard) -> Progress
     }
 }
 
-/// Returns the part of a command that needs what is due in the count of a ward, if there is one, those elected, and the count.
+/// Returns the input of a command that needs what is due in the count of a ward, if there is one, those elected, and the count.
 fn counted(alloc: Global, found: Option<CountedWard>) -> CommandInput
     ensures part { (entry : Option ElectionEntry) → IsCountedFor entry found → input_entries result ≡ counted_part entry }
-    ensures count { (entry : Option ElectionEntry) → IsCountedFor entry found → IsShown entry result.count }
+    ensures count { (entry : Option ElectionEntry) → IsCountedFor entry found → IsCountIfExists entry result.count }
 {
     let Some(found) = found else {
         return CommandInput::empty(alloc);
@@ -74,7 +74,7 @@ fn counted(alloc: Global, found: Option<CountedWard>) -> CommandInput
 }
 
 impl<S: Alter> Store<S> {
-    /// Returns the part of the command that seals a ward: the ward, and the poll of its papers.
+    /// Returns the input of the command that seals a ward: the ward, and the poll of its papers.
     pub(crate) fn seal_part(&mut self, ward: u32) -> Result<CommandInput, Fault>
         ensures { Loads S.Store self.old self.new result (λ s part. input_entries part ≡ record empty_input { ward = ward_at s ward; poll = poll_for s (ward_at s ward) }) }
     {
@@ -85,9 +85,9 @@ impl<S: Alter> Store<S> {
 
     /// Returns the count of a contested ward with no stage done, begun from its papers, and how many of the papers are
     /// rejected. None if the ward has more seats than a ward can have; no ward of an office does.
-    pub(crate) fn begun_sheet(&mut self, contest: CountedWard) -> Result<Option<WardSheet>, Fault>
+    pub(crate) fn begin_sheet(&mut self, contest: CountedWard) -> Result<Option<WardSheet>, Fault>
         ensures { Loads S.Store self.old self.new result
-            (λ s found. IsThere s contest → has_count (election_in s contest) ≡ true → contest.ward.done ≡ 0 → IsBegun (election_in s contest) found) }
+            (λ s found. WasFound s contest → has_count (election_in s contest) ≡ true → contest.ward.done ≡ 0 → IsBegun (election_in s contest) found) }
     {
         elections_are_fair();
         let election = self.ward_election(contest)?;
@@ -99,14 +99,14 @@ impl<S: Alter> Store<S> {
 
     /// Returns the count of a contested ward that has a stage, as it was stored, from the tabulation alone. None if the
     /// tabulation is not that of any count; in an office it always is.
-    pub(crate) fn resumed_count(
+    pub(crate) fn resume_count(
         &mut self,
         contest: CountedWard,
     ) -> Result<Option<CountedWard>, Fault>
         ensures { Loads S.Store self.old self.new result
-            (λ s found. IsThere s contest → has_stages (election_in s contest) ≡ true → IsCounted (election_in s contest) found) }
+            (λ s found. WasFound s contest → has_stages (election_in s contest) ≡ true → IsCounted (election_in s contest) found) }
     {
-        let found = self.kept_count(&contest)?;
+        let found = self.stored_count(&contest)?;
         match found {
             Some(count) => Ok(Some(CountedWard {
                 count: Some(count),
@@ -122,12 +122,12 @@ impl<S: Alter> Store<S> {
         contest: CountedWard,
     ) -> Result<Option<CountedWard>, Fault>
         ensures { Loads S.Store self.old self.new result
-            (λ s found. IsThere s contest → has_count (election_in s contest) ≡ true → IsCounted (election_in s contest) found) }
+            (λ s found. WasFound s contest → has_count (election_in s contest) ≡ true → IsCounted (election_in s contest) found) }
     {
         if contest.ward.done != 0 {
-            return self.resumed_count(contest);
+            return self.resume_count(contest);
         }
-        let begun = self.begun_sheet(contest)?;
+        let begun = self.begin_sheet(contest)?;
         match begun {
             Some(sheet) => Ok(Some(sheet.counted)),
             None => Ok(None),
@@ -152,12 +152,12 @@ impl<S: Alter> Store<S> {
         Ok(count)
     }
 
-    /// Returns the part of a command that needs the progress of a ward's count: the ward, what is due, those elected,
+    /// Returns the input of a command that needs the progress of a ward's count: the ward, what is due, those elected,
     /// and the count itself.
     pub(crate) fn count_part(&mut self, ward: u32) -> Result<CommandInput, Fault>
         ensures { Loads S.Store self.old self.new result
             (λ s part. (input_entries part ≡ record empty_input { ward = ward_at s ward; due = due_for s (ward_at s ward); elected = elected_for s (ward_at s ward) })
-            × IsShown (option_map (election_of s) (ward_at s ward)) part.count) }
+            × IsCountIfExists (option_map (election_of s) (ward_at s ward)) part.count) }
     {
         let found = self.find_count(ward)?;
         Ok(counted(self.allocator(), found))

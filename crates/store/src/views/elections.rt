@@ -5,7 +5,7 @@ ghost use Rattle.register.specs.Offices.{ward_entry, candidate_entry, batch_entr
 ghost use Rattle.register.specs.Marks.{columns_of};
 ghost use Rattle.register.specs.Polls.{pile_of, piles_of, ballots_in, StandFor};
 ghost use Rattle.register.specs.Elections.{IsElection, lot_pair, election_of};
-ghost use Rattle.store.specs.Elections.{pile_by, is_counted_with, election_in, IsThere, IsInCount, IsFoundFor};
+ghost use Rattle.store.specs.Elections.{pile_by, is_counted_with, election_in, WasFound, IsInCount, IsFoundFor};
 ghost use Rattle.store.specs.Loads.{Loads, IsOpen};
 
 use crate::entries::lots::Lots;
@@ -133,7 +133,7 @@ impl<S: Alter> Store<S> {
 
     /// Returns the election in a ward that was found.
     pub(crate) fn ward_election(&mut self, contest: CountedWard) -> Result<Election, Fault>
-        ensures { Loads S.Store self.old self.new result (λ s found. IsThere s contest → IsElection found (election_in s contest)) }
+        ensures { Loads S.Store self.old self.new result (λ s found. WasFound s contest → IsElection found (election_in s contest)) }
     {
         let in_count = is_in_count(&contest.ward, &contest.candidates);
         let columns = columns_of(&contest.candidates);

@@ -4,7 +4,7 @@ ghost use Rattle.std.specs.Prelude.{◌≡◌, true, option_map};
 ghost use Rattle.register.specs.Offices.{ward_at};
 ghost use Rattle.register.specs.Polls.{piles_of, ballots_in};
 ghost use Rattle.register.specs.Elections.{election_of, is_in_count as is_in_count_of};
-ghost use Rattle.store.specs.Elections.{IsInCount, election_in, IsThere, IsCountedInFor, IsSheet, IsSheetFor};
+ghost use Rattle.store.specs.Elections.{IsInCount, election_in, WasFound, IsCountedInFor, IsSheet, IsSheetFor};
 ghost use Rattle.store.specs.Loads.{Loads};
 
 use crate::storage::Store;
@@ -48,13 +48,13 @@ impl<S: Alter> Store<S> {
 
     /// Returns the count of a ward in count that has a stage, from the tabulation alone; and how many of its papers are
     /// rejected. None if the tabulation is not that of any count; in an office it always is.
-    fn resumed_sheet(&mut self, contest: CountedWard) -> Result<Option<WardSheet>, Fault>
+    fn resume_sheet(&mut self, contest: CountedWard) -> Result<Option<WardSheet>, Fault>
         ensures { Loads S.Store self.old self.new result
-            (λ s found. IsThere s contest → is_in_count_of (election_in s contest) ≡ true → (contest.ward.done ≡ 0 → ⊥) → IsSheet (election_in s contest) found) }
+            (λ s found. WasFound s contest → is_in_count_of (election_in s contest) ≡ true → (contest.ward.done ≡ 0 → ⊥) → IsSheet (election_in s contest) found) }
     {
         let columns = columns_of(&contest.candidates);
         let rejected = self.rejected_of(contest.ward.number, columns)?;
-        let found = self.resumed_count(contest)?;
+        let found = self.resume_count(contest)?;
         match found {
             Some(counted) => Ok(Some(WardSheet { counted, rejected })),
             None => Ok(None),
@@ -64,12 +64,12 @@ impl<S: Alter> Store<S> {
     /// Returns what the sheet of a ward in count is written from. If no stage is done, its papers are read once for both.
     fn sheet_in_count(&mut self, contest: CountedWard) -> Result<Option<WardSheet>, Fault>
         ensures { Loads S.Store self.old self.new result
-            (λ s found. IsThere s contest → is_in_count_of (election_in s contest) ≡ true → IsSheet (election_in s contest) found) }
+            (λ s found. WasFound s contest → is_in_count_of (election_in s contest) ≡ true → IsSheet (election_in s contest) found) }
     {
         if contest.ward.done == 0 {
-            self.begun_sheet(contest)
+            self.begin_sheet(contest)
         } else {
-            self.resumed_sheet(contest)
+            self.resume_sheet(contest)
         }
     }
 

@@ -9,7 +9,7 @@ ghost use Rattle.wire.specs.Serving.{IsReadTold, data_response};
 
 use crate::office_responses::{faulted, refused, valued};
 use crate::response::Response;
-use office::Stop;
+use office::ReadError;
 use serde_json::{Value, json};
 use std::alloc::{AllocError, Global};
 use store::{BatchOverview, BatchStanding, ClerkOverview};
@@ -78,13 +78,13 @@ fn batches_value(alloc: Global, ward: u32, batches: &[BatchOverview]) -> Result<
 pub(crate) fn answer_batches(
     alloc: Global,
     ward: u32,
-    told: Result<Vec<BatchOverview>, Stop>,
+    told: Result<Vec<BatchOverview>, ReadError>,
 ) -> Response
     ensures { IsReadTold (λ batches. data_response (batches_data ward batches)) (λ batches. map batch_view batches.items) told result }
 {
     match told {
         Ok(batches) => valued(alloc, batches_value(alloc, ward, &batches)),
-        Err(Stop::Refused(why)) => refused(alloc, &why),
-        Err(Stop::Fault(fault)) => faulted(alloc, fault),
+        Err(ReadError::Refused(why)) => refused(alloc, &why),
+        Err(ReadError::Fault(fault)) => faulted(alloc, fault),
     }
 }

@@ -9,7 +9,7 @@ ghost use Rattle.wire.specs.Serving.{IsReadTold, data_response};
 use crate::office_responses::{faulted, refused, valued};
 use crate::read_responses::numbers::numbers_value;
 use crate::response::Response;
-use office::Stop;
+use office::ReadError;
 use serde_json::{Value, json};
 use std::alloc::{AllocError, Global};
 use store::Differences;
@@ -26,13 +26,13 @@ fn differences_value(alloc: Global, batch: u32, found: &Differences) -> Result<V
 pub(crate) fn answer_differences(
     alloc: Global,
     batch: u32,
-    told: Result<Differences, Stop>,
+    told: Result<Differences, ReadError>,
 ) -> Response
     ensures { IsReadTold (λ differences. data_response (differences_data batch differences)) differences_view told result }
 {
     match told {
         Ok(found) => valued(alloc, differences_value(alloc, batch, &found)),
-        Err(Stop::Refused(why)) => refused(alloc, &why),
-        Err(Stop::Fault(fault)) => faulted(alloc, fault),
+        Err(ReadError::Refused(why)) => refused(alloc, &why),
+        Err(ReadError::Fault(fault)) => faulted(alloc, fault),
     }
 }

@@ -12,7 +12,7 @@ use crate::candidates::candidates_value;
 use crate::office_responses::{faulted, refused, valued};
 use crate::read_responses::papers::preferences_value;
 use crate::response::Response;
-use office::Stop;
+use office::ReadError;
 use register::JudgedPaper;
 use serde_json::{Value, json};
 use std::alloc::{AllocError, Global};
@@ -95,13 +95,13 @@ fn papers_value(alloc: Global, ward: u32, found: &DoubtfulPapers) -> Result<Valu
 pub(crate) fn answer_doubtful(
     alloc: Global,
     ward: u32,
-    told: Result<DoubtfulPapers, Stop>,
+    told: Result<DoubtfulPapers, ReadError>,
 ) -> Response
     ensures { IsReadTold (λ papers. data_response (doubtful_papers_data ward papers)) doubtful_papers_view told result }
 {
     match told {
         Ok(found) => valued(alloc, papers_value(alloc, ward, &found)),
-        Err(Stop::Refused(why)) => refused(alloc, &why),
-        Err(Stop::Fault(fault)) => faulted(alloc, fault),
+        Err(ReadError::Refused(why)) => refused(alloc, &why),
+        Err(ReadError::Fault(fault)) => faulted(alloc, fault),
     }
 }

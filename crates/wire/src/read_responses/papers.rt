@@ -11,7 +11,7 @@ use crate::candidates::candidates_value;
 use crate::office_responses::{faulted, refused, valued};
 use crate::read_responses::numbers::candidate_numbers_value;
 use crate::response::Response;
-use office::Stop;
+use office::ReadError;
 use register::Judgement;
 use serde_json::{Value, json};
 use std::alloc::{AllocError, Global};
@@ -84,13 +84,13 @@ fn papers_value(alloc: Global, batch: u32, found: &CountedPapers) -> Result<Valu
 pub(crate) fn answer_papers(
     alloc: Global,
     batch: u32,
-    told: Result<CountedPapers, Stop>,
+    told: Result<CountedPapers, ReadError>,
 ) -> Response
     ensures { IsReadTold (λ papers. data_response (papers_data batch papers)) papers_view told result }
 {
     match told {
         Ok(found) => valued(alloc, papers_value(alloc, batch, &found)),
-        Err(Stop::Refused(why)) => refused(alloc, &why),
-        Err(Stop::Fault(fault)) => faulted(alloc, fault),
+        Err(ReadError::Refused(why)) => refused(alloc, &why),
+        Err(ReadError::Fault(fault)) => faulted(alloc, fault),
     }
 }

@@ -9,7 +9,7 @@ ghost use Rattle.wire.specs.Serving.{IsReadTold, data_response};
 
 use crate::office_responses::{faulted, refused, valued};
 use crate::response::Response;
-use office::Stop;
+use office::ReadError;
 use register::Receipt;
 use serde_json::{Value, json};
 use std::alloc::{AllocError, Global};
@@ -43,12 +43,12 @@ fn receipts_value(alloc: Global, receipts: &[Receipt]) -> Result<Value, AllocErr
 }
 
 /// Returns the response with receipts, or with the refusal or fault.
-pub(crate) fn answer_receipts(alloc: Global, told: Result<Vec<Receipt>, Stop>) -> Response
+pub(crate) fn answer_receipts(alloc: Global, told: Result<Vec<Receipt>, ReadError>) -> Response
     ensures { IsReadTold (λ receipts. data_response (receipts_data receipts)) (λ receipts. map receipt_entry receipts.items) told result }
 {
     match told {
         Ok(receipts) => valued(alloc, receipts_value(alloc, &receipts)),
-        Err(Stop::Refused(why)) => refused(alloc, &why),
-        Err(Stop::Fault(fault)) => faulted(alloc, fault),
+        Err(ReadError::Refused(why)) => refused(alloc, &why),
+        Err(ReadError::Fault(fault)) => faulted(alloc, fault),
     }
 }

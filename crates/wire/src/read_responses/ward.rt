@@ -15,7 +15,7 @@ use crate::read_responses::found::{WardPapers, WardRead};
 use crate::read_responses::steps::step_value;
 use crate::read_responses::wards::ward_value;
 use crate::response::Response;
-use office::Stop;
+use office::ReadError;
 use register::{NextStep, Reason, Refusal};
 use serde_json::{Value, json};
 use std::alloc::{AllocError, Global};
@@ -109,12 +109,12 @@ fn answer_found(alloc: Global, ward: Option<&WardOverview>, found: &WardRead) ->
 }
 
 /// Returns the response with a ward, or with the refusal or fault.
-pub(crate) fn answer_ward(alloc: Global, ward: u32, told: Result<WardRead, Stop>) -> Response
+pub(crate) fn answer_ward(alloc: Global, ward: u32, told: Result<WardRead, ReadError>) -> Response
     ensures { IsReadTold (ward_response ward) ward_read_view told result }
 {
     match told {
         Ok(found) => answer_found(alloc, ward_in(&found.progress.wards, ward), &found),
-        Err(Stop::Refused(why)) => refused(alloc, &why),
-        Err(Stop::Fault(fault)) => faulted(alloc, fault),
+        Err(ReadError::Refused(why)) => refused(alloc, &why),
+        Err(ReadError::Fault(fault)) => faulted(alloc, fault),
     }
 }

@@ -12,7 +12,7 @@ use crate::office_responses::{faulted, refused, valued};
 use crate::read_responses::found::WardsRead;
 use crate::read_responses::numbers::candidate_numbers_value;
 use crate::response::Response;
-use office::Stop;
+use office::ReadError;
 use paper::Columns;
 use register::Phase;
 use serde_json::{Value, json};
@@ -75,12 +75,12 @@ fn wards_value(alloc: Global, found: &WardsRead) -> Result<Value, AllocError>
 }
 
 /// Returns the response with all wards, or with the refusal or fault.
-pub(crate) fn answer_wards(alloc: Global, told: Result<WardsRead, Stop>) -> Response
+pub(crate) fn answer_wards(alloc: Global, told: Result<WardsRead, ReadError>) -> Response
     ensures { IsReadTold (λ wards. data_response (wards_data wards)) wards_read_view told result }
 {
     match told {
         Ok(found) => valued(alloc, wards_value(alloc, &found)),
-        Err(Stop::Refused(why)) => refused(alloc, &why),
-        Err(Stop::Fault(fault)) => faulted(alloc, fault),
+        Err(ReadError::Refused(why)) => refused(alloc, &why),
+        Err(ReadError::Fault(fault)) => faulted(alloc, fault),
     }
 }

@@ -217,9 +217,9 @@ returns-in-Count-clause-ran g c =
           );
     }
 
-pub returns-in-TellNext-clause-ran : goal.returns-in-TellNext-clause-ran
-returns-in-TellNext-clause-ran g c =
-    let told = c.tell-in-TellNext.ensures in
+pub returns-in-PrintNext-clause-ran : goal.returns-in-PrintNext-clause-ran
+returns-in-PrintNext-clause-ran g c =
+    let told = c.tell-in-PrintNext.ensures in
     record {
       page = fronted c.args.line (page_of c.next_of.result);
       cut = told.0;
@@ -230,16 +230,16 @@ returns-in-TellNext-clause-ran g c =
         (
           _,
           c.opened-file.ensures,
-          rw c.in-TellNext.is (inr (unsent_told (state g.S.Store c.args.office.now.held) c.next_of.new.office.closed
+          rw c.in-PrintNext.is (inr (unsent_told (state g.S.Store c.args.office.now.held) c.next_of.new.office.closed
               (state g.S.Store c.next_of.new.office.held) c.args.keep_going c.args.line _ s (page_of c.next_of.result) told.0
               (c.next_of.ensures.found clean is_open s at))),
         ),
       );
     }
 
-pub returns-in-TellStatus-clause-ran : goal.returns-in-TellStatus-clause-ran
-returns-in-TellStatus-clause-ran g c =
-    let told = c.tell-in-TellStatus.ensures in
+pub returns-in-PrintStatus-clause-ran : goal.returns-in-PrintStatus-clause-ran
+returns-in-PrintStatus-clause-ran g c =
+    let told = c.tell-in-PrintStatus.ensures in
     record {
       page = fronted c.args.line (page_of c.standing_of.result);
       cut = told.0;
@@ -250,7 +250,7 @@ returns-in-TellStatus-clause-ran g c =
         (
           _,
           c.opened-file.ensures,
-          rw c.in-TellStatus.is (inr (unsent_told (state g.S.Store c.args.office.now.held) c.standing_of.new.office.closed
+          rw c.in-PrintStatus.is (inr (unsent_told (state g.S.Store c.args.office.now.held) c.standing_of.new.office.closed
               (state g.S.Store c.standing_of.new.office.held) c.args.keep_going c.args.line _ s (page_of c.standing_of.result) told.0
               (c.standing_of.ensures.found clean is_open s at))),
         ),

@@ -1,4 +1,4 @@
--- Why `service` keeps its promise.
+-- Proof that `service` meets its contract.
 use Rattle.std.proofs.Common.{◌∙◌, Err, List, [], Option, ap, refl, subst, sym, ℕ}
 use Rattle.sqlite.specs.Held.{state}
 use Rattle.connections.specs.Streams.{HasTaken, stream_of}

@@ -1,4 +1,4 @@
--- Why `accept_one` keeps its promise.
+-- Proof that `accept_one` meets its contract.
 use Rattle.std.proofs.Common.{[], Some, ap, refl}
 use Rattle.connections.specs.Clients.{IsOf}
 use Rattle.connections.specs.Closing.{IsClosedByRule, IsEvicted, eviction_rule}

@@ -1,4 +1,4 @@
--- What holds each time round the loop of `accept_pending`.
+-- The loop invariant of `accept_pending`.
 use Rattle.std.proofs.Common.{◌≤◌, Bool, [], Some}
 use Rattle.connections.specs.Closing.{IsWithin}
 use Rattle.connections.specs.Traces.{Trace}

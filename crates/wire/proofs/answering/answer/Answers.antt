@@ -1,4 +1,4 @@
--- Why `answer` keeps its promise.
+-- Proof that `answer` meets its contract.
 use Rattle.std.proofs.Common.{ap, sym}
 use Rattle.sqlite.specs.Held.{state}
 use Rattle.wire.specs.Gates.{public_entry}

@@ -1,4 +1,4 @@
--- Why `answer_found` keeps its promise.
+-- Proof that `answer_found` meets its contract.
 use Rattle.std.proofs.Common.{option_map, subst, sym}
 use Rattle.store.specs.EarlierKeyings.{keyed_round_entry}
 use Rattle.wire.specs.Replies.{keyed_data}

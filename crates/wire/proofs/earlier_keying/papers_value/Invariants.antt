@@ -1,4 +1,4 @@
--- What holds each time round the loop of `papers_value`.
+-- The loop invariant of `papers_value`.
 use Rattle.std.proofs.Common.{◌≡◌, map, take}
 use Rattle.serde_json.specs.View.{view}
 use Rattle.register.specs.Offices.{keyed_entry}

@@ -1,4 +1,4 @@
--- What holds each time round the loop of `is_foreign`.
+-- The loop invariant of `is_foreign`.
 use Rattle.std.proofs.Common.{◌≡◌, drop, map}
 use Rattle.httparse.specs.Spans.{header_bytes}
 use Rattle.wire.specs.Origins.{origin_setting, is_foreign}

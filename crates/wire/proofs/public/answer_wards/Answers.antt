@@ -1,4 +1,4 @@
--- Why `answer_wards` keeps its promise.
+-- Proof that `answer_wards` meets its contract.
 use Rattle.std.proofs.Common.{List, map, subst, sym}
 use Rattle.store.specs.Overviews.{WardView, ward_view}
 use Rattle.wire.specs.PublicReplies.{screen_of}

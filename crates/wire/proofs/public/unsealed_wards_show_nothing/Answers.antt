@@ -1,4 +1,4 @@
--- Why `unsealed_wards_show_nothing` keeps its promise.
+-- Proof that `unsealed_wards_show_nothing` meets its contract.
 use Rattle.wire.proofs.PublicLawLemmas.{AlikeShowAlike-all, ListsUnsealed-all, RestsOnWards-all}
 use Rattle.wire.proofs.public.unsealed_wards_show_nothing.Goals as goal
 

@@ -1,4 +1,4 @@
--- Why `evict_oldest` keeps its promise.
+-- Proof that `evict_oldest` meets its contract.
 use Rattle.server.proofs.ReadLemmas.{gone_more}
 use Rattle.server.specs.Reads.{reads_in}
 use Rattle.server.proofs.read_cache.ReadCache.evict_oldest.Goals as goal

@@ -1,4 +1,4 @@
--- Why `routed_by` keeps its promise.
+-- Proof that `routed_by` meets its contract.
 use Rattle.std.proofs.Common.{◌∙◌, sym}
 use Rattle.std.proofs.lemmas.Str.{IsUtf8-from_ascii}
 use Rattle.wire.proofs.TargetLemmas.{route-found}
