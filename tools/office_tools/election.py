@@ -1,8 +1,6 @@
 """Small elections: one, order by order, for tools that make its orders fail; one ward, as others begin it; and an evening with codes."""
-import contextlib
 import os
 import shlex
-import sqlite3
 from dataclasses import dataclass
 
 from office_tools.office import NO_OFFICE, SCRIPT, TOWN, Office, ended
@@ -19,6 +17,16 @@ def ward_orders(*batches, candidates=("Ann", "Bob", "Cy"), seats=2, ward=7, name
     nominated = [f"candidate --id c{ward}-{number} -- {ward} {number} {shlex.quote(name)}" for number, name in enumerate(candidates, 1)]
     given_out = [f"batch {batch} {ward} {size} {first} {second} --id b{batch}" for batch, size, first, second in batches]
     return [f"ward {ward} {seats} {shlex.quote(name)} --id w{ward}", *nominated, f"close {ward} --id n{ward}", *given_out]
+
+
+def marks_of(order, columns):
+    """Returns the marks of a paper on which the candidates of these columns are ranked in this order."""
+    return ",".join(str(order.index(column) + 1) if column in order else "" for column in range(columns))
+
+
+def keyed(batch, papers, clerks=(4, 9)):
+    """Returns the orders by which clerks key the same papers in a batch's first round."""
+    return [f"key {clerk} {batch} 1 {' '.join(papers)} --id k{batch}" for clerk in clerks]
 
 
 def keying(papers, columns):
@@ -125,17 +133,13 @@ def earlier_office(folder):
     return office
 
 
-def execute(path, *statements):
-    """Executes statements on a database."""
-    with contextlib.closing(sqlite3.connect(path)) as base, base:
-        for statement in statements:
-            base.execute(statement)
-
-
+TITLE = "Election of 6 May 2027, Harbour Council"
 CODES = {4: "kf7m-2wxt-h4dn", 9: "w3hd-4psn-7kfr"}
 OFFICE_CODE = "kf7m-2wxt-h4dn-p3cs"
 SMALL = ["Ann", "Bob", "Cy", "Dee", "Maximiliane Oberhuber-Featherstonehaugh of the Old Harbour Road"]
 LARGE = [*(f"Candidate {c}" for c in range(1, 29)), "<img src=x onerror=document.title='marked'>", "\u202eesrever\u2066 in"]
+# Names that look like markup, change the direction of writing, or are as long as they may be.
+HOSTILE = [*LARGE[-2:], "A" * 120, "\u05d0" * 60, "Maximiliane " * 9 + "Oberhuber-F.", "=1+1", "\u0627\u062d\u0645\u062f, 2 Bob", "\u0085x"]
 
 
 def evening_office(folder, codes=None):

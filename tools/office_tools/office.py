@@ -43,6 +43,12 @@ def program(variable="COUNT_OFFICE"):
     return str(ROOT / "out" / variable.lower().replace("_", "-"))
 
 
+def checker(*words, **how):
+    """Runs the program that needs no office, and returns its status and both outputs, as bytes."""
+    ran = subprocess.run([program("CHECK_COUNT"), *words], capture_output=True, timeout=SECONDS, check=False, **how)
+    return ran.returncode, ran.stdout, ran.stderr
+
+
 def needs(*commands):
     """Raises an error if one of these commands isn't installed."""
     if missing := [PACKAGES.get(command, command) for command in commands if not shutil.which(command)]:

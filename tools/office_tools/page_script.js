@@ -3,7 +3,7 @@
 'use strict';
 
 const assert = require('node:assert/strict');
-const {Window: PlainWindow, all, main, settled} = require('./script_plays.js');
+const {Window: PlainWindow, all, main, opened: ready, settled} = require('./script_plays.js');
 
 // A window that shows the page on which a clerk keys.
 class Window extends PlainWindow {
@@ -14,6 +14,7 @@ class Window extends PlainWindow {
   listed() { return all(this.at('list'), 'li').map(({textContent}) => textContent); }
   drafts() { return Object.values(this.storage).map((text) => JSON.parse(text)); }
   papers() { return this.drafts().map(({rows}) => rows.map(({text}) => text)); }
+  marks() { return all(this.at('read-marks'), 'li').map(({textContent}) => textContent); }
   sent() { return this.asked.filter(({method}) => method === 'POST').map(({target, body}) => ({target, ...JSON.parse(body)})); }
 }
 
@@ -44,17 +45,13 @@ const officeOf = (...answers) => officeWith({work: WORK}, ...answers);
 // An office in whose second round the clerk of batch 12 is.
 const secondRound = (keyed, ...answers) => officeWith({work: [{...OPEN, round: 2}], keyed}, ...answers);
 
-const opened = async (page, office, how) => {
-  const window = new Window(page, office, how);
-  await settled();
-  return window;
-};
+const opened = (page, office, how) => ready(new Window(page, office, how));
 
 // A window in which batch 12 is open, at its first paper.
 const begun = async (page, ...answers) => {
   const window = await opened(page, officeOf(...answers));
   await window.press(['Enter', 'Enter']);
-  assert.equal(window.text('paper'), 'Paper 1 of 3');
+  window.sees({paper: 'Paper 1 of 3'});
   return window;
 };
 
@@ -62,17 +59,14 @@ const begun = async (page, ...answers) => {
 const finished = async (page, ...answers) => {
   const window = await begun(page, ...answers);
   await window.press(KEYS.flat());
-  assert.equal(window.at('end').hidden, false, 'the batch is at its end');
-  assert.deepEqual(window.sent(), [], 'nothing is sent before the clerk says so');
+  window.sees({'end hidden': false, sent: []});
   return window;
 };
 
 // Nothing was kept, and the clerk sees that: his draft is there, and he may send it again.
 const assertNotKept = (window, words) => {
   assert.doesNotMatch(window.text('said'), /has kept it|is kept\b/, 'a keying that the office didn\u2019t keep is shown as kept');
-  assert.match(window.text('said'), words);
-  assert.deepEqual(window.papers(), [PAPERS], 'the draft stays');
-  assert.equal(window.at('send').disabled, false, 'the draft can be sent again');
+  window.sees({said: words, papers: [PAPERS], 'send disabled': false});
 };
 
 const PLAYS = {
@@ -81,12 +75,11 @@ const PLAYS = {
     const office = officeOf();
     const window = await opened(page, async (asked) => answers.shift() ?? office(asked));
     for (const words of [/code is wrong, or none was sent/, /code is wrong, and very many wrong codes/]) {
-      assert.match(window.text('asked'), words);
-      assert.deepEqual(window.listed(), []);
+      window.sees({asked: words, listed: []});
       await window.click('look');
     }
-    assert.deepEqual(window.listed(), [`Batch 12 ${NAMED}, 3 papers.`, SENT]);
-    assert.deepEqual([window.text('who'), window.document.title], ['clerk 4', 'Clerk 4: keying']);
+    window.sees({listed: [`Batch 12 ${NAMED}, 3 papers.`, SENT], who: 'clerk 4'});
+    assert.equal(window.document.title, 'Clerk 4: keying');
   },
   'papers are keyed, sent once as they were keyed, and shown as kept; nothing else is asked but what is its clerk\u2019s': async (page) => {
     const window = await finished(page, KEPT);
@@ -95,8 +88,7 @@ const PLAYS = {
     const [{id, ...keying}, ...more] = window.sent();
     assert.deepEqual([keying, more], [{target: '/clerks/4/batches/12/keying', round: 1, papers: PAPERS}, []]);
     assert.match(id, /^page-12-1-[a-z0-9]{16}$/);
-    assert.match(window.text('said'), /^The office has kept it: batch 12 round 1 keyed/);
-    assert.deepEqual(window.drafts(), [], 'no draft stays of what was kept');
+    window.sees({said: /^The office has kept it: batch 12 round 1 keyed/, drafts: []});
     await window.click('leave');
     await window.click('go-away');
     assert.match(window.document.body.textContent, /Clerk 4 has left/);
@@ -109,19 +101,19 @@ const PLAYS = {
     for (const words of [/refused it: wrong number of papers \(refused 17\)/, /code is wrong, or none was sent/, /very many wrong codes/]) {
       await window.press('s');
       assertNotKept(window, words);
-      assert.equal(window.at('back').disabled, false, 'what was refused can be changed');
+      window.sees({'back disabled': false});
       await window.pass(120);
     }
     assert.equal(window.sent().length, 3, 'nothing of it is sent again by itself');
     await window.press('s');
-    assert.match(window.text('said'), /has kept it/);
+    window.sees({said: /has kept it/});
   },
   'a keying without an answer is sent again, the same, until there is one': async (page) => {
     const window = await finished(page, FAILED, null, {status: 200, says: {reply: 'batch 13 round 1 keyed'}}, REFUSED);
     await window.press('s');
     for (const seconds of [5, 10, 20]) {
       assertNotKept(window, new RegExp(`sent again as it is every ${seconds} seconds`));
-      assert.equal(window.at('back').disabled, true, 'what may have been kept can\u2019t be changed');
+      window.sees({'back disabled': true});
       await window.pass(seconds);
     }
     const [first, ...others] = window.sent();
@@ -131,19 +123,15 @@ const PLAYS = {
     await later.press('s');
     await later.pass(5);
     assert.deepEqual(later.sent().at(-1), first);
-    assert.match(later.text('said'), /has kept it/);
-    assert.deepEqual(later.drafts(), []);
+    later.sees({said: /has kept it/, drafts: []});
   },
   'names are shown as they are, and none is markup': async (page) => {
     const window = await begun(page);
-    const names = all(window.at('heads'), 'bdi');
-    assert.deepEqual(names.map(({textContent}) => textContent), NAMES);
-    assert.ok(names.every(({children}) => children.length === 0));
+    assert.deepEqual(all(window.at('heads'), 'bdi').map(({textContent, children}) => [textContent, ...children]), NAMES.map((it) => [it]));
     const labels = NAMES.map((name, place) => `Paper 1, candidate ${place + 1} \u2068${name}\u2069`);
     assert.deepEqual(all(window.at('rows'), 'input').map(({ariaLabel}) => ariaLabel), labels, 'what a screen reader gets');
-    assert.equal(window.text('which'), 'Batch 12, round 1, ward 7 Old Town <i>&');
     await window.press('1');
-    assert.equal(window.text('cursor'), `2 ${NAMES[1]}`);
+    window.sees({which: 'Batch 12, round 1, ward 7 Old Town <i>&', cursor: `2 ${NAMES[1]}`});
   },
   'the paper that is asked for is shown, and it is the one that is keyed': async (page) => {
     const window = await begun(page);
@@ -156,10 +144,9 @@ const PLAYS = {
     ]) {
       await window.press(keys);
       const now = window.at('rows').querySelector('.now');
-      const shown = [window.text('paper'), now.querySelector('th').textContent, ...all(now, 'input').map(({value}) => value)];
-      assert.deepEqual(shown, [`Paper ${paper} of 3`, String(paper), ...marks]);
+      assert.deepEqual([now.querySelector('th').textContent, ...all(now, 'input').map(({value}) => value)], [String(paper), ...marks]);
       assert.equal([...window.at('rows').rows].indexOf(now), 3, 'the current row is at the same height as ever');
-      assert.deepEqual(window.papers(), [papers]);
+      window.sees({paper: `Paper ${paper} of 3`, papers: [papers]});
     }
   },
   'a key that isn\u2019t taken says why, and changes nothing': async (page) => {
@@ -171,8 +158,7 @@ const PLAYS = {
       [['Enter'], /at its end, and another key came/, '1,2,'], [['Backspace', 'Backspace', '.', '0'], /A mark never begins with 0/, '1,2,'],
     ]) {
       await window.press(keys, more);
-      assert.match(window.text('notice'), words);
-      assert.deepEqual([window.text('paper'), window.papers()], ['Paper 1 of 3', [[text]]]);
+      window.sees({notice: words, paper: 'Paper 1 of 3', papers: [[text]]});
     }
   },
   'a clerk goes on where he was in a page that is loaded again, and another one in that browser sees nothing of it': async (page) => {
@@ -180,41 +166,40 @@ const PLAYS = {
     await before.press([...KEYS[0], '0']);
     const {storage} = before;
     const own = await opened(page, officeOf(), {storage});
-    assert.match(own.text('list'), /1 keyed here/);
+    own.sees({list: /1 keyed here/});
     const other = await opened(page, async () => ({status: 200, says: {clerk: 9, work: WORK.slice(1), ...CANDIDATES}}), {clerk: 9, storage});
-    assert.deepEqual(other.listed(), [SENT]);
+    other.sees({listed: [SENT]});
     assert.deepEqual(other.asked.map(({target}) => target), ['/clerks/9/work', '/clerks/9/batches/13/candidates']);
     const window = await opened(page, officeOf(), {batch: '#12', storage});
     before.window.dispatchEvent(new before.window.StorageEvent('storage', {key: 'keying 4 12 1'}));
     await settled();
-    assert.match(before.text('asked'), /Batch 12 was opened in another window/);
-    assert.equal(window.text('paper'), 'Paper 2 of 3');
+    before.sees({asked: /Batch 12 was opened in another window/});
+    window.sees({paper: 'Paper 2 of 3'});
     await window.press([...KEYS[1].slice(1), ...KEYS[2]]);
-    assert.deepEqual(window.papers(), [PAPERS]);
+    window.sees({papers: [PAPERS]});
   },
   'an earlier keying is gone through paper by paper, mended, and sent as the keying of the new round': async (page) => {
     const office = secondRound({batch: 12, round: 1, papers: PAPERS}, {status: 200, says: {reply: 'batch 12 round 2 keyed'}});
     const before = await opened(page, office);
     await before.press(['Enter', 'Enter', '3', 'Enter', 'Enter'], {repeat: true});
-    assert.match(before.text('start-title'), /round 2/);
     await before.press(['5']);
-    assert.match(before.text('notice'), /as you keyed it in round 1/);
+    before.sees({'start-title': /round 2/, notice: /as you keyed it in round 1/});
     for (const [keys, paper, lines, more] of [
       [['Enter'], 2, ['12 <img src=x onerror=alert(1)>']], [['Enter', 'Enter'], 2, ['12 <img src=x onerror=alert(1)>'], {repeat: true}],
       [['Backspace'], 1, ['1 Ann', `2 ${NAMES[1]}`]], [['Delete', '0', '1', 'ArrowDown'], 2, ['12 <img src=x onerror=alert(1)>']],
     ]) {
       await before.press(keys, more);
-      assert.deepEqual([before.text('paper'), ...all(before.at('read-marks'), 'li').map(({textContent}) => textContent)], [`Paper ${paper} of 3`, ...lines]);
+      before.sees({paper: `Paper ${paper} of 3`, marks: lines});
     }
     const window = await opened(page, office, {batch: '#12', storage: before.storage});
     await window.press(['ArrowDown', 'Enter']);
-    assert.equal(window.text('paper'), 'Paper 1 of 3', 'each paper must be looked at');
-    assert.match(window.text('done'), /^1 of 3 looked at/);
+    // Each paper must be looked at.
+    window.sees({paper: 'Paper 1 of 3', done: /^1 of 3 looked at/});
     await window.press(['Enter', 'Enter', 'Enter', 's']);
     const [{id, ...sent}] = window.sent();
     assert.deepEqual(sent, {target: '/clerks/4/batches/12/keying', round: 2, papers: [',1,', ...PAPERS.slice(1)]});
     assert.match(id, /^page-12-2-[a-z0-9]{16}$/);
-    assert.match(window.text('summary'), /Mended: 1 paper, by number 1$/);
+    window.sees({summary: /Corrected: 1 paper, by number 1$/});
     assert.deepEqual(new Set([...before.asked, ...window.asked].map(({target}) => target.replace('/clerks/4/', ''))),
       new Set(['work', 'batches/12/candidates', 'batches/12/keyed', 'batches/12/keying']));
   },
@@ -223,17 +208,21 @@ const PLAYS = {
       const window = await opened(page, secondRound(keyed));
       await window.press(['Enter']);
       assert.ok(window.at('through').closest('[hidden]'), 'nothing can be gone through');
-      assert.match(keyed ? window.text('asked') : window.text('anew'), keyed ? /can\u2019t be opened/ : /Key every paper again/);
+      window.sees(keyed ? {asked: /can\u2019t be opened/} : {anew: /Key every paper again/});
     }
   },
   'a draft goes on after the number of papers was put right': async (page) => {
-    const {storage} = await begun(page).then(async (window) => { await window.press([...KEYS[0], ...KEYS[1]]); return window; });
-    for (const [size, keys, papers] of [[4, ['Enter'], 3], [1, ['End'], 2], [2, ['ArrowUp', 'End'], 0]]) {
-      const window = await opened(page, officeWith({work: [{...OPEN, size}]}), {batch: '#12', storage});
-      if (!papers) assert.equal(window.at('end').hidden, false);
-      else assert.match(window.text('notice'), new RegExp(`The batch has ${size} paper`));
+    const before = await begun(page);
+    await before.press([...KEYS[0], ...KEYS[1]]);
+    for (const [size, first, keys, then] of [
+      [4, {notice: /The batch has 4 paper/}, ['Enter'], {notice: /Nothing is keyed for paper 3/}],
+      [1, {notice: /The batch has 1 paper/}, ['End'], {notice: /2 papers are keyed here, and the batch has 1/}],
+      [2, {'end hidden': false}, ['ArrowUp', 'End'], {'end-title': /2 papers keyed/}],
+    ]) {
+      const window = await opened(page, officeWith({work: [{...OPEN, size}]}), {batch: '#12', storage: before.storage});
+      window.sees(first);
       await window.press(keys);
-      assert.match(window.text('notice') + window.text('end-title'), [/2 papers keyed/, , /2 papers are keyed here, and the batch has 1/, /Nothing is keyed for paper 3/][papers]);
+      window.sees(then);
       assert.deepEqual(window.papers()[0].slice(0, 2), PAPERS.slice(0, 2));
     }
   },
@@ -246,7 +235,7 @@ const PLAYS = {
     assert.deepEqual([window.listed().length, window.document.activeElement.value], [3, '12']);
     for (isThere of [false, true]) {
       await window.pass(30);
-      assert.equal(/doesn\u2019t answer/.test(window.text('asked')), !isThere);
+      assert.equal(/office is not responding/.test(window.text('asked')), !isThere);
       assert.equal(window.listed().length, 3);
     }
     await window.press(['Enter']);

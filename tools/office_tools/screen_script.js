@@ -3,7 +3,7 @@
 'use strict';
 
 const assert = require('node:assert/strict');
-const {Window: PlainWindow, all, main, settled} = require('./script_plays.js');
+const {Window: PlainWindow, all, main, opened: ready} = require('./script_plays.js');
 
 const TITLE = 'Election of 6 May 2027, Harbour Council';
 const NAMES = ['Ann', 'Bob & <b>Cy</b>', '<img src=x onerror=alert(1)>'];
@@ -41,15 +41,12 @@ const declarationOf = ({ward, name, names, elected}) =>
 // An office whose wards may change: each has its count, its phase, and how many stages are counted. It serves what the API says, and it may
 // be down.
 class Office {
-  constructor(...wards) {
-    Object.assign(this, {wards, isDown: false, title: TITLE});
-    this.answers = (asked) => this.answer(asked);
-  }
+  constructor(...wards) { Object.assign(this, {wards, isDown: false}); }
 
   async answer({target}) {
     if (this.isDown) return this.fault;
     const listed = this.wards.map(({count, phase, stages}) => ({name: count.name, phase, stages, ward: count.ward}));
-    if (target === '/screen/wards') return {status: 200, says: {title: this.title, wards: listed}};
+    if (target === '/screen/wards') return {status: 200, says: {title: TITLE, wards: listed}};
     const [, number, what] = /^\/wards\/(\d+)\/(sheet|result)$/.exec(target) ?? [];
     const ward = this.wards.find(({count}) => count.ward === Number(number));
     if (!ward || !(what === 'sheet' ? ['sealed', 'declared'] : ['declared']).includes(ward.phase)) return {status: 409, says: {refusal: 9}};
@@ -94,6 +91,17 @@ class Window extends PlainWindow {
     return all(this.at('bars'), 'li').map((row) => cells.map((it) => row.querySelector(`.${it}`).textContent));
   }
 
+  // Returns what is shown now, and then in each turn.
+  async turns(count) {
+    const found = [this.shown()];
+    for (let turn = 0; turn < count; turn += 1) {
+      await this.next();
+      found.push(this.shown());
+    }
+    return found;
+  }
+
+  elected() { return all(this.at('people'), 'li').map(({textContent}) => textContent); }
   bars() { return all(this.at('bars'), 'li .bar').map((bar) => `${Math.round(parseFloat(bar.style.width))}`); }
   notes() { return all(this.at('what'), 'p').map(({textContent}) => textContent); }
 
@@ -104,31 +112,27 @@ class Window extends PlainWindow {
   }
 }
 
-const opened = async (page, office) => {
-  const window = new Window(page, office.answers, {url: 'http://127.0.0.1:8080/screen'});
-  await settled();
+const opened = async (page, ...wards) => {
+  const office = new Office(...wards);
+  const window = await ready(new Window(page, (asked) => office.answer(asked), {url: 'http://127.0.0.1:8080/screen'}));
   await window.pass(1);
-  return window;
+  return [window, office];
 };
 
 const PLAYS = {
   'before the seal a ward shows its name and its phase, and nothing else is asked for': async (page) => {
-    const office = new Office(harbour('keying'), town('nominations'));
-    const window = await opened(page, office);
+    const [window, office] = await opened(page, harbour('keying'), town('nominations'));
     await window.until('Ward 7 Harbour: Votes are being entered');
-    assert.equal(window.text('view'), 'Votes are being entered');
+    window.sees({view: 'Votes are being entered', title: TITLE});
     await window.until('Ward 8 Old Town: Nominations are open');
-    assert.equal(window.text('title'), TITLE);
     await window.seconds(60);
     const asked = window.asked.map((it) => [it.method, it.target, it.credentials, it.redirect, it.cache].join(' '));
     assert.deepEqual([...new Set(asked)], ['GET /screen/wards omit error no-store'], 'no code is sent, and no sheet is asked for');
   },
   'a sealed ward shows its figures, and each stage as the sheet has it': async (page) => {
     const ward = harbour('sealed');
-    const office = new Office(ward);
-    const window = await opened(page, office);
-    assert.equal(window.shown(), 'Ward 7 Harbour: The papers are sealed');
-    assert.match(window.text('view'), /Seats2Valid papers9Rejected papers0Quota4\.00000/);
+    const [window] = await opened(page, ward);
+    window.sees({shown: 'Ward 7 Harbour: The papers are sealed', view: /Seats2Valid papers9Rejected papers0Quota4\.00000/});
     for (const [rows, notes, bars] of [
       [[['6.00000', '', 'Elected'], ['1.00000', '', ''], ['2.00000', '', '']], ['Elected: 1 Ann'], ['98', '16', '33']],
       [[['4.00000', '\u22122.00000', 'Elected stage 1'], ['2.33332', '+1.33332', ''], ['2.66666', '+0.66666', '']], [], ['65', '38', '44']],
@@ -137,76 +141,66 @@ const PLAYS = {
     ]) {
       ward.stages += 1;
       await window.until(`Stage ${ward.stages}`);
-      assert.deepEqual(window.rows().map(([number, name, ...others]) => others), rows);
-      assert.deepEqual(window.rows().map(([number, name]) => `${number} ${name}`), ['1 Ann', '2 Bob', '3 Cy']);
-      assert.deepEqual([window.notes(), window.bars()], [notes, bars]);
+      window.sees({rows: rows.map((row, place) => [String(place + 1), HARBOUR.names[place], ...row]), notes, bars});
     }
-    assert.match(window.text('what'), /Stage 3: 2 Bob is excluded, and the last seats are filled/);
-    assert.match(window.text('figures'), /^Seats 2Valid papers 9Rejected papers 0Quota 4\.00000Non-transferable 0\.00000Lost by/);
+    window.sees({what: /Stage 3: 2 Bob is excluded, and the last seats are filled/,
+      figures: /^Seats 2Valid papers 9Rejected papers 0Quota 4\.00000Non-transferable 0\.00000Lost by/});
     const lines = all(window.document, '.quota').map((it) => Math.round(parseFloat(it.style.left)));
     assert.deepEqual(lines, [65, 65, 65, 65], 'the line is at the quota');
   },
   'a tie is settled by an earlier stage or by lot, and a lot that is due is said': async (page) => {
     const ward = town('sealed', 1);
-    const window = await opened(page, new Office(ward));
-    assert.deepEqual(window.notes(), ['4 Dee and 5 Eve are tied at every stage. A lot decides who is excluded.']);
+    const [window] = await opened(page, ward);
+    window.sees({notes: ['4 Dee and 5 Eve are tied at every stage. A lot decides who is excluded.']});
     for (const [stages, notes] of [[2, ['There was a tie between 4 Dee and 5 Eve at every stage. It was settled by lot.']], [3, []],
       [4, ['There was a tie between 2 Bob and 3 Cy. The votes at stage 1 settled it.', 'Elected: 1 Ann',
         'All seats are filled. The declaration follows.']]]) {
       ward.stages = stages;
       await window.until(`Stage ${stages}`);
-      assert.deepEqual(window.notes(), notes);
+      window.sees({notes});
     }
     assert.deepEqual(window.rows().map((it) => it.at(-1)), ['Elected', 'Not elected', 'Excluded', 'Excluded stage 2', 'Excluded stage 3']);
   },
   'a declared ward shows its last stage, and who is elected': async (page) => {
-    const window = await opened(page, new Office(harbour('declared', 3)));
-    const parts = [window.shown()];
+    const [window] = await opened(page, harbour('declared', 3));
     assert.deepEqual(window.rows().map((it) => it[2]), ['6.00000', '1.00000', '2.00000']);
-    for (let part = 0; part < 5; part += 1) {
-      await window.next();
-      parts.push(window.shown());
-    }
+    const parts = await window.turns(5);
     const ward = 'Ward 7 Harbour: ';
     assert.deepEqual(parts, ['Stage 1', 'Stage 2', 'Stage 3', 'elected', 'Stage 3', 'elected'].map((it) => ward + it));
-    assert.deepEqual(all(window.at('people'), 'li').map(({textContent}) => textContent), ['1Annat stage 1', '3Cyat stage 3']);
-    assert.equal(window.text('place'), '1 of 1 ward declared');
+    window.sees({elected: ['1Annat stage 1', '3Cyat stage 3'], place: '1 of 1 ward declared'});
   },
   'a ward without a poll shows its declaration, and how many seats stay empty': async (page) => {
     const ward = quay('sealed');
-    const window = await opened(page, new Office(ward));
-    assert.equal(window.shown(), 'Ward 9 Quay: No poll');
+    const [window] = await opened(page, ward);
+    window.sees({shown: 'Ward 9 Quay: No poll'});
     ward.phase = 'declared';
     await window.until('elected');
-    assert.match(window.text('view'), /Elected1Ina2JoThere was no poll: .*1 seat stays empty/);
+    window.sees({view: /Elected1Ina2JoThere was no poll: .*1 seat stays empty/});
   },
   'the last state stays while the office doesn\u2019t respond, and the screen goes on by itself': async (page) => {
-    const office = new Office(harbour('sealed', 2), town('keying'));
-    const window = await opened(page, office);
+    const [window, office] = await opened(page, harbour('sealed', 2), town('keying'));
     await window.until('Stage 2');
-    assert.equal(window.at('down').hidden, true);
-    assert.equal(window.text('changed'), 'No change since 21:00');
+    window.sees({'down hidden': true, changed: 'No change since 21:00'});
     const rows = window.rows();
     const faults = [null, {status: 503, says: {fault: 104}}, {status: 404, says: {error: 'not found'}}, {status: 200, says: 'no JSON'}];
     for (const fault of faults) {
       Object.assign(office, {isDown: true, fault});
       await window.seconds(60);
-      assert.match(window.text('down'), /^Not connected since 21:0\d\. /);
-      assert.equal(window.at('down').hidden, false);
+      window.sees({down: /^Not connected since 21:0\d\. /, 'down hidden': false});
       await window.until('Stage 2');
-      assert.deepEqual(window.rows(), rows);
+      window.sees({rows});
       Object.assign(office, {isDown: false});
       await window.seconds(6);
-      assert.equal(window.at('down').hidden, true);
+      window.sees({'down hidden': true});
     }
-    assert.equal(window.text('changed'), 'No change since 21:00');
+    window.sees({changed: 'No change since 21:00'});
     office.wards[0].stages = 3;
     await window.seconds(6);
-    assert.equal(window.text('changed'), `Last change at ${window.text('clock')}`);
+    window.sees({changed: `Last change at ${window.text('clock')}`});
     await window.until('Stage 3');
   },
   'wards take turns in a steady rhythm': async (page) => {
-    const window = await opened(page, new Office(harbour('declared', 3), town('keying'), quay('nominations')));
+    const [window] = await opened(page, harbour('declared', 3), town('keying'), quay('nominations'));
     await window.until('Ward 9 Quay');
     const turns = [];
     for (let turn = 0; turn < 10; turn += 1) turns.push(`${window.shown()} ${await window.next()}`);
@@ -215,23 +209,17 @@ const PLAYS = {
     assert.deepEqual(turns, [...round, ...round]);
   },
   'a ward with a new stage comes next, and the turns go on after it': async (page) => {
-    const office = new Office(harbour('sealed', 1), town('sealed', 1), quay('keying'));
-    const window = await opened(page, office);
+    const [window, office] = await opened(page, harbour('sealed', 1), town('sealed', 1), quay('keying'));
     for (const words of ['Ward 7', 'Ward 8', 'Ward 9', 'list']) await window.until(words);
     office.wards[1].stages = 3;
     await window.next();
-    const turns = [window.shown()];
-    for (let turn = 0; turn < 5; turn += 1) {
-      await window.next();
-      turns.push(window.shown());
-    }
+    const turns = await window.turns(5);
     const old = 'Ward 8 Old Town: ';
     assert.deepEqual(turns, [`${old}Stage 1`, `${old}Stage 2`, `${old}Stage 3`, 'Ward 7 Harbour: Stage 1', `${old}Stage 3`,
       'Ward 9 Quay: Votes are being entered']);
   },
   'keys choose the ward and the stage, and hold them': async (page) => {
-    const office = new Office(harbour('sealed', 3), town('sealed', 2));
-    const window = await opened(page, office);
+    const [window, office] = await opened(page, harbour('sealed', 3), town('sealed', 2));
     await window.until('Ward 7 Harbour: Stage 3');
     for (const [key, words, held] of [
       ['ArrowUp', 'Ward 7 Harbour: Stage 2', true], ['ArrowUp', 'Ward 7 Harbour: Stage 1', true],
@@ -240,30 +228,28 @@ const PLAYS = {
       ['ArrowRight', 'Ward 8 Old Town: Stage 1', false], ['ArrowLeft', 'Ward 7 Harbour: Stage 3', false], ['PageUp', 'All wards: list', false],
       ['PageDown', 'Ward 7 Harbour: Stage 3', false], [' ', 'Ward 7 Harbour: Stage 3', true], ['x', 'Ward 7 Harbour: Stage 3', true]]) {
       await window.press([key]);
-      assert.deepEqual([window.shown(), !window.at('keys').hidden], [words, held], `after ${key}`);
+      window.sees({shown: words, 'keys hidden': !held});
     }
+    // A held ward stays, and shows what is new; a held stage stays.
     await window.seconds(120);
-    assert.equal(window.shown(), 'Ward 7 Harbour: Stage 3', 'a held ward stays');
+    window.sees({shown: 'Ward 7 Harbour: Stage 3'});
     office.wards[0].phase = 'declared';
     await window.until('Ward 7 Harbour: elected');
     await window.seconds(120);
-    assert.equal(window.shown(), 'Ward 7 Harbour: elected', 'a held ward shows what is new');
+    window.sees({shown: 'Ward 7 Harbour: elected'});
     await window.press(['ArrowUp']);
     await window.seconds(120);
-    assert.equal(window.shown(), 'Ward 7 Harbour: Stage 3', 'a held stage stays');
+    window.sees({shown: 'Ward 7 Harbour: Stage 3'});
   },
   'names are shown whole and as they are, and none is markup': async (page) => {
-    const count = {...HARBOUR, name: 'Old Town <i>&', names: NAMES};
-    const window = await opened(page, new Office({count, phase: 'declared', stages: 3}));
+    const [window] = await opened(page, {count: {...HARBOUR, name: 'Old Town <i>&', names: NAMES}, phase: 'declared', stages: 3});
     assert.deepEqual(window.rows().map(([, name]) => name), NAMES);
     await window.until('elected');
-    assert.deepEqual(all(window.at('people'), 'bdi').map(({textContent}) => textContent), [NAMES[0], NAMES[2]]);
-    assert.equal(window.text('which'), 'Ward 7 Old Town <i>&');
+    window.sees({which: 'Ward 7 Old Town <i>&', elected: [`1${NAMES[0]}at stage 1`, `3${NAMES[2]}at stage 3`]});
     assert.ok(all(window.document, 'bdi').every(({children}) => children.length === 0));
   },
   'another office at the same address is shown as it is': async (page) => {
-    const office = new Office(harbour('declared', 3), town('sealed', 4));
-    const window = await opened(page, office);
+    const [window, office] = await opened(page, harbour('declared', 3), town('sealed', 4));
     await window.until('Ward 7 Harbour: elected');
     await window.until('Ward 8 Old Town: Stage 4');
     office.wards = [harbour('keying'), quay('declared')];
@@ -275,7 +261,7 @@ const PLAYS = {
     await window.until('Ward 9 Quay: elected');
     office.wards = [];
     await window.seconds(6);
-    assert.equal(window.text('view'), 'There are no wards yet');
+    window.sees({view: 'There are no wards yet'});
   },
 };
 

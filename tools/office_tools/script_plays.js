@@ -72,7 +72,24 @@ class Window {
   }
 
   text(id) { return this.at(id).textContent; }
+
+  // Checks what the page shows: each part by the method of this name, `ID hidden` or `ID disabled`, or else as the text of an element. A
+  // text may be given as a pattern.
+  sees(wanted) {
+    for (const [part, value] of Object.entries(wanted)) {
+      const [id, property] = part.split(' ');
+      const found = property ? this.at(id)[property] : typeof this[part] === 'function' ? this[part]() : this.text(part);
+      if (value instanceof RegExp) assert.match(found, value, part);
+      else assert.deepEqual(found, value, part);
+    }
+  }
 }
+
+// Makes a window, and waits until its page has read what it reads first.
+const opened = async (window) => {
+  await settled();
+  return window;
+};
 
 // Yields why plays don't end well on a page.
 async function* faults(page, plays) {
@@ -102,4 +119,4 @@ const run = async (name, plays, planted) => {
 
 const main = (name, plays, planted) => run(name, plays, planted).catch((error) => console.error(`${name}: ${error.message}`));
 
-module.exports = {Window, all, main, settled};
+module.exports = {Window, all, main, opened, settled};

@@ -10,7 +10,6 @@ import threading
 
 HERE = "127.0.0.1"
 PATIENCE = 60
-BROKEN = (BrokenPipeError, ConnectionResetError)
 PAGE = b"HTTP/1.1 200 OK\r\nContent-Type: text/html\r\nConnection: close\r\n\r\n<!DOCTYPE html><title>elsewhere</title><body>"
 
 

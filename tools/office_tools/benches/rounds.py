@@ -10,34 +10,23 @@ import random
 from office_tools.office import Wrong
 from office_tools.tables import Table
 
-SIZES, RATES, MOST = (25, 50, 75, 100), (0.003, 0.005, 0.01, 0.02), 2.6
-RECOMMENDED = 50, 0.01
+SIZES, RATES, RECOMMENDED, MOST = (25, 50, 75, 100), (0.003, 0.005, 0.01, 0.02), (50, 0.01), 2.6
 
 
-def agree(slips):
-    """Returns whether two keyings of a round are equal."""
-    return slips.count(0) >= 2
+def keyings_of(slips_of, left=None, takes=1):
+    """Returns the keyings' time that a batch takes until two keyings of a round are equal.
 
-
-def keyed_anew(slips_of, _):
-    """Returns the keyings that a batch takes if each round is keyed from the papers: by two clerks, and then by three."""
-    slips, keyings = [slips_of(), slips_of()], 2
-    while not agree(slips):
-        slips = [*slips, slips_of()] if keyings == 2 else [slips_of() for _ in range(3)]
-        keyings += 1 if keyings == 2 else 3
-    return keyings
-
-
-def gone_through(slips_of, reading):
-    """Returns the keyings' time that a batch takes if its clerks go through their own keyings in a new round."""
-    (left, takes), slips, time = reading, [slips_of(), slips_of()], 2
+    Each round is keyed from the papers, by two clerks and then by three; or, with a reading that leaves some slips, the clerks go through
+    their own, and a third one keys in round 2.
+    """
+    slips, time = [slips_of(), slips_of()], 2
     for number in range(1000):
-        if agree(slips):
+        if slips.count(0) >= 2:
             return time
-        if number == 1:
+        if number == bool(left):
             slips, time = [*slips, slips_of()], time + 1
         else:
-            slips, time = [left(count) for count in slips], time + takes * len(slips)
+            slips, time = [left(count) if left else slips_of() for count in slips], time + takes * len(slips)
     raise Wrong("a reading finds too little: after 1,000 rounds a batch still differs")
 
 
@@ -54,7 +43,7 @@ def main(batches=4000, *, finds=0.9, takes=1 / 3):
                 found = sum(chance.random() < finds for _ in range(slips))
                 return slips - found + slips_of(found)
 
-            anew, read = (sum(way(slips_of, (left, takes)) for _ in range(batches)) / batches for way in (keyed_anew, gone_through))
+            anew, read = (sum(keyings_of(slips_of, *how) for _ in range(batches)) / batches for how in ((), (left, takes)))
             table.row(f"{rate:.1%}", size, f"{anew:.1f}", f"{read:.2f}", f"{1 - (1 - rate) ** (2 * size):.0%}")
             if (size, rate) == RECOMMENDED and read > MOST:
                 raise Wrong(f"batches of {size} take {read:.2f} keyings' time a paper, more than {MOST}")

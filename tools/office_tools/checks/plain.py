@@ -1,4 +1,4 @@
-"""Counts the long sentences of each page and of the comments of each crate, and names idioms that no native speaker writes.
+"""Counts the words of each book and the long sentences of pages and comments, and names idioms that no native speaker writes.
 
 A sentence ends at a full stop, a question mark or an exclamation mark before a blank; so does the cell of a table, an item of a list, and
 a heading. Those of fewer than 4 words aren't counted. Code in fences isn't read, and what is in backticks counts as one word. Each page

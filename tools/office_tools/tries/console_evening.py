@@ -8,7 +8,6 @@ Tellers' keyings are dropped on the console as files, and one is typed as an ord
 - What was typed is still there after a reload. An order that was typed in a terminal is shown.
 - While nothing changes, the console requests nothing but the list of wards. It never requests what isn't in docs/formats/console-api.md.
 - Each file that is downloaded or printed is what the order of that name prints.
-- A wrong code, a clerk's name with the office's code, and a page from elsewhere are denied.
 - If the office's file is gone, the console says so and what to do.
 - The browser reports nothing but the connections and requests that failed on purpose. Nothing is wider than a window of 1280, 800 or 400
   pixels.
@@ -19,51 +18,22 @@ import json
 import time
 from pathlib import Path
 
-from office_tools.election import OFFICE_CODE
+from office_tools.election import TITLE
 from office_tools.office import TOWN, Office, Wrong, waited
 from office_tools.players import Officer, played
-from office_tools.web import ask, basic, request, status
 
-TITLE = "Election of 6 May 2027, Harbour Council"
 NAMES = ["ward,candidate,name", "7,2,Bob", "7,3,Cy", "7,4,Dee", "7,5,Gil", '8,1,"Eve, jr"', "8,2,Fay"]
 HEAD = {batch: {clerk: f"paper {batch}/{clerk},1,2,3,4" for clerk in (4, 5, 9)} for batch in (12, 13)}
 TWELVE = ["1,1,2,,", "2,1,2,,", "3,1,2,,", "4,1,,2,", "5,1,,,2", "6,D,,,", "7,1,,,", "8,,,,"]
 THIRTEEN = ["1,,1,,", "2,,1,,", "3,,1,,", "4,,,1,", "5,,,2,1", "6,D,,,"]
 OTHER = [*THIRTEEN[:4], "5,,,1,2", THIRTEEN[5]]
 # The guide's orders as they are typed: the console has to make the same office.
-TYPED = """ward 7 2 Harbour
-ward 8 2 Quay
-candidate 7 1 Ann
-candidate 7 2 Bob
-candidate 7 3 Cy
-candidate 7 4 Dee
-candidate 7 5 Gil
-candidate 8 1 'Eve, jr'
-candidate 8 2 Fay
-withdraw 7 5
-close 7
-close 8
-batch 12 7 8 4 9
-batch 13 7 6 4 9
-key 4 12 1 1,2,, 1,2,, 1,2,, 1,,2, 1,,,2 D 1,,, ,,,
-key 4 13 1 ,1,, ,1,, ,1,, ,,1, ,,2,1 D
-key 9 13 1 ,1,, ,1,, ,1,, ,,1, ,,1,2 D
-key 9 12 1 1,2,, 1,2,, 1,2,, 1,,2, 1,,,2 D 1,,, ,,,
-again 13
-key 4 13 2 ,1,, ,1,, ,1,, ,,1, ,,2,1 D
-key 9 13 2 ,1,, ,1,, ,1,, ,,1, ,,1,2 D
-third 13 5
-key 5 13 2 ,1,, ,1,, ,1,, ,,1, ,,2,1 D
-judge 12 6 accept:1,,,
-judge 13 6 reject:4
-seal 7
-advance 7
-advance 7
-lot 7 3 4
-advance 7
-advance 7
-declare 7
-declare 8""".split("\n")
+TYPED = """ward 7 2 Harbour; ward 8 2 Quay; candidate 7 1 Ann; candidate 7 2 Bob; candidate 7 3 Cy; candidate 7 4 Dee; candidate 7 5 Gil;
+candidate 8 1 'Eve, jr'; candidate 8 2 Fay; withdraw 7 5; close 7; close 8; batch 12 7 8 4 9; batch 13 7 6 4 9;
+key 4 12 1 1,2,, 1,2,, 1,2,, 1,,2, 1,,,2 D 1,,, ,,,; key 4 13 1 ,1,, ,1,, ,1,, ,,1, ,,2,1 D; key 9 13 1 ,1,, ,1,, ,1,, ,,1, ,,1,2 D;
+key 9 12 1 1,2,, 1,2,, 1,2,, 1,,2, 1,,,2 D 1,,, ,,,; again 13; key 4 13 2 ,1,, ,1,, ,1,, ,,1, ,,2,1 D;
+key 9 13 2 ,1,, ,1,, ,1,, ,,1, ,,1,2 D; third 13 5; key 5 13 2 ,1,, ,1,, ,1,, ,,1, ,,2,1 D; judge 12 6 accept:1,,,;
+judge 13 6 reject:4; seal 7; advance 7; advance 7; lot 7 3 4; advance 7; advance 7; declare 7; declare 8""".replace("\n", " ").split("; ")
 
 
 def quiet(officer):
@@ -84,16 +54,6 @@ def compare(evening):
         rows["receipt"] = sorted((actor, subject, reply) for actor, _, subject, reply in rows["receipt"])
     if differing := [name for name in wanted if found[name] != wanted[name]]:
         raise Wrong(f"the console's office has other rows of {differing}")
-
-
-def elsewhere(evening):
-    """Checks that a wrong code, a clerk's name and a page from elsewhere are denied."""
-    for name, code, headers, wanted in (("office", "wrong", [], 401), ("4", OFFICE_CODE, [], 401), ("office", OFFICE_CODE, [], 200),
-                                        ("office", OFFICE_CODE, ["Origin: http://elsewhere.example"], 403),
-                                        ("office", OFFICE_CODE, ["Sec-Fetch-Site: cross-site"], 403), ("", "", [], 401)):
-        login = [f"Authorization: {basic(name, code)}"] if name else []
-        if (found := status(ask(evening.line.port, request("/office/wards", *login, *headers)))) != wanted:
-            raise Wrong(f"{name} {code} {headers}: {found}")
 
 
 def nominations(officer):
@@ -240,5 +200,4 @@ def main(pictures: Path = None):
             play(officer)
         compare(officer.evening)
         file_gone(officer)
-        elsewhere(officer.evening)
         quiet(officer)

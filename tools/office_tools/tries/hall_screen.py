@@ -1,10 +1,10 @@
 """Plays the screen of the hall in Chromium at 1920 by 1080 pixels: an evening, names at their longest, 99 wards, and ties.
 
 Through an evening the screen shows each phase of a ward, what its sheet says of each stage, lots, and who is elected; the orders are typed
-while the office is served. Before the seal nothing that it may read depends on candidates or keyings, and without `--public` nothing is
-there. The server stops for a while, and keys choose what is shown. No name is cut off. In made-up wards the ties and lots that the page
-finds in a sheet are those of the program. --only PLAY plays one of evening, longest, many and ties. Pictures go into the folder PICTURES.
-It needs `chromium-driver` and `python3-selenium`.
+while the office is served. No name is cut off. In made-up wards the ties and lots that the page finds in a sheet are those of the program.
+That the screen goes on while the server is away, and what keys do, `tools/check script` shows; what the office serves before the seal, and
+without `--public`, examples/hall.sh. --only PLAY plays one of evening, longest, many and ties. Pictures go into the folder PICTURES. It
+needs `chromium-driver` and `python3-selenium`.
 """
 import contextlib
 import json
@@ -13,17 +13,14 @@ import re
 from pathlib import Path
 
 from office_tools.browser import Browser
-from office_tools.election import LARGE, ward_orders
+from office_tools.election import HOSTILE, TITLE, keyed, marks_of, ward_orders
 from office_tools.office import Office, Wrong, free_port, temporary_folder
 from office_tools.wards import Ward, sealed_office
-from office_tools.web import HERE, ask, request, status
+from office_tools.web import HERE
 
-WIDTH, HEIGHT = 1920, 1080
-TITLE = "Election of 6 May 2027, Harbour Council"
 NAMES = ["Ann Baird", "Bob Cairns", "Catriona MacGillivray-Stewart", "Dee Drummond", "Ewan Forsyth", "Flora Geddes"]
 PAPERS = [*["1,2,,,,"] * 40, *["1,,2,,,"] * 20, *[",1,2,,,"] * 12, *[",,1,2,,"] * 18, *[",,,1,2,"] * 9, *[",,,2,1,"] * 9, *[",,,,,1"] * 8,
           "D"]
-TARGETS = ("/screen/wards", "/", "/screen", "/wards/7/sheet", "/wards/7/result", "/wards/7/page")
 LETTERS = {"E": "Elected", "e": "Elected", "x": "Excluded", "-": ""}
 # What a row of the chart shows, as a line of the sheet has it.
 ROWS = """[...document.querySelectorAll('#bars li')].map((it) => [it.querySelector('.number'), it.querySelector('.votes'),
@@ -34,57 +31,41 @@ CUT = """[document.documentElement, ...document.querySelectorAll('#which, #title
         || it.className === 'name' && it.firstChild.getBoundingClientRect().height > it.clientHeight
         || !/state|standing|votes/.test(it.className) && it.scrollHeight > it.clientHeight + 1)
     .map((it) => `${it.tagName} ${it.id || it.className}: ${it.textContent.slice(0, 60)}`)"""
-PLAYS = ("evening", "longest", "many", "ties")
+TIED = "are tied at every stage. A lot decides who is excluded."
+SETTLED = "There was a tie between 4 Dee Drummond and 5 Ewan Forsyth at every stage. It was settled by lot."
 
 
 class Screen:
     """A screen in the hall, and the office that serves it."""
 
     def __init__(self, browser, pictures):
-        self.browser, self.pictures, self.office, self.serving, self.port = browser, pictures, None, None, free_port()
+        self.browser, self.pictures, self.office, self.port = browser, pictures, None, free_port()
 
     @contextlib.contextmanager
     def showing(self, office, title=TITLE):
         """Serves an office, and opens its screen, which stays where it is until it is told."""
-        self.office, self.title = office, title
-        self.start()
-        self.browser.open(f"http://{HERE}:{self.port}/screen")
-        self.browser.until("office.text !== null && office.wards.filter(isCounted).every((it) => office.counts.has(it.ward))")
-        self.browser.value("(() => { shown.hold = 'part'; })()")
-        yield self
-        self.serving.kill()
+        self.office = office
+        with office.serve("--public", "--title", title, port=self.port).wait():
+            self.browser.open(f"http://{HERE}:{self.port}/screen")
+            self.browser.until("office.text !== null && office.wards.filter(isCounted).every((it) => office.counts.has(it.ward))")
+            yield
 
-    def start(self):
-        self.serving = self.office.serve("--public", "--title", self.title, port=self.port).wait()
-
-    def look(self):
-        """Lets the screen look at the office at once."""
+    def show(self, ward, *words, part=None, picture=""):
+        """Lets the screen look at the office, and show a ward, or the list, or a part. It shows these words, and no name is cut off."""
         self.browser.driver.execute_async_script("const done = arguments[0]; look(() => { meetChange(); draw(); }).then(() => done())")
-
-    def go(self, ward, part=None):
-        """Shows a ward, or the list, as when its turn comes, or a part of it."""
         part_of = "" if part is None else f"showPart({part});"
-        self.browser.value(f"(() => {{ shown.hold = 'part'; showTurn({{ward: {ward}, part: 0}}); {part_of} draw(); }})()")
-
-    def text(self, part="view"):
-        return self.browser.value(f"document.getElementById('{part}').innerText")
-
-    def shows(self, *words, part="view"):
-        text = " ".join(self.text(part).split())
+        self.browser.value(f"""(() => {{ shown.hold = 'part'; showTurn({{ward: {ward}, part: 0}}); {part_of} draw();
+            document.getElementById('keys').hidden = true; }})()""")
+        text = " ".join(self.browser.text().split())
         if missing := [word for word in words if word not in text]:
             raise Wrong(f"the screen lacks {missing}: {text!r}")
-
-    def picture(self, name, moving=False):
-        """Checks that nothing is cut off, and takes a picture."""
-        if moving:
-            self.browser.until("document.getAnimations().length === 0")
+        self.browser.until("document.getAnimations().length === 0")
         if cut := self.browser.value(CUT):
-            raise Wrong(f"{name}: cut off: {cut[:5]}")
-        self.browser.value(f"(() => {{ document.getElementById('keys').hidden = {'false' if 'held' in name else 'true'}; }})()")
-        if self.pictures:
-            (self.pictures / f"{name}.png").write_bytes(self.browser.picture())
+            raise Wrong(f"ward {ward}, {words}: cut off: {cut[:5]}")
+        if self.pictures and picture:
+            (self.pictures / f"{picture}.png").write_bytes(self.browser.picture())
 
-    def shows_sheet(self, ward, part):
+    def compare(self, ward, part):
         """Checks that the chart has the rows of the sheet at this stage: votes as they are printed, and standings in words."""
         stages = re.split(r"^Stage \d+: .*\n", self.office.do("sheet", ward), flags=re.M)
         wanted = [[line[:2].strip(), line[3:16].strip(), LETTERS[line[17]], line[19:]] for line in stages[part].split("\n")[:-3]]
@@ -92,149 +73,46 @@ class Screen:
         if found != wanted:
             raise Wrong(f"ward {ward}, stage {part}: the screen shows {found}, the sheet has {wanted}")
 
-    def asked(self, target):
-        """Returns the status and the body of a response."""
-        head, _, body = ask(self.port, request(target)).partition(b"\r\n\r\n")
-        return head.split(b"\r\n")[0], body
-
-
-def keyed(office, batch, papers):
-    for clerk in (4, 9):
-        office.do("key", clerk, batch, 1, *papers, "--id", f"k{batch}")
-
 
 def evening(screen, folder):
-    """Plays three wards from their nominations to their declarations."""
-    office = Office(folder / "evening").begin()
+    """Plays three wards from their nominations to their declarations: ward 7 stage by stage, with a lot, and ward 9 without a poll."""
+    office, part, settled = Office(folder / "evening").begin(), 0, 0
+
+    def show(orders, *words, **how):
+        office.replay(orders)
+        screen.show(*words, **how)
     with screen.showing(office):
-        screen.shows("There are no wards yet")
-        screen.picture("01-no-wards")
-        office.replay(["ward 9 3 Quay --id w9", "ward 8 2 'New Town' --id w8"])
-        screen.look()
-        screen.go(8)
-        screen.shows("Nominations are open")
-        screen.picture("02-nominations")
-        before_the_seal(screen)
-        screen.go(0)
-        screen.shows("7 Harbour Votes are being entered", "9 Quay Nominations are open")
-        screen.picture("04-list")
-        counting(screen)
-        office.replay(["candidate 9 1 Ina --id c91", "candidate 9 2 Jo --id c92", "close 9 --id n9"])
-        screen.look()
-        screen.go(9)
-        screen.shows("No poll")
-        screen.picture("30-no-poll")
-        office.do("declare", 9, "--id", "d9")
-        screen.look()
-        screen.go(9)
-        screen.shows("Elected", "1 Ina", "2 Jo", "1 seat stays empty")
-        screen.picture("31-no-poll-declared")
-        stopped(screen)
-        keys(screen)
-    hidden(office)
-
-
-def hidden(office):
-    """Checks that without `--public` nothing is there but sheets and declarations, which always are."""
-    with office.serve() as serving:
-        found = [(target, status(serving.ask(request(target)))) for target in TARGETS]
-    if wrong := [each for each in found if each[1] != (200 if each[0].endswith(("sheet", "result")) else 404)]:
-        raise Wrong(f"without --public: {wrong}")
-
-
-def before_the_seal(screen):
-    """Checks that nothing that is public changes with candidates, batches, keyings or verdicts of a ward in keying."""
-    office = screen.office
-    office.replay(ward_orders((12, len(PAPERS), 4, 9), candidates=NAMES, seats=3))
-    public = [screen.asked(target) for target in TARGETS]
-    if b'{"name":"Harbour","phase":"keying","stages":0,"ward":7}' not in public[0][1]:
-        raise Wrong(f"of a ward in keying the screen reads {public[0]}")
-    keyed(office, 12, PAPERS)
-    office.do("judge", 12, len(PAPERS), "reject:5", "--id", "j")
-    if public != [screen.asked(target) for target in TARGETS]:
-        raise Wrong("what is public depends on keyings")
-    screen.look()
-    screen.go(7)
-    screen.shows("Votes are being entered")
-    if any(name in screen.text() for name in NAMES):
-        raise Wrong("a candidate is shown before the seal")
-    screen.picture("03-keying")
-
-
-def counting(screen):
-    """Counts ward 7 stage by stage, with a lot, and declares it."""
-    office = screen.office
-    office.do("seal", 7, "--id", "s7")
-    screen.look()
-    screen.go(7)
-    screen.shows("Valid papers 116", "Rejected papers 1", "void for uncertainty", "Quota 30.00000")
-    screen.picture("05-sealed")
-    part = 0
-    while "stage" in (following := office.do("next", 7)):
-        part += 1
-        if "waits for a lot" in following:
-            screen.shows("4 Dee Drummond and 5 Ewan Forsyth are tied at every stage. A lot decides who is excluded.")
-            screen.picture(f"1{part}-lot", moving=True)
-            office.do("lot", 7, part, 5, "--id", f"l{part}")
-            settled = part
-        office.do("advance", 7, "--id", f"a{part}")
-        screen.look()
-        screen.go(7, part)
-        screen.shows(f"Stage {part}: ")
-        screen.picture(f"1{part}-stage", moving=True)
-        screen.shows_sheet(7, part)
-    screen.shows("All seats are filled. The declaration follows.")
-    screen.go(7, settled)
-    screen.shows("There was a tie between 4 Dee Drummond and 5 Ewan Forsyth at every stage. It was settled by lot.")
-    office.do("declare", 7, "--id", "d7")
-    screen.look()
-    screen.go(7)
-    screen.shows(f"Stage {part} of {part}: ")
-    screen.go(7, part + 1)
-    screen.shows("Elected", *(line.strip() for line in office.do("result", 7).split("\n")[2:]))
-    screen.picture("20-declared")
-    screen.shows("1 of 3 wards declared", part="place")
-    screen.shows("Last change at ", part="changed")
-
-
-def stopped(screen):
-    """The server stops: the screen still shows the last state, says so, and goes on when the server is there again."""
-    screen.go(7, 2)
-    screen.serving.kill()
-    screen.look()
-    screen.shows("Not connected since ", part="down")
-    screen.shows_sheet(7, 2)
-    screen.picture("32-not-connected", moving=True)
-    screen.start()
-    screen.browser.until("document.getElementById('down').hidden")
-
-
-def keys(screen):
-    """Chooses what is shown by keys."""
-    browser = screen.browser
-    browser.value("(() => { shown.hold = ''; showTurn({ward: 7, part: 0}); showPart(3); draw(); })()")
-    for key, wanted in (("Arrow_up", [7, 2, "part"]), ("Arrow_down", [7, 3, "part"]), (" ", [7, 3, ""]), (" ", [7, 3, "ward"]),
-                        ("Arrow_right", [8, 0, "ward"]), ("Arrow_left", [7, None, "ward"]), ("Page_down", [8, 0, "ward"])):
-        browser.press(key)
-        found = browser.value("[shown.ward, shown.part, shown.hold]")
-        if any(it is not None and it != each for it, each in zip(wanted, found)):
-            raise Wrong(f"after {key} the screen shows {found}")
-    screen.shows("Held.", part="keys")
-    screen.picture("33-held")
+        screen.show(0, "There are no wards yet", picture="01-no-wards")
+        show(["ward 9 3 Quay --id w9", "ward 8 2 'New Town' --id w8"], 8, "Nominations are open", picture="02-nominations")
+        show(ward_orders((12, len(PAPERS), 4, 9), candidates=NAMES, seats=3), 7, "Votes are being entered", picture="03-keying")
+        screen.show(0, "7 Harbour Votes are being entered", "9 Quay Nominations are open", picture="04-list")
+        show([*keyed(12, PAPERS), f"judge 12 {len(PAPERS)} reject:5 --id j", "seal 7 --id s7"], 7, "Valid papers 116", "Rejected papers 1",
+             "void for uncertainty", "Quota 30.00000", picture="05-sealed")
+        while "stage" in (following := office.do("next", 7)):
+            part += 1
+            if "waits for a lot" in following:
+                screen.show(7, f"4 Dee Drummond and 5 Ewan Forsyth {TIED}", part=part - 1, picture=f"1{part}-lot")
+                office.do("lot", 7, part, 5, "--id", f"l{part}")
+                settled = part
+            show([f"advance 7 --id a{part}"], 7, f"Stage {part}: ", part=part, picture=f"1{part}-stage")
+            screen.compare(7, part)
+        screen.show(7, "All seats are filled. The declaration follows.", part=part)
+        screen.show(7, SETTLED, part=settled)
+        show(["declare 7 --id d7"], 7, f"Stage {part} of {part}: ")
+        elected = [line.strip() for line in office.do("result", 7).split("\n")[2:]]
+        screen.show(7, "Elected", *elected, "1 of 3 wards declared", "Last change at ", part=part + 1, picture="20-declared")
+        show(["candidate 9 1 Ina --id c91", "candidate 9 2 Jo --id c92", "close 9 --id n9"], 9, "No poll", picture="30-no-poll")
+        show(["declare 9 --id d9"], 9, "Elected", "1 Ina", "2 Jo", "1 seat stays empty", picture="31-no-poll-declared")
 
 
 def longest(screen, folder):
     """Shows thirty candidates for fifteen seats: names have 120 bytes, look like markup, or change the direction of writing."""
-    names = [*LARGE[-2:], "A" * 120, "\u05d0" * 60, "Maximiliane " * 9 + "Oberhuber-F.", "\u0627\u062d\u0645\u062f, 2 Bob"]
-    names += ["\u0085x", "=1+1"] + [f"{number} {'Featherstonehaugh-Marjoribanks ' * 4}"[:120].strip() for number in range(9, 31)]
-    chance, papers = random.Random(3), []
-    for _ in range(300):
-        order = sorted(chance.sample(range(30), 20), key=lambda place: place + chance.randrange(30))
-        papers.append(",".join(str(order.index(place) + 1) if place in order else "" for place in range(30)))
+    names = HOSTILE + [f"{number} {'Featherstonehaugh-Marjoribanks ' * 4}"[:120].strip() for number in range(9, 31)]
+    chance = random.Random(3)
+    orders = [sorted(chance.sample(range(30), 20), key=lambda place: place + chance.randrange(30)) for _ in range(300)]
     office = Office(folder / "longest").begin(ward_orders((1, 300, 4, 9), candidates=names, seats=15, name=names[4]))
     office.replay(ward_orders((2, 300, 4, 9), candidates=names[:12], seats=4, ward=8, name="A" * 120))
-    keyed(office, 1, papers)
-    keyed(office, 2, [",".join(paper.split(",")[:12]) for paper in papers])
+    office.replay(keyed(1, [marks_of(order, 30) for order in orders]) + keyed(2, [marks_of(order, 12) for order in orders]))
     for ward in (7, 8):
         office.do("seal", ward, "--id", f"s{ward}")
         counted(office, ward)
@@ -242,25 +120,20 @@ def longest(screen, folder):
     with screen.showing(office, "Election to the council of " + names[4]):
         for ward in (7, 8):
             last = screen.browser.value(f"lastPart({ward})")
-            for part in (1, last // 2, last - 1):
-                screen.go(ward, part)
-                screen.picture(f"40-longest-{ward}-{part}", moving=True)
-            screen.go(ward, last)
-            screen.picture(f"40-longest-{ward}-declared")
-        screen.go(0)
-        screen.picture("40-longest-list")
+            for part in (1, last // 2, last - 1, last):
+                screen.show(ward, part=part, picture=f"40-longest-{ward}-{part}")
+        screen.show(0, picture="40-longest-list")
         if screen.browser.value("document.querySelectorAll('img, #view script').length || document.title === 'marked'"):
             raise Wrong("a name is markup")
 
 
 def counted(office, ward):
     """Counts a ward to its end, and draws each lot. Returns the stages at which lots were drawn, each with the tied candidates."""
-    lots, tries = {}, 0
+    lots = {}
     while needed := re.search(r"lot needed at stage (\d+) among ([\d, ]+)", office.do("count", ward, "--id", f"count{ward}-{len(lots)}")):
         stage, tied = int(needed[1]), [int(each) for each in needed[2].split(", ")]
+        office.do("lot", ward, stage, tied[len(lots) % len(tied)], "--id", f"lot{ward}-{stage}")
         lots[stage] = tied
-        office.do("lot", ward, stage, tied[tries % len(tied)], "--id", f"lot{ward}-{stage}")
-        tries += 1
     return lots
 
 
@@ -272,10 +145,8 @@ def many(screen, folder):
     with screen.showing(office):
         pages = screen.browser.value("turns().filter((it) => it.ward === 0).length")
         for page in range(pages):
-            screen.browser.value(f"(() => {{ showTurn({{ward: 0, part: {page}}}); draw(); }})()")
-            screen.shows(f"Wards {24 * page + 1} to {min(24 * page + 24, 99)}", part="which")
-            screen.picture(f"50-many-{page + 1}")
-        if found := screen.browser.value("turns().length") != pages + 39:
+            screen.show(0, f"Wards {24 * page + 1} to {min(24 * page + 24, 99)}", part=page, picture=f"50-many-{page + 1}")
+        if (found := screen.browser.value("turns().length")) != pages + 39:
             raise Wrong(f"{found} turns")
 
 
@@ -283,7 +154,7 @@ def ties(screen, folder, wards=12):
     """Compares the ties that the page finds in sheets of made-up wards with the lots that the program asks for."""
     chance, lots = random.Random(11), 0
     with screen.showing(Office(folder / "ties").begin()):
-        screen.shows("There are no wards yet")
+        screen.show(0, "There are no wards yet")
     for number in range(wards):
         ward = Ward(chance)
         if not ward.is_contested:
@@ -294,10 +165,8 @@ def ties(screen, folder, wards=12):
             const all = count.stages.map((_, place) => [place + 2, tieAfter(count, count.stages.slice(0, place + 1))]);
             return [all.filter(([, it]) => it?.settled === 0).map(([stage, it]) => [stage, it.tied.map((each) => each.candidate)]),
                 count.stages[0].rows.map((it) => [it.candidate, it.name])]; }})()""")
-        if dict(found) != drawn:
-            raise Wrong(f"ward {number}: the page finds lots {found}, and {drawn} were drawn")
-        if dict(names) != ward.names:
-            raise Wrong(f"ward {number}: the page has the names {names}")
+        if (dict(found), dict(names)) != (drawn, ward.names):
+            raise Wrong(f"ward {number}: the page finds lots {found} and names {names}; {drawn} were drawn of {ward.names}")
         lots += len(drawn)
     print(f"{lots} lots in {wards} wards are found in the sheets")
 
@@ -306,9 +175,8 @@ def main(pictures: Path = None, *, only: str = ""):
     if pictures:
         pictures.mkdir(parents=True, exist_ok=True)
     with temporary_folder() as folder, Browser(["--hide-scrollbars"]) as browser:
-        browser.resize(WIDTH, HEIGHT)
-        screen = Screen(browser, pictures)
-        for play in [only] if only else PLAYS:
-            globals()[play](screen, folder)
+        browser.resize(1920, 1080)
+        for play in [only] if only else ["evening", "longest", "many", "ties"]:
+            globals()[play](Screen(browser, pictures), folder)
         if strange := [line for line in browser.said() if "ERR_CONNECTION_REFUSED" not in line]:
             raise Wrong(f"the browser said {strange[:5]}")

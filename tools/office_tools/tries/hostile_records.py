@@ -6,20 +6,23 @@ CHECK_COUNT names, must print the same sheet and ballots, ask for the same lots,
 import collections
 import random
 import re
-import subprocess
 
 from office_tools.damage import damaged
-from office_tools.office import SECONDS, Wrong, program
+from office_tools.office import Wrong, checker
 from office_tools.tables import Table
 from office_tools.tries.hostile_ballots import quoted
-from office_tools.tries.recount import Ballots, Count, Unreadable, compare, written
+from office_tools.tries.recount import Ballots, Count, Unreadable, compare_counted, written
 from office_tools.wards import judged
 
 NAMES = ["Ann", "Bob", "Cy, jr.", 'D. "Dee"', "Eve", "Fay # 1", "-x", "Zoë", "G\\H", "<b>I</b>", " J ", "Rankin", "Countess", "Choices"]
 SIGNS = [b",", b'"', b"\n", b"\r", b"0", b"99", b"100", b"\xff", b"rank1", b"count", b";", b"Ann", b"31"]
 # Words with which the name of a column begins that may be something other than a candidate's.
 TITLES = ["rank", "choice", "preference", "first", "count", "weight", "votes", "papers", "ballot", "ballots"]
-WARD = 'Harbour "7"'
+# Other fields and other names of columns: of records with a candidate in each column, and with a rank.
+ODD = [["", "1", "2", "3", "99"], ["", "", "1", "0", "02", "31", "99", "Ann ", "overvote", '"1"', '""']]
+ODD_HEADS = [["", "2nd", "RANK 1", "Choice-1", "Weight", "Votes", "Ballot paper", "Firstly", "count"],
+             ["", "rank0", "rank", "RANK1", "rank01", "rank  1", "Ann", "rank1"]]
+WARD, MOST = 'Harbour "7"', 4999500
 FIELD = '(?:"(?:[^"]|"")*"|[^",]*)'
 
 
@@ -27,48 +30,31 @@ def field(name, always=False):
     return '"' + name.replace('"', '""') + '"' if always or re.search('[",]', name) else name
 
 
-def by_candidates(chance):
-    """Returns the lines of records with a candidate in each column."""
-    names, is_counted = chance.sample(NAMES, chance.randint(1, 9)), chance.random() < 0.5
-    lines = [["count"] * is_counted + [field(name) for name in names]]
-    for _ in range(chance.randint(0, 40)):
-        ranked = chance.sample(range(len(names)), chance.randint(0, len(names)))
-        marks = [str(ranked.index(place) + 1) if place in ranked else "" for place in range(len(names))]
-        while chance.random() < 0.2:
-            marks[chance.randrange(len(marks))] = chance.choice(["", "1", "2", "3", "99"])
-        lines.append([str(chance.choice((1, 1, 2, 7, 50)))] * is_counted + marks)
-    if chance.random() < 0.1:
-        lines[0][-1] = chance.choice(("", "2nd", "RANK 1", "Choice-1", "Weight", "Votes", "Ballot paper", "Firstly", "count"))
-    return lines
-
-
-def by_ranks(chance, names):
-    """Returns the lines of records with a rank in each column."""
-    ranks, is_counted, is_quoted = chance.randint(1, min(len(names) + 1, 9)), chance.random() < 0.5, chance.random() < 0.2
-    title = chance.choice(("rank{}", "Rank{}", "rank {}", "Rank {}"))
-    lines = [["count"] * is_counted + [title.format(rank) for rank in range(1, ranks + 1)]]
-    is_named = chance.random()
-    for _ in range(chance.randint(0, 40)):
-        named = chance.sample(range(1, len(names) + 1), chance.randint(0, min(ranks, len(names))))
-        fields = [field(names[c - 1], is_quoted) if chance.random() < is_named else str(c) for c in named] + [""] * (ranks - len(named))
-        if chance.random() < 0.05:
-            fields[chance.randrange(ranks)] = chance.choice(["", "", "1", "0", "02", "31", "99", "Ann ", "overvote", '"1"', '""'])
-        lines.append([str(chance.choice((1, 1, 2, 7, 50)))] * is_counted + fields)
-    if chance.random() < 0.1:
-        lines[0][chance.randrange(len(lines[0]))] = chance.choice(("", "rank0", "rank", "RANK1", "rank01", "rank  1", "Ann", "rank1"))
-    return lines
-
-
 def made_up(chance):
     """Returns the text of a ward's records, and the names of the candidates if there is a rank in each column."""
-    names = []
-    if chance.random() < 0.6:
-        names = chance.sample(NAMES, chance.randint(1, 9))
-        if chance.random() < 0.1:
-            names[0] = chance.choice(names + ["2", "02", "rank1"])
-    lines = by_ranks(chance, names) if names else by_candidates(chance)
-    end = chance.choice(("\n", "\r\n"))
-    return (chance.choice(("", "\ufeff")) + end.join(map(",".join, lines)) + chance.choice(("", end))).encode(), names
+    names, is_ranked, is_quoted = chance.sample(NAMES, chance.randint(1, 9)), chance.random() < 0.6, chance.random() < 0.2
+    is_named, size, title = chance.random(), len(names), chance.choice(("rank{}", "Rank{}", "rank {}", "Rank {}"))
+    columns, lines = chance.randint(1, min(size + 1, 9)) if is_ranked else size, []
+    if is_ranked and chance.random() < 0.1:
+        names[0] = chance.choice(names + ["2", "02", "rank1"])
+    heads = [title.format(rank) for rank in range(1, columns + 1)] if is_ranked else [*map(field, names)]
+    for _ in range(chance.randint(0, 40)):
+        chosen = chance.sample(range(size), chance.randint(0, min(columns, size)))
+        if is_ranked:
+            fields = [field(names[c], is_quoted) if chance.random() < is_named else str(c + 1) for c in chosen]
+            fields += [""] * (columns - len(chosen))
+        else:
+            fields = [str(chosen.index(c) + 1) if c in chosen else "" for c in range(size)]
+        while chance.random() < (0.03 if is_ranked else 0.2):
+            fields[chance.randrange(columns)] = chance.choice(ODD[is_ranked])
+        lines.append(fields)
+    if chance.random() < 0.1:
+        heads[chance.randrange(columns)] = chance.choice(ODD_HEADS[is_ranked])
+    lines, end = [heads, *lines], chance.choice(("\n", "\r\n"))
+    if chance.random() < 0.5:
+        lines = [["count" if fields is heads else str(chance.choice((1, 1, 2, 7, 50))), *fields] for fields in lines]
+    text = chance.choice(("", "\ufeff")) + end.join(map(",".join, lines)) + chance.choice(("", end))
+    return text.encode(), names if is_ranked else []
 
 
 def fields_in(line):
@@ -83,23 +69,19 @@ def fields_in(line):
 def columns_in(line, candidates):
     """Returns whether a line begins with a number of papers, the number of ranks or None, and the candidates' names."""
     fields = fields_in(line)
-    if len(fields) < 2:
-        raise Unreadable("a single column")
     is_counted = fields[0] == b"count"
-    fields = fields[is_counted:]
-    if len(fields) > 30:
-        raise Unreadable("too many columns")
+    names = fields[is_counted:]
+    if len(fields) < 2 or len(names) > 30:
+        raise Unreadable("a single column, or too many")
     if candidates:
-        for rank, name in enumerate(fields, 1):
-            found = re.fullmatch(b"[Rr]ank ?([0-9]+)", name)
-            if not found or int(found[1]) != rank:
-                raise Unreadable("not the next rank")
-        return is_counted, len(fields), candidates
-    for name in fields:
+        if not all((found := re.fullmatch(b"[Rr]ank ?([0-9]+)", name)) and int(found[1]) == rank for rank, name in enumerate(names, 1)):
+            raise Unreadable("not the next rank")
+        return is_counted, len(names), candidates
+    for name in names:
         word = re.match(b"[A-Za-z]*", name)[0].decode().lower()
         if not name or name[:1].isdigit() or word in TITLES or len(name) > 1000:
             raise Unreadable("a column without a name, or not of a candidate")
-    return is_counted, None, [name.decode() for name in fields]
+    return is_counted, None, [name.decode() for name in names]
 
 
 def ranked(fields, names):
@@ -107,31 +89,28 @@ def ranked(fields, names):
     ranks = []
     for name in fields:
         found = [c for c, known in enumerate(names, 1) if known.encode() == name or (re.fullmatch(b"[0-9]+", name) and int(name) == c)]
-        if name and len(found) != 1:
-            raise Unreadable("no candidate, or several")
+        if name and (len(found) != 1 or found[0] in ranks):
+            raise Unreadable("no candidate, or several, or one twice")
         ranks.append(found[0] if name else None)
-    named = [c for c in ranks if c]
-    if len(set(named)) < len(named):
-        raise Unreadable("a candidate twice")
     return tuple(ranks[:(ranks + [None]).index(None)]) or 1
 
 
 def paper_in(line, columns):
     """Returns how many papers a line is of, and their preferences or the code by which they are rejected."""
     is_counted, ranks, names = columns
-    papers = 1
+    papers = b"1"
     if is_counted:
-        number, comma, line = line.partition(b",")
-        if not comma or not re.fullmatch(b"[0-9]+", number) or not 1 <= (papers := int(number)) <= 4999500:
+        papers, comma, line = line.partition(b",")
+        if not comma or not re.fullmatch(b"[0-9]+", papers) or not 1 <= int(papers) <= MOST:
             raise Unreadable("no number of papers")
     if ranks is not None:
         if len(fields := fields_in(line)) != ranks:
             raise Unreadable("another number of fields")
-        return papers, ranked(fields, names)
+        return int(papers), ranked(fields, names)
     fields = line.decode("latin-1").split(",")
     if not names or len(fields) != len(names) or not all(re.fullmatch("([1-9][0-9]?)?", mark) for mark in fields):
         raise Unreadable("other fields than ranks")
-    return papers, judged(range(1, len(names) + 1), fields)
+    return int(papers), judged(range(1, len(names) + 1), fields)
 
 
 def read(content, seats, candidates):
@@ -140,19 +119,18 @@ def read(content, seats, candidates):
     for place, line in enumerate(content.removeprefix(b"\xef\xbb\xbf").split(b"\n"), 1):
         if not line.strip(b" \t\r"):
             continue
-        line = line.removesuffix(b"\r")
         try:
             if columns is None:
-                columns = columns_in(line, candidates)
+                columns = columns_in(line.removesuffix(b"\r"), candidates)
                 continue
-            papers, preferences = paper_in(line, columns)
+            papers, preferences = paper_in(line.removesuffix(b"\r"), columns)
         except (Unreadable, UnicodeDecodeError):
             return place
         if isinstance(preferences, tuple):
             bundles[preferences] += papers
         else:
             rejected[preferences - 1] += papers
-        if sum(bundles.values()) > 4999500:
+        if sum(bundles.values()) > MOST:
             return place
     if columns is None:
         return place
@@ -162,51 +140,27 @@ def read(content, seats, candidates):
     return lines + ["# Rejected " + ", ".join(f"{code}: {papers}" for code, papers in enumerate(rejected, 1))]
 
 
-def told(content, words):
-    """Returns what the program prints of records, and its status."""
-    asked = [program("CHECK_COUNT"), "--count", "-", *words]
-    ended = subprocess.run(asked, input=content, capture_output=True, timeout=SECONDS, check=False)
-    if ended.returncode not in range(4):
-        raise Wrong(f"status {ended.returncode}, {ended.stderr}")
-    return ended.stdout, ended.stderr, ended.returncode
-
-
-def count_to_the_end(content, words, lines, chance):
-    """Compares the counts of records, lot by lot."""
-    lots = {}
-    while True:
-        added = words + [word for stage, drawn in lots.items() for word in ("--lot", f"{stage}:{drawn}")]
-        count = Count(Ballots(written(lines + [f"# Lot at stage {stage}: {drawn}" for stage, drawn in lots.items()])))
-        out, err, status = told(content, added)
-        compare("sheet", out, count.sheet())
-        if status != (1 if count.waits else 0) or bool(err) != bool(count.waits):
-            raise Wrong(f"status {status}, {err}")
-        if not count.waits:
-            drawn = [f"# Lot at stage {stage}: {candidate}" for stage, candidate in sorted(lots.items())]
-            return compare("ballots", told(content, ["--ballots", *added])[0], written(lines + drawn))
-        stage, tied = count.waits
-        if not err.startswith(f"lot needed at stage {stage} among {tied[0]} ".encode()):
-            raise Wrong(f"another lot than at stage {stage}: {err}")
-        lots[stage] = chance.choice(tied)
-
-
 def compared(content, seats, candidates, chance):
-    """Compares what the program makes of a file with what is read here. Returns what that is."""
-    lines = read(content, seats, candidates)
-    words = ["--seats", str(seats), "--name", WARD] + [word for name in candidates for word in ("--candidate", name)]
+    """Compares what the program makes of a file with what is read here, lot by lot. Returns what that is."""
+    lines, lots = read(content, seats, candidates), {}
+    words = ["--count", "-", "--seats", str(seats), "--name", WARD, *(word for name in candidates for word in ("--candidate", name))]
     if isinstance(lines, int):
-        out, err, status = told(content, words)
+        status, out, err = checker(*words, input=content)
         if status != 2 or out or not err.startswith(b"error: line %d of the ballots: " % lines):
             raise Wrong(f"line {lines} isn't understood: status {status}, {err}, {out[:200]}")
         return "refused"
-    try:
-        Ballots(written(lines))
-    except Unreadable:
-        if told(content, words)[2] != 2:
-            raise Wrong("nobody has to be chosen, or there are too many papers") from None
-        return "no contest"
-    count_to_the_end(content, words, lines, chance)
-    return "counted"
+    while True:
+        ballots = written(lines + [f"# Lot at stage {stage}: {candidate}" for stage, candidate in sorted(lots.items())])
+        try:
+            count = Count(Ballots(ballots))
+        except Unreadable:
+            if checker(*words, input=content)[0] != 2:
+                raise Wrong("nobody has to be chosen, or there are too many papers") from None
+            return "no contest"
+        compare_counted(content, words, lots, count, {"": count.sheet()} | ({} if count.waits else {"--ballots": ballots}))
+        if not count.waits:
+            return "counted"
+        lots[count.waits[0]] = chance.choice(count.waits[1])
 
 
 def main(wards=1000, seed=1):

@@ -78,7 +78,7 @@ def go_through(four):
         office.do(*line.split())
     four.log_in().shows("round 2", "list").keys("Tab", "Enter").views("start").keys("Enter", at=1)
     four.until("document.getElementById('read-marks').textContent.includes('1 Ann2 Bob')")
-    four.pictured("read").keys("Delete", "1", "0", "2", "Enter").shows("Mended: 1 paper", "summary")
+    four.pictured("read").keys("Delete", "1", "0", "2", "Enter").shows("Corrected: 1 paper", "summary")
     four.keys("s").shows("batch 14 round 2 keyed", "said")
     if [row[-1] for row in office.rows()["keying"] if row[:3] == (14, 2, 4)] != ["1,,2,,"]:
         raise Wrong("clerk 4's second keying of batch 14 isn't what was mended")

@@ -13,11 +13,10 @@ import collections
 import itertools
 import random
 import re
-import subprocess
 import sys
 from pathlib import Path
 
-from office_tools.office import SECONDS, Wrong, program, temporary_folder
+from office_tools.office import Wrong, checker, temporary_folder
 from office_tools.tables import Table
 from office_tools.wards import Ward, sealed_office
 
@@ -263,47 +262,45 @@ def compare(what, told, wanted):
             raise Wrong(f"{what}, line {place}: told is {line}, wanted {right}")
 
 
-def compare_counted(ballots, lots, wanted, waits):
-    """Counts ballots without an office, with these lots added, and compares each text by its option, the line about a lot and the status."""
-    line, added = b"", [word for stage, drawn in lots.items() for word in ("--lot", f"{stage}:{drawn}")]
-    if waits:
-        names = Ballots(ballots).names
-        line = STEERS.sub("?", f"lot needed at stage {waits[0]} among {', '.join(f'{c} {names[c]}' for c in waits[1])}").encode() + b"\n"
+def compare_counted(content, words, lots, count, wanted):
+    """Counts a file without an office, with these lots added, and compares each text by its option, the line about a lot and the status."""
+    line, added = b"0", [word for stage, drawn in lots.items() for word in ("--lot", f"{stage}:{drawn}")]
+    if count.waits:
+        tied = ", ".join(f"{number} {count.ballots.names[number]}" for number in count.waits[1])
+        line = STEERS.sub("?", f"lot needed at stage {count.waits[0]} among {tied}").encode() + b"\n1"
     for option, text in wanted.items():
-        words = [program("CHECK_COUNT"), "--count", "-", *option.split(), *added]
-        run = subprocess.run(words, input=ballots, stdout=subprocess.PIPE, stderr=subprocess.PIPE, timeout=SECONDS, check=False)
-        compare(f"count without an office {option}", run.stdout, text)
-        compare("its line about a lot, and its status", run.stderr + b"%d" % run.returncode, line + (b"1" if waits else b"0"))
+        status, out, err = checker(*words, *option.split(), *added, input=content)
+        compare(f"count without an office {option}", out, text)
+        compare("its line about a lot, and its status", err + b"%d" % status, line)
 
 
 def play(ward, folder):
     """Plays a ward to its declaration, and compares all that the program prints on the way. Returns its count."""
-    number, office, lots = ward.number, sealed_office(folder, ward), {}
+    number, office, lots, is_over = ward.number, sealed_office(folder, ward), {}, False
+    bundles, rejected = ward.judged()
 
     def told(*words):
         return office.do(*words).encode("utf-8", "surrogateescape")
     first = told("ballots", number)
-    while True:
-        count = Count(Ballots(told("ballots", number)))
-        bundles, rejected = ward.judged()
+    while not is_over:
+        count = Count(Ballots(ballots := told("ballots", number)))
         papers = [(bundle.papers, bundle.preferences) for bundle in sorted(count.ballots.bundles)]
         compare("ballots, sorted", written([count.ballots.rejected, *papers]), written([rejected, *bundles]))
         if count.lots:
             raise Wrong(f"ballots: no stage takes these lots: {count.lots}")
-        stage, tied = count.waits or (0, [])
+        is_over, (stage, tied) = not count.waits, count.waits or (0, [])
         last = f"lot needed at stage {stage} among {', '.join(map(str, tied))}" if tied else "count finished"
         compare("count", told("count", number, "--id", f"count-to-{stage}").splitlines()[-1], last.encode())
         compare("sheet", told("sheet", number), count.sheet())
-        if not tied:
-            break
-        texts = {"": count.sheet(), "--declaration": b"", "--table": told("table", number), "--ballots": told("ballots", number)}
-        compare_counted(first, lots, texts | {"--page": told("page", number)}, count.waits)
-        lots[stage] = ward.chance.choice(tied)
-        told("lot", number, stage, lots[stage], "--id", f"l{stage}")
-    told("declare", number, "--id", "d")
-    compare("result", told("result", number), count.declaration())
-    texts = {"": count.sheet(), "--declaration": count.declaration(), "--table": told("table", number), "--ballots": told("ballots", number)}
-    compare_counted(first, lots, texts | {"--page --title Spring": told("page", number, "--title", "Spring")}, None)
+        if is_over:
+            told("declare", number, "--id", "d")
+            compare("result", told("result", number), count.declaration())
+        texts = {"": count.sheet(), "--declaration": is_over * count.declaration(), "--table": told("table", number), "--ballots": ballots,
+                 "--page --title Spring": told("page", number, "--title", "Spring")}
+        compare_counted(first, ["--count", "-"], lots, count, texts)
+        if tied:
+            lots[stage] = ward.chance.choice(tied)
+            told("lot", number, stage, lots[stage], "--id", f"l{stage}")
     return count
 
 
