@@ -14,8 +14,8 @@ returns-in-Ok-clause-found g c = λ clean is_open s at.
     c.batches.new.self.closed (state g.S.Store c.args.office.now.held) (state g.S.Store c.batches.new.self.held)
     (c.in-Ok.ensures.reads clean is_open s at) (rw c.deref.ensures.value at c.covers_form.ensures) c.made.ensures.ok c.made.ensures.err
 
-pub returns-clause-found : goal.returns-clause-found
-returns-clause-found g c = λ clean is_open s at.
+pub returns-in-Err-clause-found : goal.returns-in-Err-clause-found
+returns-in-Err-clause-found g c = λ clean is_open s at.
     stop_found (λ v. map batch_view v.items) covers_form s (batches_answer s c.args.ward) c.in-Err.stop (page_of c.stopped.result)
     c.batches.new.self.closed (state g.S.Store c.args.office.now.held) (state g.S.Store c.batches.new.self.held)
     (c.in-Err.ensures.reads clean is_open s at) (c.in-Err.ensures.cause clean is_open s at) c.stopped.ensures

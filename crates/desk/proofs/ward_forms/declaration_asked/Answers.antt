@@ -14,8 +14,8 @@ returns-in-Ok-clause-found g c = λ clean is_open s at.
     c.wards.new.self.closed (state g.S.Store c.args.office.now.held) (state g.S.Store c.wards.new.self.held)
     (c.in-Ok.ensures.reads clean is_open s at) (rw c.deref.ensures.value at c.declaration_form.ensures) c.made.ensures.ok c.made.ensures.err
 
-pub returns-clause-found : goal.returns-clause-found
-returns-clause-found g c = λ clean is_open s at.
+pub returns-in-Err-clause-found : goal.returns-in-Err-clause-found
+returns-in-Err-clause-found g c = λ clean is_open s at.
     stop_found (λ v. map ward_view v.items) (declaration_form c.args.ward) s (wards_answer s) c.in-Err.stop (page_of c.stopped.result)
     c.wards.new.self.closed (state g.S.Store c.args.office.now.held) (state g.S.Store c.wards.new.self.held)
     (c.in-Err.ensures.reads clean is_open s at) (c.in-Err.ensures.cause clean is_open s at) c.stopped.ensures
