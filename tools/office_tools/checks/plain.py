@@ -47,7 +47,7 @@ ALLOWED = {"docs/formats/ballots.md": ("a line behind the ward's name", "the lin
            "crates/tables/src/walking.rt": ("visitor",), "crates/tables/specs/Walking.antt": ("visitor",)}
 # A page of tables that the tools made, and the books.
 MADE, BOOKS = "results.md", {"officer": ["officer/"], "formats": ["formats/"], "engineering": ["engineering/", "DECISIONS"]}
-PLACES = ("crates/*/src/**/*", "crates/*/specs/**/*", "crates/**/*.edit", "tools/**/*", "examples/*", "release/package/**/*", "count-office")
+PLACES = "crates/*/src/**/* crates/*/specs/**/* crates/**/*.edit tools/**/* examples/* release/package/**/* count-office".split()
 SUFFIXES = (".rt", ".antt", ".edit", ".py", ".sh", ".bash", ".fish", ".zsh", ".service", ".js")
 SPOKEN = re.compile(r'^[ \t]*"""((?s:.*?))"""|^(?:new: )?[ \t]*(?:///|//!|//|--|#)( .*|$)|.+', re.M)
 
