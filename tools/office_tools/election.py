@@ -88,8 +88,8 @@ def election(copies=1):
     lot = 3 if copies == 1 else 4
     lines = [
         "init", "ward 7 2 Harbour --id w1", f"import-candidates {FILE} --id c", "withdraw 7 4 --id x1", "candidate 7 4 Dee --id c4",
-        "close 7 --id n1", f"batch 12 7 {size} 4 9 --id b-1", f"import-keying 4 12 1 {FILE} --id k1", f"import-keying 9 12 1 {FILE} --id k1",
-        f"import-batches {FILE} --id b",
+        "close 7 --id n1", f"batch 12 7 {size} 4 9 --id b-1", f"import-keying 4 12 1 {FILE} --id k1",
+        f"import-keying 9 12 1 {FILE} --id k1", f"import-batches {FILE} --id b",
         "third 12 5 --id t1", "again 12 --id g1", f"import-keying 4 12 2 {FILE} --id k2", f"key 9 12 2 {' '.join(papers)} --id k2",
         f"judge 12 {size} reject:5 --id j1", "seal 7 --id s1", *(f"advance 7 --id a{stage}" for stage in range(1, lot)),
         f"lot 7 {lot} 2 --id l{lot}", "count 7 --id a", "declare 7 --id d1",

@@ -32,8 +32,8 @@ const KEYS = [['1', '2', 'Enter'], ['0', '0', '.', '1', '2', 'Enter'], ['d', 'En
 const NAMED = 'ward 7 Old Town <i>&, round 1';
 const SENT = `Batch 13: ${NAMED}, 2 papers. The office has your keying.`;
 
-// An office that responds to keyings as it is told, one after another, and to the rest as it should. `says` is the clerk's work, and
-// what he keyed in an earlier round.
+// An office that responds to keyings with the given answers, one after another, and to the rest as it should. `says` is the clerk's
+// work, and the clerk's keying of an earlier round.
 const officeWith = (says, ...answers) => async ({method, target}) => {
   if (method === 'POST') return answers.shift();
   if (target === '/clerks/4/work') return {status: 200, says: {clerk: 4, work: says.work}};
@@ -63,7 +63,7 @@ const finished = async (page, ...answers) => {
   return window;
 };
 
-// Nothing was kept, and the clerk sees that: his draft is there, and he may send it again.
+// Nothing was kept, and the clerk sees that: the draft is there, and can be sent again.
 const assertNotKept = (window, words) => {
   assert.doesNotMatch(window.text('said'), /has kept it|is kept\b/, 'a keying that the office didn\u2019t keep is shown as kept');
   window.sees({said: words, papers: [PAPERS], 'send disabled': false});
@@ -167,7 +167,8 @@ const PLAYS = {
     const {storage} = before;
     const own = await opened(page, officeOf(), {storage});
     own.sees({list: /1 keyed here/});
-    const other = await opened(page, async () => ({status: 200, says: {clerk: 9, work: WORK.slice(1), ...CANDIDATES}}), {clerk: 9, storage});
+    const says = {clerk: 9, work: WORK.slice(1), ...CANDIDATES};
+    const other = await opened(page, async () => ({status: 200, says}), {clerk: 9, storage});
     other.sees({listed: [SENT]});
     assert.deepEqual(other.asked.map(({target}) => target), ['/clerks/9/work', '/clerks/9/batches/13/candidates']);
     const window = await opened(page, officeOf(), {batch: '#12', storage});
@@ -245,7 +246,7 @@ const PLAYS = {
   },
 };
 
-// What somebody tired or hostile might write in the page: a text that stands there once, and what is written in its place.
+// What somebody tired or hostile might write in the page: a text that is there once, and what is written in its place.
 const PLANTED = {
   'a refused keying is shown as kept': ['if (kept) return showKept(kept);', 'if (kept || refusal) return showKept(kept);'],
   'whatever is answered by 200 is kept': [' && answer.says?.reply === `batch ${batch} round ${round} keyed`', ''],

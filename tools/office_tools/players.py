@@ -17,7 +17,7 @@ FOCUSED = """(({id, dataset, tagName, parentElement}) => [dataset?.key, id, tagN
 
 
 def chained(kind):
-    """Makes each step of a class that returns nothing return whoever took it, so that a play is read as a row of steps."""
+    """Makes each step of a class that returns nothing return its object, so that a play is read as a row of steps."""
     def returning(step):
         @functools.wraps(step)
         def taken(self, *words, **how):
@@ -40,7 +40,7 @@ class Player(Browser):
         self.resize(*self.SIZES[0])
 
     def complaints(self):
-        """Returns what the browser's console was told, but for what was done on purpose: connections that broke, and denials."""
+        """Returns what the browser's console logged, but for what was done on purpose: connections that broke, and denials."""
         return [line for line in self.said() if not re.search(self.EXPECTED, line)]
 
     def shows(self, words, part="result"):

@@ -105,7 +105,7 @@ class Window extends PlainWindow {
   bars() { return all(this.at('bars'), 'li .bar').map((bar) => `${Math.round(parseFloat(bar.style.width))}`); }
   notes() { return all(this.at('what'), 'p').map(({textContent}) => textContent); }
 
-  // Goes on until this is shown.
+  // Continues until this is shown.
   async until(words) {
     for (let turn = 0; turn < 60 && !this.shown().includes(words); turn += 1) await this.next();
     assert.ok(this.shown().includes(words), `${words} is never shown`);
@@ -224,8 +224,8 @@ const PLAYS = {
     for (const [key, words, held] of [
       ['ArrowUp', 'Ward 7 Harbour: Stage 2', true], ['ArrowUp', 'Ward 7 Harbour: Stage 1', true],
       ['ArrowUp', 'Ward 7 Harbour: Stage 1', true], ['ArrowDown', 'Ward 7 Harbour: Stage 2', true],
-      [' ', 'Ward 7 Harbour: Stage 2', false],
-      ['ArrowRight', 'Ward 8 Old Town: Stage 1', false], ['ArrowLeft', 'Ward 7 Harbour: Stage 3', false], ['PageUp', 'All wards: list', false],
+      [' ', 'Ward 7 Harbour: Stage 2', false], ['ArrowRight', 'Ward 8 Old Town: Stage 1', false],
+      ['ArrowLeft', 'Ward 7 Harbour: Stage 3', false], ['PageUp', 'All wards: list', false],
       ['PageDown', 'Ward 7 Harbour: Stage 3', false], [' ', 'Ward 7 Harbour: Stage 3', true], ['x', 'Ward 7 Harbour: Stage 3', true]]) {
       await window.press([key]);
       window.sees({shown: words, 'keys hidden': !held});

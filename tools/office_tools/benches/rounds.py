@@ -1,9 +1,9 @@
-"""Simulates how often each paper is keyed until its batch is taken, and prints a table for docs/engineering/results.md. It needs no program.
+"""Simulates how often each paper is keyed until its batch is taken, and prints a table for docs/engineering/results.md.
 
-A slip is a paper that is keyed wrongly; no two slips are alike, so two keyings are equal if neither has one. A batch that differs is keyed
-anew, with a third clerk at once; or its two clerks go through their own keyings, and the third clerk keys only if they still differ. A
-reading finds a part of the slips (FINDS), and takes a part of a keying's time (TAKES); what is found is keyed anew. At slips of 1% in
-batches of 50 it may take at most 2.6 keyings' time a paper. 2.0 is the least that two clerks can take.
+It needs no program. A slip is a paper that is keyed wrongly; no two slips are alike, so two keyings are equal if neither has one. A batch
+that differs is keyed again, with a third clerk at once; or its two clerks go through their own keyings, and the third clerk keys only if
+they still differ. A reading finds a part of the slips (FINDS), and takes a part of a keying's time (TAKES); what is found is keyed again.
+At slips of 1% in batches of 50 it may take at most 2.6 keyings' time a paper. 2.0 is the least that two clerks can take.
 """
 import random
 

@@ -1,4 +1,4 @@
-"""Compares the configuration of nginx that count-office-lan writes with that of docs/officer/network.md, and tries words that it has to refuse.
+"""Compares the configuration of nginx that count-office-lan writes with that of docs/officer/network.md, and tries wrong words.
 
 Both have to be the same but for the paths of the certificate and its key. What is refused ends with status 2 and a sentence.
 """

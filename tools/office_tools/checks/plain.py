@@ -14,8 +14,8 @@ from office_tools.checks.links import FENCED, pages
 from office_tools.office import ROOT
 
 MOST, LEAST, MOST_IN_COMMENTS = 30, 4, 40
-SHARES, OTHERS = {5: "README evening by-words when-it-says-no putting-right tellers agents installing network rules glossary", 20: "proofs limits",
-                  10: "orders files sheets ballots records http console-api screen-api tables faults"}, 15
+SHARES, OTHERS = {5: "README evening by-words when-it-says-no putting-right tellers agents installing network rules glossary",
+                  20: "proofs limits", 10: "orders files sheets ballots records http console-api screen-api tables faults"}, 15
 # What begins a line of a comment, and such lines in a row.
 SIGN = r"^[ \t]*(?:///|//!|//|--)(?: |$)"
 COMMENTS = re.compile(rf"(?:{SIGN}.*\n?)+", re.M)

@@ -1,7 +1,7 @@
 """Compares what the pages of docs/ name of the sources with them.
 
 docs/engineering/proofs.md and limits.md are about the sources throughout. Each row of a table | crate | promise | where | names in its last
-column functions of the crate and, after a colon, clauses of each of them, in parts like `Office::run`: `headline`, `answers`; `order`: `ok`.
+column functions of the crate and, after a colon, clauses of each, in parts like `Office::run`: `headline`, `answers`; `order`: `ok`.
 In their text `opened`, `told` of `Store::open_from` names clauses of a function, and each word in backticks is one of the sources, or a
 wrong body; so in lines of docs/officer/rules.md or docs/formats/{orders,sheets,ballots,records}.md that begin with `- Definition` or
 `The definition`, and in rows of docs/officer/glossary.md. Each path like `Rattle.votes.specs.Units.IsQuota` has its definition there.

@@ -1,6 +1,6 @@
 """Plays the guide's evening on the officer's console in Chromium, partly by keyboard alone, and compares the result with typed orders.
 
-Tellers' keyings are dropped on the console as files, and one is typed as an order beside it.
+Tellers' keyings are dropped on the console as files, and one is typed as an order.
 
 - At the end the office has the rows that the typed orders make, except for the ids.
 - Each order is done once, though the connection breaks after it was done, the server stops and starts again, the page is reloaded while an
@@ -88,7 +88,7 @@ def papers(officer):
                  nobody=["paper,1,2", "1,1,"])
     officer.shows("Not imported. The file doesn\u2019t name its batch and teller", "brought")
     officer.until("document.getElementById('brought').innerText.split('accepted').length === 4")
-    # The console shows an order that was typed beside it.
+    # The console shows an order that was typed in a terminal.
     marks = ["D" if "D" in line else line.split(",", 1)[1] for line in TWELVE]
     officer.pictured("8-batches").evening.office.do("key", 9, 12, 1, *marks, "--id", "typed")
     officer.shows("Agreed", "batch-list").go("overview").shows("1 batch differs", "steps").pictured("9-overview-differs")

@@ -2,7 +2,7 @@
 
 Through an evening the screen shows each phase of a ward, what its sheet says of each stage, lots, and who is elected; the orders are typed
 while the office is served. No name is cut off. In made-up wards the ties and lots that the page finds in a sheet are those of the program.
-That the screen goes on while the server is away, and what keys do, `tools/check script` shows; what the office serves before the seal, and
+That it continues while the server is away, and what keys do, `tools/check script` shows; what the office serves before the seal, and
 without `--public`, examples/hall.sh. --only PLAY plays one of evening, longest, many and ties. Pictures go into the folder PICTURES. It
 needs `chromium-driver` and `python3-selenium`.
 """
@@ -43,7 +43,7 @@ class Screen:
 
     @contextlib.contextmanager
     def showing(self, office, title=TITLE):
-        """Serves an office, and opens its screen, which stays where it is until it is told."""
+        """Serves an office, and opens its screen, which stays where it is until `show` changes it."""
         self.office = office
         with office.serve("--public", "--title", title, port=self.port).wait():
             self.browser.open(f"http://{HERE}:{self.port}/screen")

@@ -1,7 +1,7 @@
 """Gives the program files that are no office, or a damaged one, and prints what it reports.
 
 - *Damaged files.* The program is asked for a status, and to add a ward. It always ends with a status of its own. If it reports a fault,
-  the files stay byte for byte as they were, and it reports the same once more. If the office opens, it adds the ward, and the file is whole.
+  the files stay byte for byte as they were, and a second report is the same. If the office opens, it adds the ward, and the file is whole.
   A bit turned in a name, or in a part of a page that nothing uses, is no damage that rows can show.
 - *A log without its file.* All orders are given while DB is missing or empty, and something has the name of its log, or of a rollback
   journal. Each order reports fault 105, and touches nothing. Only `init` makes an office there, if DB is empty (or of one byte, as in

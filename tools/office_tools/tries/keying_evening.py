@@ -3,7 +3,7 @@
 Two browsers log in as clerks 4 and 9, and each keys the same batch of 50 papers. One leaves a paper out and puts it in, and mends another.
 A page is loaded again in mid-batch, the server is killed and started again, and a line breaks after a keying was kept. The rows are those
 that were typed, each keyed once. Another batch comes back, and one of the two goes through their own keying of it. The page asks nothing
-but what is its clerk's, and whoever left isn't let in again.
+but what is its clerk's, and a clerk who signed out isn't let in again.
 Pictures at 1024 and 400 pixels go into the folder PICTURES. It needs `chromium`, `chromium-driver` and `python3-selenium`.
 """
 import functools

@@ -129,15 +129,15 @@ def written(lines):
 
 
 class Candidate:
-    """A candidate, the parcels that lie before him, and his votes, now and at the end of each stage."""
+    """A candidate, the parcels received, and the votes, now and at the end of each stage."""
 
     def __init__(self, number, name):
         self.number, self.name, self.parcels, self.votes, self.figures = number, name, [], 0, []
-        # As on the sheet: - while he continues, E at the stage at which he is elected and e after it, x once he is excluded.
+        # As on the sheet: - for a continuing candidate, E at the stage of the election and e after it, x once excluded.
         self.letter = "-"
 
     def receives(self, parcel):
-        """Lays a parcel before him: he is credited with the values of its papers."""
+        """Adds a parcel, and credits the candidate with the values of its papers."""
         self.parcels.append(parcel)
         self.votes += worth(parcel)
 
@@ -175,14 +175,14 @@ class Count:
         surpluses = [candidate for candidate in self.those("Ee") if candidate.votes > self.quota]
         giver = self.foremost(surpluses, max) if surpluses else self.foremost(self.those("-"), min)
         if giver and surpluses:
-            # All his papers are handed on, each at its part of his surplus, and he keeps the quota. What they don't take with them, since
-            # their values are cut down, is lost.
+            # All papers are handed on, each at its part of the surplus, and the quota stays. What they don't take with them, since their
+            # values are cut down, is lost.
             surplus, credited = giver.votes - self.quota, giver.votes
             self.lost += surplus - self.hand_on(giver, lambda received: surplus * received // credited)
             giver.votes = self.quota
             self.end_stage(f"surplus of {giver.number}")
         elif giver:
-            # His papers are handed on at the values at which he received them. If all the others are elected now, his votes stay.
+            # The papers are handed on at the values at which they were received. If all the others are elected now, the votes stay.
             giver.letter = "x"
             is_last = len(self.those("-")) == self.vacancies()
             giver.votes -= 0 if is_last else self.hand_on(giver, lambda received: received)
@@ -205,7 +205,7 @@ class Count:
         return None
 
     def hand_on(self, giver, value_of):
-        """Hands on each parcel of a candidate, at the value that comes of the one at which he received it. Returns the worth of all."""
+        """Hands on each parcel of a candidate, at a value made from the one at which it was received. Returns the worth of all."""
         handed_on = 0
         for parcel in giver.parcels:
             heaps = collections.defaultdict(list)

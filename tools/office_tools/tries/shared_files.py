@@ -7,7 +7,7 @@
   they have the rows before it, or those after it if it was answered, and the other office's file isn't changed. What `serve` does then,
   examples/serving.sh shows.
 - *No room.* An order that makes a file finds no room for an office in it, and removes it again. By `strace` it stops after one of its calls
-  on the file, drawn at random, and another order comes to that file. Then the first finishes. If the second was answered, the file at
+  on the file, drawn at random, and another order opens that file. Then the first finishes. If the second was answered, the file at
   that name holds what it printed. If it wasn't, nothing is left, not even a log, and an `init` makes an office.
 - *Rights.* By `strace`: DB, its log, a copy and the socket are made for their owner alone, and are their owner's alone then.
 """
@@ -108,7 +108,7 @@ def print_pairs(folder, before, runs, chance):
 
 
 class Taking:
-    """Files that are taken from an order, or from `serve`, and what must come of it."""
+    """Files that are taken from an order, or from `serve`, and the outcome that they must have."""
 
     def __init__(self, folder, before, chance):
         self.folder, self.office, self.chance = folder, before[KEYINGS], chance
@@ -165,7 +165,7 @@ def print_taken(taking, runs):
         table.row(what, runs, *map(found.count, ("answered", *FAULTS[:2])))
 
 
-# How long another order may wait for the one that stopped, which then goes on.
+# How long another order may wait for the one that stopped, which then continues.
 STUCK, NO_ROOM = 0.4, ["prlimit", "--fsize=40960"]
 
 
@@ -183,7 +183,8 @@ def check_made(here, name, printed, before):
 
 def print_gaps(folder, before, runs, chance):
     """Prints the table of orders that find no room for the file that they make, and of others that come to it meanwhile."""
-    table = Table("An order that finds no room for its file", "another at that file", "runs", "stopped", "answered", "fault 102", "fault 105")
+    outcomes = "runs", "stopped", "answered", "fault 102", "fault 105"
+    table = Table("An order that finds no room for its file", "another at that file", *outcomes)
     trace = folder / "gap-trace"
 
     def start(order, here, name, *changes):

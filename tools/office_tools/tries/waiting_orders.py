@@ -73,7 +73,8 @@ class Waits:
         for hold, what, who in ((lock_of_an_order, "an order", "another order holds it"),
                                 (lock_of_sqlite, "another program", "another program has it open")):
             late = (3, "", f"{STORE}waited ten seconds for town.db: {who}\n")
-            for held, wanted, end in ((1, self.run("receipts"), "for a second: the order is done"), (30, late, "and stays held: fault 102")):
+            for held, wanted, end in ((1, self.run("receipts"), "for a second: the order is done"),
+                                      (30, late, "and stays held: fault 102")):
                 free = hold(self.path)
                 threading.Timer(held, free).start()
                 found, seconds = timed(self.run, "receipts")
