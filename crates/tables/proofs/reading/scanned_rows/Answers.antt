@@ -62,7 +62,8 @@ returns-clause-scans g c clean db begins rests =
     let last = c.copy_rest.new.rows.conn.now in
     let honest : HasCleanDisk (state g.S.Store last) = search rules in
     all_scanned g.S.Store c.args.table c.args.conn.now c.in_ok-rows.rows.conn.now last (rw c.scan_text.ensures at c.in_ok-rows.ensures.begun)
-    (rw c.scan_text.ensures at c.in_ok-rows.ensures.survives) c.copy_rest.ensures.reads honest db begins rests c.copy_rest.new.found.items (rw c.new-found.ensures.items at (c.in_ok-copy_rest.ensures.shows honest))
+    (rw c.scan_text.ensures at c.in_ok-rows.ensures.survives) c.copy_rest.ensures.reads honest db begins rests c.copy_rest.new.found.items
+    (rw c.new-found.ensures.items at (c.in_ok-copy_rest.ensures.shows honest))
 
 pub returns-clause-reads : goal.returns-clause-reads
 returns-clause-reads g c =
