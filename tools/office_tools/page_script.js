@@ -214,7 +214,7 @@ const PLAYS = {
     const [{id, ...sent}] = window.sent();
     assert.deepEqual(sent, {target: '/clerks/4/batches/12/keying', round: 2, papers: [',1,', ...PAPERS.slice(1)]});
     assert.match(id, /^page-12-2-[a-z0-9]{16}$/);
-    assert.match(window.text('summary'), /Mended: 1 paper, by number 1$/);
+    assert.match(window.text('summary'), /Corrected: 1 paper, by number 1$/);
     assert.deepEqual(new Set([...before.asked, ...window.asked].map(({target}) => target.replace('/clerks/4/', ''))),
       new Set(['work', 'batches/12/candidates', 'batches/12/keyed', 'batches/12/keying']));
   },
@@ -246,7 +246,7 @@ const PLAYS = {
     assert.deepEqual([window.listed().length, window.document.activeElement.value], [3, '12']);
     for (isThere of [false, true]) {
       await window.pass(30);
-      assert.equal(/doesn\u2019t answer/.test(window.text('asked')), !isThere);
+      assert.equal(/is not responding/.test(window.text('asked')), !isThere);
       assert.equal(window.listed().length, 3);
     }
     await window.press(['Enter']);
