@@ -119,7 +119,7 @@ pub fn print_slips<O: Sink, E: Sink>(
     requires out { O.failed out.old < 2 ^ 64 - 1 }
     requires err { E.failed err.old < 2 ^ 64 - 1 }
     ensures { let outputs = outputs_of O.taken O.failed E.taken E.failed in Tells (outputs out.old err.old) (outputs out.new err.new) result
-        (λ _ page. IsPageOfSlips (origin_text address) page) }
+        (λ _ page. IsPageOfSlips (origin_text address.entry) page) }
 {
     let bytes = match bytes_of(rt, path) {
         Ok(bytes) => bytes,

@@ -31,11 +31,11 @@ impl FileLock {
         if !fs::symlink_metadata(rt, path)?.is_file() {
             return Err(ErrorKind::Unsupported.into());
         }
-        let held = FileLock::opened(rt, path, OpenOptions::new().read(true).write(true))?;
-        held.lock()?;
-        let (own, named) = (held.file.metadata()?, fs::symlink_metadata(rt, path)?);
+        let lock = FileLock::opened(rt, path, OpenOptions::new().read(true).write(true))?;
+        lock.lock()?;
+        let (own, named) = (lock.file.metadata()?, fs::symlink_metadata(rt, path)?);
         if own.dev() == named.dev() && own.ino() == named.ino() && own.nlink() == 1 {
-            Ok(held)
+            Ok(lock)
         } else {
             Err(ErrorKind::Unsupported.into())
         }
@@ -46,12 +46,12 @@ impl FileLock {
     pub fn make(rt: &HostRuntime, path: &str, mode: u32) -> io::Result<FileLock> {
         let mut options = OpenOptions::new();
         options.read(true).write(true).create_new(true).mode(mode);
-        let held = FileLock::opened(rt, path, &options)?;
-        match held.lock() {
-            Ok(()) => Ok(held),
+        let lock = FileLock::opened(rt, path, &options)?;
+        match lock.lock() {
+            Ok(()) => Ok(lock),
             Err(error) => {
                 if error.kind() != ErrorKind::WouldBlock {
-                    held.remove_empty(rt, path);
+                    lock.remove_empty(rt, path);
                 }
                 Err(error)
             }

@@ -68,10 +68,10 @@ fn is_still_at(rt: &HostRuntime, path: &str, last: &Cell<Seen>) -> bool {
 
 impl<'a> FileWatch<'a> {
     /// Returns the files of an office that was just opened; `None` if they no longer exist, or aren't the locked ones.
-    pub fn of(rt: &HostRuntime, found: &'a PathState, held: &FileLock) -> Option<FileWatch<'a>> {
+    pub fn of(rt: &HostRuntime, found: &'a PathState, lock: &FileLock) -> Option<FileWatch<'a>> {
         let database = seen_at(rt, found.database())?;
         let log = seen_at(rt, found.log())?;
-        let (device, inode) = held.numbers().ok()?;
+        let (device, inode) = lock.numbers().ok()?;
         if database.device != device || database.inode != inode {
             return None;
         }

@@ -27,7 +27,7 @@ use store::Fault;
 #[derive(Drop)]
 pub struct Localhost<'a> {
     place: LockedDatabase<'a>,
-    beside: Option<OrderSocket>,
+    socket: Option<OrderSocket>,
     streams: Option<Vec<File>>,
 }
 
@@ -99,10 +99,10 @@ fn open_at<'a>(
         Ok(network) => network,
         Err(error) => return Err(listening_failure(&error)),
     };
-    let Ok((device, inode)) = place.held.numbers() else {
+    let Ok((device, inode)) = place.lock.numbers() else {
         return Err(Failure::Office(Fault::Store));
     };
-    let Some(file_watch) = FileWatch::of(rt, place.found, place.held) else {
+    let Some(file_watch) = FileWatch::of(rt, place.found, place.lock) else {
         return Err(Failure::FileGone);
     };
     Ok(Opened {
@@ -117,7 +117,7 @@ impl<'a> Localhost<'a> {
     pub fn at(place: LockedDatabase<'a>) -> Localhost<'a> {
         Localhost {
             place,
-            beside: None,
+            socket: None,
             streams: None,
         }
     }
@@ -127,8 +127,8 @@ impl<'a> Localhost<'a> {
     fn listen_for_orders(&mut self) -> Option<UnixListener> {
         let rt = self.place.rt;
         match OrderSocket::listen(rt, self.place.found.database()) {
-            Ok((beside, orders)) => {
-                self.beside = Some(beside);
+            Ok((socket, orders)) => {
+                self.socket = Some(socket);
                 Some(orders)
             }
             Err(error) => {
@@ -140,8 +140,8 @@ impl<'a> Localhost<'a> {
 
     /// Removes the socket next to the database, and closes the streams that were held open.
     fn clear(&mut self) {
-        if let Some(beside) = self.beside.take() {
-            beside.remove(self.place.rt);
+        if let Some(socket) = self.socket.take() {
+            socket.remove(self.place.rt);
         }
         self.streams = None;
     }

@@ -83,7 +83,7 @@ pub struct LockedDatabase<'a> {
     pub rt: &'a HostRuntime,
     pub path: &'a str,
     pub found: &'a PathState,
-    pub held: &'a FileLock,
+    pub lock: &'a FileLock,
     pub brought: &'a Option<OrderFiles>,
 }
 

@@ -13,7 +13,7 @@ use store::Fault;
 pub struct NewFile {
     database: String,
     log: String,
-    held: FileLock,
+    lock: FileLock,
 }
 
 /// Returns why a file wasn't made.
@@ -54,11 +54,11 @@ impl NewFile {
         ) else {
             return Err(Failure::Office(Fault::Memory));
         };
-        let held = FileLock::make(rt, path, RIGHTS).map_err(|error| failure_of(&error))?;
+        let lock = FileLock::make(rt, path, RIGHTS).map_err(|error| failure_of(&error))?;
         Ok(NewFile {
             database,
             log,
-            held,
+            lock,
         })
     }
 

@@ -177,7 +177,7 @@ fn is_locked_by_other(rt: &HostRuntime, database: &str, error: &io::Error) -> bo
 fn perform_locked<O: Sink, E: Sink>(
     request: OrderRun<'_>,
     found: &PathState,
-    held: &FileLock,
+    lock: &FileLock,
     brought: &Option<OrderFiles>,
     out: &mut O,
     err: &mut E,
@@ -190,7 +190,7 @@ fn perform_locked<O: Sink, E: Sink>(
         rt: request.rt,
         path: request.path,
         found,
-        held,
+        lock,
         brought,
     };
     open_and_perform(place, request.order, out, err)
@@ -211,9 +211,9 @@ fn lock_and_perform<O: Sink, E: Sink>(
 {
     let rt = request.rt;
     match found.hold(rt) {
-        Ok(held) => {
-            let done = perform_locked(request, found, &held, &*brought, out, err);
-            drop(held);
+        Ok(lock) => {
+            let done = perform_locked(request, found, &lock, &*brought, out, err);
+            drop(lock);
             done
         }
         Err(error) if is_locked_by_other(rt, found.database(), &error) => {

@@ -95,14 +95,14 @@ impl OrderSocket {
         let socket = rt.unix_socket()?;
         checked(libc::fchmod(socket.as_raw_fd(), RIGHTS))?;
         rt.bind_unix(socket.as_fd(), &address)?;
-        let beside = OrderSocket { path };
+        let socket = OrderSocket { path };
         let listening = checked(libc::net::listen(socket.as_raw_fd(), QUEUE));
         let listener = net::UnixListener::from(socket);
         let unblocked = listener.set_nonblocking(true);
         match listening.and(unblocked) {
-            Ok(()) => Ok((beside, UnixListener::from_std(listener))),
+            Ok(()) => Ok((socket, UnixListener::from_std(listener))),
             Err(error) => {
-                beside.remove(rt);
+                socket.remove(rt);
                 Err(error)
             }
         }

@@ -547,7 +547,10 @@ fn forms<'a>(matches: &ArgMatches<'a>) -> Result<Order<'a>, NoOrder>
     ensures err { IfErr result (λ why. (why ≡ NoOrder.BadOrigin) ⊎ (why ≡ NoOrder.BadForm)) }
 {
     let address = origin_in(matches, ADDRESS)?;
-    form_named(text_in(matches, FORM), text_in(matches, SOURCE), address)
+    match form_named(text_in(matches, FORM), text_in(matches, SOURCE), address) {
+        Ok(order) => Ok(order),
+        Err(why) => Err(why),
+    }
 }
 
 /// Returns the order of this name, with the values that were matched.
