@@ -21,4 +21,3 @@ pub mod PaperLemmas
 mod LinesRead
 mod KeysRead
 mod OverviewLemmas
-mod FormLemmas

@@ -15,7 +15,7 @@ use Rattle.desk.specs.declared.words.WordsFault.TheVariants as words_fault
 use Rattle.desk.specs.declared.order_entry.Kind.{Kind}
 use Rattle.desk.specs.declared.order_entry.Kind.TheVariants as kind
 use Rattle.desk.specs.Numbers.{number_in}
-use Rattle.desk.specs.Orders.{Meant, OfWords, OrderWords, WordValue, WordEntry, asked_by, by_office, no_digest, no_form, no_origin, no_verdict, orders, public_of, send, title_alone}
+use Rattle.desk.specs.Orders.{Meant, OfWords, OrderWords, WordValue, WordEntry, asked_by, by_office, no_digest, no_origin, no_verdict, orders, public_of, send, title_alone}
 use Rattle.desk.specs.Verdicts.{Judgement, judgement_in}
 use Rattle.register.specs.declared.command.Command.{Command}
 use Rattle.origins.specs.Origins.{origin_in}
@@ -215,24 +215,22 @@ status_of_kind DisplayVersion = 0
 status_of_kind _ = 2
 
 -- what is printed for words, by what is wrong with them: a text that isn't empty, with the status for that. If nothing is wrong, it is that the word of a verdict, an
--- origin or a digest is invalid, a title is given for nothing, or words name no form. Or it is that an allocation failed.
+-- origin or a digest is invalid, or that a title is given for nothing. Or it is that an allocation failed.
 abbrev pub IsToldOf : Kinds → WordsFault → Type 0
 IsToldOf kinds words_fault.Memory = ⊤
 IsToldOf kinds words_fault.Verdict = kinds ≡ []
 IsToldOf kinds words_fault.Origin = kinds ≡ []
 IsToldOf kinds words_fault.Digest = kinds ≡ []
 IsToldOf kinds words_fault.TitleAlone = kinds ≡ []
-IsToldOf kinds words_fault.Form = kinds ≡ []
 IsToldOf kinds (words_fault.Words text status) = (list_any (λ kind. status_of_kind kind == status) kinds ≡ true) × (string_bytes text ≢ [])
 
--- if it is reported that the word of a verdict, an origin or a digest is invalid, a title is given for nothing, or words name no form, the words mean just that
+-- if it is reported that the word of a verdict, an origin or a digest is invalid, or that a title is given for nothing, the words mean just that
 abbrev pub IsNoneMeant : Option Meant → WordsFault → Type 0
 IsNoneMeant meant words_fault.Memory = ⊤
 IsNoneMeant meant words_fault.Verdict = meant ≡ Some no_verdict
 IsNoneMeant meant words_fault.Origin = meant ≡ Some no_origin
 IsNoneMeant meant words_fault.Digest = meant ≡ Some no_digest
 IsNoneMeant meant words_fault.TitleAlone = meant ≡ Some title_alone
-IsNoneMeant meant words_fault.Form = meant ≡ Some no_form
 IsNoneMeant meant (words_fault.Words text status) = ⊤
 
 -- what is printed if the word after `--origin` is invalid
@@ -247,10 +245,6 @@ bad_digest = codes "error: a digest is 64 hexadecimal digits, as sha256sum print
 abbrev pub bad_title : Text
 bad_title = codes "error: --title is the title of what is shown in public, so it needs --public\n"
 
--- what is printed if the words after `forms` name no form
-abbrev pub bad_form : Text
-bad_form = codes "error: a form is covers, adjudication, lots or declaration, and a ward's number; or slips, a file of codes, and --address\n"
-
 -- the text is what a value displays, if that is known and not empty
 abbrev pub IsOwnText : Option Text → Text → Type 0
 IsOwnText own text = IfSome own (λ bytes. bytes ≢ [] → text ≡ bytes)
@@ -262,7 +256,6 @@ TellsRefusal kind words_fault.Verdict = ⊥
 TellsRefusal kind words_fault.Origin = ⊥
 TellsRefusal kind words_fault.Digest = ⊥
 TellsRefusal kind words_fault.TitleAlone = ⊥
-TellsRefusal kind words_fault.Form = ⊥
 TellsRefusal kind (words_fault.Words text status) = (kind ≢ OutOfMemory) × (status ≡ status_of_kind kind) × (string_bytes text ≢ [])
 
 -- the text is that of what is printed
@@ -272,5 +265,4 @@ TellsOwnText own words_fault.Verdict = ⊥
 TellsOwnText own words_fault.Origin = ⊥
 TellsOwnText own words_fault.Digest = ⊥
 TellsOwnText own words_fault.TitleAlone = ⊥
-TellsOwnText own words_fault.Form = ⊥
 TellsOwnText own (words_fault.Words text status) = IsOwnText own (string_bytes text)

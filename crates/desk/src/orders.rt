@@ -29,19 +29,6 @@ pub struct ExpectedSeal<'a> {
     pub id: &'a str,
 }
 
-/// A form of a ward, to be printed and filled in.
-#[derive(Clone, Copy, Debug)]
-pub enum Form {
-    /// A cover for each batch.
-    Covers,
-    /// The doubtful papers, with room for the verdicts.
-    Adjudication,
-    /// The lot that the count waits for.
-    Lots,
-    /// The words of the declaration.
-    Declaration,
-}
-
 /// A question that only the office asks.
 #[derive(Clone, Copy, Debug)]
 pub enum Question {
@@ -57,8 +44,6 @@ pub enum Question {
     Papers { batch: u32 },
     /// The receipts of an actor, or of all.
     Receipts { actor: Option<u32> },
-    /// A form of a ward.
-    Form { form: Form, ward: u32 },
 }
 
 /// A task in an existing office. The numbers are as given, in range or not.
@@ -189,11 +174,6 @@ pub enum Order<'a> {
         path: &'a str,
         clerks: &'a str,
         with_office: bool,
-    },
-    /// Print a slip for each clerk of a file of codes, with the address at which the clerk reaches the office.
-    Slips {
-        path: &'a str,
-        address: Origin<'a>,
     },
     /// Serve connections on a port of this machine, and pages of an origin through a proxy, if one is given. It ends after this many
     /// connections, or never if no number is given. Clerks need codes if the path of a file of codes is given. If a title is given,

@@ -33,8 +33,8 @@ impl<R: Read + Drop> Folder for OneFile<R> {
 /// Performs an order on a connection with the file that it names, prints its lines, and returns the status and the connection.
 ///
 /// `file` is `None` if the file can't be opened. It is [`perform`](crate::perform::perform) with a folder of that one file, so a
-/// script can't open the import files that it names. The order is any except those to serve, to copy, to print a journal, to make codes
-/// and to print slips.
+/// script can't open the import files that it names. The order is any except those to serve, to copy, to print a journal and to make
+/// codes.
 pub fn perform<S: Alter, R: Read + Drop, O: Sink, E: Sink>(
     alloc: Global,
     order: &Order<'_>,
@@ -57,7 +57,6 @@ pub fn perform<S: Alter, R: Read + Drop, O: Sink, E: Sink>(
         Order::Copy { .. } => unreachable!(),
         Order::Journal => unreachable!(),
         Order::Codes { .. } => unreachable!(),
-        Order::Slips { .. } => unreachable!(),
         Order::Serve { .. } => unreachable!(),
     }
 }

@@ -67,7 +67,6 @@ IsForNone (order.Perform task.Init) = ⊤
 IsForNone (order.Perform task.Migrate) = ⊤
 IsForNone (order.Serve port connections origin codes public) = ⊤
 IsForNone (order.Codes path clerks with_office) = ⊤
-IsForNone (order.Slips path address) = ⊤
 IsForNone other = ⊥
 
 -- What the words of an order ask that is for this file: a job, a copy, the journal. Or why it isn't followed: they are no order; or the file is gone, which isn't known to be
