@@ -72,7 +72,7 @@ def send(four, nine, papers):
 
 
 def go_through(four):
-    """Batch 14 differs, and is opened again: clerk 4 goes through their own keying of it, mends its paper, and sends it."""
+    """Batch 14 differs, and is opened again: clerk 4 goes through their own keying of it, corrects its paper, and sends it."""
     office = four.evening.office
     for line in ("key 4 14 1 1,2,,, --id k2", "key 9 14 1 1,,2,, --id k2", "again 14 --id r14"):
         office.do(*line.split())
@@ -81,7 +81,7 @@ def go_through(four):
     four.pictured("read").keys("Delete", "1", "0", "2", "Enter").shows("Corrected: 1 paper", "summary")
     four.keys("s").shows("batch 14 round 2 keyed", "said")
     if [row[-1] for row in office.rows()["keying"] if row[:3] == (14, 2, 4)] != ["1,,2,,"]:
-        raise Wrong("clerk 4's second keying of batch 14 isn't what was mended")
+        raise Wrong("clerk 4's second keying of batch 14 isn't what was corrected")
 
 
 def leave(four, nine):
