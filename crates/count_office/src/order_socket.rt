@@ -95,14 +95,14 @@ impl OrderSocket {
         let socket = rt.unix_socket()?;
         checked(libc::fchmod(socket.as_raw_fd(), RIGHTS))?;
         rt.bind_unix(socket.as_fd(), &address)?;
-        let socket = OrderSocket { path };
+        let order_socket = OrderSocket { path };
         let listening = checked(libc::net::listen(socket.as_raw_fd(), QUEUE));
         let listener = net::UnixListener::from(socket);
         let unblocked = listener.set_nonblocking(true);
         match listening.and(unblocked) {
-            Ok(()) => Ok((socket, UnixListener::from_std(listener))),
+            Ok(()) => Ok((order_socket, UnixListener::from_std(listener))),
             Err(error) => {
-                socket.remove(rt);
+                order_socket.remove(rt);
                 Err(error)
             }
         }
