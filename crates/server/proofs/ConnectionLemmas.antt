@@ -178,7 +178,7 @@ module _ {L : Type 0} (settings : ServerSettingsEntry) (stream : Stream L) where
 
     -- each of the others is in or has left, as before
     pub left_still : (gone : List (Removed L))
-      → ((k : ℕ) (d : ServedConnection L) → k < length all_connections → IsOpenUnder clients k ⊎ WasClosed stream gone exchanges k (get_or all_connections k d))
+        → ((k : ℕ) (d : ServedConnection L) → k < length all_connections → IsOpenUnder clients k ⊎ WasClosed stream gone exchanges k (get_or all_connections k d))
         → (k : ℕ) (d : ServedConnection L) → k < length all_now → IsOpenUnder (set clients place new) k ⊎ WasClosed stream gone (exchanges ++ more) k (get_or all_now k d)
     left_still gone left k d lt = by (cases_eq k old.number)
       where
@@ -198,7 +198,7 @@ module _ {L : Type 0} (settings : ServerSettingsEntry) (stream : Stream L) where
         by (inr ne) = either (left k d (omega (arith, lt, long)))
           where
             either : IsOpenUnder clients k ⊎ WasClosed stream gone exchanges k (get_or all_connections k d)
-              → IsOpenUnder (set clients place new) k ⊎ WasClosed stream gone (exchanges ++ more) k (get_or all_now k d)
+                → IsOpenUnder (set clients place new) k ⊎ WasClosed stream gone (exchanges ++ more) k (get_or all_now k d)
             either (inl is_in) = inl (in_still is_in)
             either (inr it) = inr (subst (λ (x : ServedConnection L). WasClosed stream gone (exchanges ++ more) k x) (sym (at_other k d ne)) (record {
               why = it.why;
@@ -298,7 +298,7 @@ module _ {L : Type 0} (settings : ServerSettingsEntry) (stream : Stream L) where
       → client.number ≡ length all_connections
       → ((k : ℕ) (d : ServedConnection L) → k < length all_connections → IsOpenUnder clients k ⊎ WasClosed stream gone exchanges k (get_or all_connections k d))
       → (k : ℕ) (d : ServedConnection L) → k < length (with_one all_connections start) → IsOpenUnder (clients ++ client ∷ []) k
-        ⊎ WasClosed stream gone exchanges k (get_or (with_one all_connections start) k d)
+      ⊎ WasClosed stream gone exchanges k (get_or (with_one all_connections start) k d)
   left_on all_connections exchanges gone clients start client at left k d lt = by (cases_eq k (length all_connections))
     where
       in_still : IsOpenUnder clients k → IsOpenUnder (clients ++ client ∷ []) k
@@ -309,7 +309,7 @@ module _ {L : Type 0} (settings : ServerSettingsEntry) (stream : Stream L) where
       }
 
       by : (k ≡ length all_connections) ⊎ (k ≡ length all_connections → ⊥) → IsOpenUnder (clients ++ client ∷ []) k
-        ⊎ WasClosed stream gone exchanges k (get_or (with_one all_connections start) k d)
+          ⊎ WasClosed stream gone exchanges k (get_or (with_one all_connections start) k d)
       by (inl e) = inl (record {
         place = length clients;
         within = omega (arith, length_push clients client);
@@ -319,7 +319,7 @@ module _ {L : Type 0} (settings : ServerSettingsEntry) (stream : Stream L) where
         where
           either : IsOpenUnder clients k ⊎ WasClosed stream gone exchanges k (get_or all_connections k d)
               → IsOpenUnder (clients ++ client ∷ []) k
-        ⊎ WasClosed stream gone exchanges k (get_or (with_one all_connections start) k d)
+              ⊎ WasClosed stream gone exchanges k (get_or (with_one all_connections start) k d)
           either (inl is_in) = inl (in_still is_in)
           either (inr it) =
               let less : k < length all_connections = omega (arith, lt, ne, one_longer all_connections start) in
