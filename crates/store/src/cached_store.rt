@@ -27,7 +27,7 @@ ghost use Rattle.tables.specs.Presence.{has_some_table, has_every_table, IsOurs}
 ghost use Rattle.tables.specs.Reading.{OnlyReads, FailsToList, FailsBy};
 ghost use Rattle.store.specs.Copies.{CopiesTo};
 ghost use Rattle.store.specs.Loads.{IsOpen};
-ghost use Rattle.store.specs.Memories.{AreKnown};
+ghost use Rattle.store.specs.Memories.{AreKnown, IsTied};
 ghost use Rattle.store.specs.StateTables.{tables_of, HoldsState, IsAt, LeavesState, KeepsConnection};
 ghost use Rattle.store.specs.Openings.{IsBlank, IsFaultOf, IsLeftAt};
 ghost use Rattle.store.specs.Whole.{ReadsOffice};
@@ -87,6 +87,21 @@ fn new_cache(alloc: Global, remembers: bool) -> Option<Vec<CachedBatch>>
     }
 }
 
+/// Refreshes the cache, if there is one. If a row can't be read, the cache stays as it was: what isn't in it is read when it
+/// is asked for.
+fn refresh_cache<S: Alter>(store: &mut Store<S>, cache: &mut Option<Vec<CachedBatch>>)
+    ensures reads { OnlyReads (state S.Store store.old) (state S.Store store.new) }
+    ensures keeps { HasCleanDisk (state S.Store store.new) → (s : OfficeState) → IsAt s (state S.Store store.old) → IsAt s (state S.Store store.new) }
+    ensures tied { IsTied (state S.Store store.old) cache.old → IsTied (state S.Store store.new) cache.new }
+{
+    match cache {
+        Some(known) => {
+            let _refreshed = store.refresh(known);
+        }
+        None => {}
+    }
+}
+
 impl<S: Alter> CachedStore<S> {
     /// Creates the tables of an empty office, as `Store::create` does. Nothing is kept in memory.
     pub fn create(alloc: Global, conn: Connection<S>) -> Result<Self, (Fault, Connection<S>)>
@@ -107,8 +122,8 @@ impl<S: Alter> CachedStore<S> {
         }
     }
 
-    /// Opens the office in the connection's database, as `Store::open_from` does, with an empty memory if the database
-    /// has exactly the tables of an office.
+    /// Opens the office in the connection's database, as `Store::open_from` does. If the database has exactly the tables
+    /// of an office, the standing of each batch is read into memory.
     pub fn open_from(alloc: Global, conn: Connection<S>) -> Result<Self, (Fault, Connection<S>)>
         ensures opened { IfOk result (λ cached_store. HasCleanDisk (state S.Store cached_store) → (db : Database) → IsOurs db.schema → RestsAt db (state S.Store conn)
             → (s : OfficeState) × HoldsState db s × IsAt s (state S.Store cached_store)) }
@@ -129,10 +144,12 @@ impl<S: Alter> CachedStore<S> {
     {
         let remembers = may_be_remembered(alloc, &conn);
         match Store::open_from(alloc, conn) {
-            Ok(store) => Ok(CachedStore {
-                store,
-                cache: new_cache(alloc, remembers),
-            }),
+            Ok(store) => {
+                let mut store = store;
+                let mut cache = new_cache(alloc, remembers);
+                refresh_cache(&mut store, &mut cache);
+                Ok(CachedStore { store, cache })
+            }
             Err(handed_back) => Err(handed_back),
         }
     }
