@@ -55,7 +55,7 @@ decimal-begins n =
 
 -- ---- the seventh byte
 
--- the symbol of the first six bits of a byte
+-- the base64 symbol for the first six bits of a byte
 abbrev symbol_of : ℕ → ℕ
 symbol_of byte = slice_index standard.encode_table (byte / 4)
 

@@ -63,7 +63,7 @@ pub record AreTooFew (clerks : ClerkRange) (office : Bool) (bytes : List ℕ) : 
   pub many : length bytes ≡ most_bytes * letters_with clerks office
   pub few : length (letters_drawn bytes) < letters_with clerks office
 
--- ---- why there is none
+-- ---- why there are no codes
 
 -- the reason why no letter was appended: an allocation failed, or no byte could be drawn
 abbrev pub IsUndrawn : ℕ → ℕ → CodesError → Type 0

@@ -115,7 +115,7 @@ is_file_for clerks office (Err fault) = false
 is_file_for clerks office (Ok file) =
     are_from clerks.first (clerks.last + 1) file.clerks && (list_all (λ (e : CodeEntry). is_made e.code) file.clerks && is_made_at office file.office)
 
--- ---- its text
+-- ---- the text of a file
 
 -- a clerk's line: the clerk's number, a space, and the code made of these letters
 abbrev pub line_of : ℕ → List ℕ → List ℕ

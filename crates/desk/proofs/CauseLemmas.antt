@@ -26,7 +26,7 @@ pub since : (a b c : State) → HasCleanDisk b → KeepsConnection a b → Keeps
 since a b c clean first second fault (inl memory) = inl memory
 since a b c clean first second fault (inr (store, failed)) = inr (store, failed_since a b c clean first second.counts failed)
 
--- ---- what is answered
+-- ---- answers are unique
 
 module _ {X E : Type 0} where
   -- a result isn't both a value and an error,

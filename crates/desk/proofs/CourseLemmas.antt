@@ -36,7 +36,7 @@ rejoined xs i x within is = ap (λ ys. take i xs ++ ys) (sym (next_left xs i x w
 all_taken : {X : Type 0} (xs : List X) (i : ℕ) → length xs ≤ i → take i xs ++ [] ≡ xs
 all_taken xs i all = ap (λ ys. take i xs ++ ys) (sym (drop_all i xs all)) ∙ take-append-drop i xs
 
--- ---- what was written whole, before the outcome of the others
+-- ---- outcomes, and what was written completely before them
 
 -- this many of these requests were answered, and this much of this page was written
 abbrev pub made : List Request → ℕ → Page → Cut → Course
@@ -191,7 +191,7 @@ module _ (old : State) (keep : Bool) (line : Option ℕ) (tells : OfficeState �
       subst (λ xs. IsSent old closed st keep line tells (IsOver closed st) s xs (told_above (take i rs) said nothing_more)) (all_taken rs i all)
       (replied_then keep line tells (IsOver closed st) old closed st s (take i rs) said so.end [] nothing_more so.replied (refl, so.open_at))
 
--- ---- the outcome of a step relative to an earlier state, or with steps after it
+-- ---- the outcome of a step, relative to an earlier state or followed by other steps
 
 pub answered_since : (a b : State) (closed : Bool) (st : State) (tells : OfficeState → Request → Told → Page) (s : OfficeState) (r : Request) (answered : ℕ) (page : Page) → TellsSince a b st
     → IsAnswered b closed st tells s r answered page

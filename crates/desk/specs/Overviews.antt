@@ -1,5 +1,5 @@
--- Overviews, one line each: the wards, the batches of a ward, the papers of a batch as they count, the doubtful papers of a ward, the differences in a batch, and
--- the receipts.
+-- Overviews, one line each: the wards, the batches of a ward, how each paper of a batch counts, the doubtful papers of a ward, the differences in a batch, and the
+-- receipts.
 use Rattle.std.specs.Prelude.{ℕ, Bool, true, false, ◌==◌, ◌+◌, ◌-◌, ◌++◌, ◌∷◌, if◌then◌else◌, List, [], Option, Some, None, codes, length}
 use Rattle.std.specs.Fmt.{decimal}
 use Rattle.std.specs.List.{flat_map}
@@ -72,7 +72,7 @@ unfoldable pub batch_line : BatchView → Text
 batch_line v =
     size_words v ++ (flat_map clerk_words v.clerks ++ (codes ", " ++ (standing_word v.standing ++ (codes ", " ++ (decimal v.doubtful_open ++ (codes " doubtful open" ++ twin_words v.twin))))))
 
--- ---- a paper as it counts
+-- ---- how a paper counts
 
 -- the separator before a preference, which is empty before the first one
 abbrev pub parting : ℕ → Text
@@ -134,7 +134,7 @@ receipt_line r = codes "actor " ++ (decimal r.actor ++ (codes " id " ++ (r.id ++
 abbrev pub lines_of : {X : Type 0} → (X → Text) → List X → Text
 lines_of text xs = flat_map (λ x. line (text x)) xs
 
--- the papers of a batch as they count and the doubtful papers of a ward, with the names of the ward's candidates
+-- how each paper of a batch counts, and the doubtful papers of a ward, with the names of the ward's candidates
 unfoldable pub paper_lines : PapersView → Text
 paper_lines v = lines_of (paper_line (names_of v.candidates)) v.papers
 

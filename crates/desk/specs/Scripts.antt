@@ -41,7 +41,7 @@ lines_of text = lines_from [] (behind_byte_order_mark text)
 
 -- ---- the words of a line
 
--- whether a byte is a space, a tab or a carriage return; a carriage return may precede a line feed
+-- whether a byte is whitespace within a line: a space, a tab, or a carriage return, which may precede a line feed
 abbrev pub is_blank : ℕ → Bool
 is_blank byte = byte == 32 || (byte == 9 || byte == 13)
 
@@ -49,7 +49,7 @@ is_blank byte = byte == 32 || (byte == 9 || byte == 13)
 abbrev pub is_quote : ℕ → Bool
 is_quote byte = byte == 34 || byte == 39
 
--- whether a line is skipped: it consists of blanks only, or its first byte that isn't a blank is #
+-- whether a line is skipped: it consists of whitespace only, or its first byte that isn't whitespace is #
 abbrev pub passes_over : Text → Bool
 passes_over [] = true
 passes_over (byte ∷ bytes) = if is_blank byte then passes_over bytes else byte == 35
@@ -72,11 +72,11 @@ with_byte c byte = record { words = c.words; word = c.word ++ byte ∷ []; place
 abbrev pub with_word : LexerEntry → LexerEntry
 with_word c = record { words = c.words ++ c.word ∷ []; word = []; place = Between }
 
--- a byte outside quotes that isn't a blank: a quote opens, and any other byte belongs to the word
+-- a byte outside quotes that isn't whitespace: a quote opens, and any other byte belongs to the word
 abbrev pub cut_open : LexerEntry → ℕ → LexerEntry
 cut_open c byte = if is_quote byte then moved_to (Quoted byte) c else moved_to Within (with_byte c byte)
 
--- one more byte: inside quotes, each byte up to the same quote belongs to the word; outside quotes, a blank ends the word
+-- one more byte: inside quotes, each byte up to the same quote belongs to the word; outside quotes, whitespace ends the word
 abbrev pub cut_at : LexerState → LexerEntry → ℕ → LexerEntry
 cut_at Between c byte = if is_blank byte then c else cut_open c byte
 cut_at Within c byte = if is_blank byte then with_word c else cut_open c byte

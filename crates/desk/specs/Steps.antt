@@ -35,7 +35,7 @@ all_named candidates (n ∷ ns) = named candidates n ++ flat_map (named_behind c
 
 -- ---- what is due in a count
 
--- what a stage does, and with which candidates
+-- what a stage does, and which candidate it concerns
 unfoldable pub action_words : List CandidateEntry → Action → Text
 action_words candidates First = codes "first preferences"
 action_words candidates (Surplus c) = codes "surplus of " ++ named candidates c
@@ -80,6 +80,6 @@ step_words (papers_stand s) = papers_words s
 step_words (count_goes stage due candidates) = due_words stage candidates due
 step_words nothing_comes = codes "declared, nothing is left to do"
 
--- the line on a ward's next step
+-- the line that says what comes next in the election of a ward
 unfoldable pub step_text : ℕ → NextStepEntry → Text
 step_text ward step = codes "ward " ++ (decimal ward ++ (codes ": " ++ step_words step))

@@ -102,8 +102,8 @@ fn copied_open<S: Alter, T: Alter>(
 /// Copies an open office, which stays open, into the empty database on another connection. Prints how much the copy contains, and
 /// returns the status and what the other database contains. The other connection isn't closed.
 ///
-/// The copy is made as by `copy_office`, except that the office is already open. The office is only read. If the office is closed,
-/// this is reported.
+/// The copy is made in the same way as by `copy_office`, except that the office is already open. The office is only read. A closed
+/// office is reported as such.
 pub fn copy_open<S: Alter, T: Alter, O: Sink, E: Sink>(
     alloc: Global,
     office: &mut Office<S>,

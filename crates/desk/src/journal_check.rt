@@ -24,14 +24,15 @@ use std::alloc::{AllocError, Global};
 use store::Fault;
 use streams::Sink;
 
-/// The text of a journal that hasn't been checked yet, and the requests it parses to; None if it doesn't parse to requests.
+/// The text of a journal that hasn't been checked yet, and the requests that it parses to, or None if it doesn't parse to requests
+/// only.
 #[derive(Drop)]
 struct Draft {
     text: String,
     requests: Option<Vec<Request>>,
 }
 
-/// Returns the requests that these steps send; None if a step reads a file or asks for something.
+/// Returns the requests that these steps send; None if a step does anything other than send a given request.
 fn requests_of(
     alloc: Global,
     turns: Vec<ScriptStep<'_>>,
@@ -133,8 +134,8 @@ fn journalled_open<S: Alter, T: Alter>(
 
 /// Prints the journal of an open office, which stays open, and returns the status. The other connection isn't closed.
 ///
-/// The journal is checked and printed as by `journal_office`, except that the office is already open. The office is only read. If
-/// the office is closed, this is reported.
+/// The journal is checked and printed in the same way as by `journal_office`, except that the office is already open. The office is
+/// only read. A closed office is reported as such.
 pub fn journal_open<S: Alter, T: Alter, O: Sink, E: Sink>(
     alloc: Global,
     office: &mut Office<S>,
@@ -163,9 +164,9 @@ pub fn journal_open<S: Alter, T: Alter, O: Sink, E: Sink>(
 /// receipt. The office itself is only read.
 ///
 /// If the text doesn't reproduce exactly this office, this is reported with status 1. That happens if the receipts and the other
-/// tables don't match; nothing guarantees that it can't happen in other cases. If the database contains no office, or a newer,
-/// older or damaged one, the corresponding fault is reported (105, 106, 108, 103), with its cause. An allocation failure (101) or a
-/// failed store (102) is reported without saying whether it happened while the office was being read or during the replay.
+/// tables don't match; nothing guarantees that it never happens otherwise. If the database contains no office, or a newer, older or
+/// damaged one, the corresponding fault is reported (105, 106, 108, 103), with its cause. An allocation failure (101) or a failed
+/// store (102) is reported without saying whether it happened while the office was being read or during the replay.
 pub fn journal_office<S: Alter, T: Alter, O: Sink, E: Sink>(
     alloc: Global,
     conn: &mut Connection<S>,

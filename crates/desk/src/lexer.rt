@@ -26,7 +26,7 @@ struct Lexer {
     place: LexerState,
 }
 
-/// Returns true for a space, a tab or a carriage return. A carriage return may precede a line feed.
+/// Returns true for whitespace within a line: a space, a tab, or a carriage return, which may precede a line feed.
 fn is_blank(byte: u8) -> bool
     ensures { result ≡ is_blank byte }
 {
@@ -70,7 +70,7 @@ impl Lexer {
         Ok(())
     }
 
-    /// Processes a byte outside quotes that isn't a blank.
+    /// Processes a byte outside quotes that isn't whitespace.
     fn cut_open(&mut self, byte: u8) -> Result<(), AllocError>
         ensures { OnOk result (lexer_entry self.new ≡ cut_open (lexer_entry self.old) byte) }
     {
@@ -116,8 +116,8 @@ impl Lexer {
 
 /// Splits a line into words. Returns None if a quote isn't closed.
 ///
-/// Words are separated by blanks outside quotes. A quoted part, `"..."` or `'...'`, may begin inside a word, and its quotes aren't
-/// part of the word. There are no escapes.
+/// Words are separated by whitespace outside quotes. A quoted part, `"..."` or `'...'`, may begin inside a word, and its quotes
+/// aren't part of the word. There are no escapes.
 pub(crate) fn words_of(alloc: Global, line: &[u8]) -> Result<Option<Vec<Vec<u8>>>, AllocError>
     ensures { IfOk result (λ words. option_map (λ ws. map (λ w. w.items) ws.items) words ≡ words_of line.now) }
 {
@@ -128,7 +128,7 @@ pub(crate) fn words_of(alloc: Global, line: &[u8]) -> Result<Option<Vec<Vec<u8>>
     cutter.into_words(alloc)
 }
 
-/// Returns true if a line is skipped: it consists of blanks only, or its first byte that isn't a blank is `#`.
+/// Returns true if a line is skipped: it consists of whitespace only, or its first byte that isn't whitespace is `#`.
 pub(crate) fn passes_over(line: &[u8]) -> bool
     ensures { result ≡ passes_over line.now }
 {

@@ -1,4 +1,4 @@
-//! The desk of the office: parses the words of an order, performs it, and prints the outcome in lines with an exit status.
+//! The desk of the office: parses the words of an order, performs it, prints the outcome, and returns an exit status.
 //!
 //! [`order`](words) parses command-line words into an [`Order`](orders). [`perform`](perform) performs its task on an open
 //! connection to any `sqlite` store and prints the resulting lines; [`plain`] does the same with a single file that is already

@@ -29,7 +29,7 @@ pub(crate) enum LineOutcome {
     Ready,
     /// An office was migrated, or already had this program's version.
     Migrated(Migrated),
-    /// The reply to a request that was accepted, now or earlier; or the status of a ward, or what comes next for it.
+    /// The reply to a request that was accepted, now or earlier; or the status of a ward, or what comes next in its election.
     Replied(Reply),
     /// The reply to a request that was accepted earlier under this id with different content. A note says so.
     Noted { reply: Reply, id: String },
@@ -280,7 +280,7 @@ pub fn tell_codes_fault<E: Sink>(fault: CodesFault, err: &mut E) -> u8
     }
 }
 
-/// Prints for how many clerks codes were made. Returns 0, or 3 if the output fails.
+/// Prints the number of clerks for whom codes were made. Returns 0, or 3 if the output fails.
 pub fn tell_codes_made<O: Sink, E: Sink>(count: u32, out: &mut O, err: &mut E) -> u8
     requires out { O.failed out.old < 2 ^ 64 - 1 }
     requires err { E.failed err.old < 2 ^ 64 - 1 }

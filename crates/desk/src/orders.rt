@@ -21,7 +21,7 @@ pub struct KeyingFile<'a> {
     pub digest: Option<FileDigest>,
 }
 
-/// The seal of a ward, on condition that this many papers were given out to the ward's batches.
+/// The seal of a ward, provided that this many papers were given out to the ward's batches.
 #[derive(Clone, Copy, Debug)]
 pub struct ExpectedSeal<'a> {
     pub ward: u32,
@@ -46,19 +46,19 @@ pub enum Question {
     Receipts { actor: Option<u32> },
 }
 
-/// A task in an existing office. Numbers are as given, whether in range or not.
+/// A task in an existing office. Numbers are kept as given, whether or not they are in range.
 #[derive(Debug, Drop)]
 pub enum Errand<'a> {
     /// Send this request, either one of the office's own or a clerk's keying.
     Send(Request),
-    /// Add the candidates of a file. Each request has this id, a hyphen and its record number as its id. If a digest is given, the
+    /// Add the candidates in a file. The id of each request is this id, a hyphen, and the record number. If a digest is given, the
     /// file must have it.
     ImportCandidates {
         file: &'a str,
         id: &'a str,
         digest: Option<FileDigest>,
     },
-    /// Give out the batches of a file. Each request has this id, a hyphen and its record number as its id. If a digest is given,
+    /// Give out the batches in a file. The id of each request is this id, a hyphen, and the record number. If a digest is given,
     /// the file must have it.
     ImportBatches {
         file: &'a str,
@@ -69,8 +69,8 @@ pub enum Errand<'a> {
     ImportKeying(KeyingFile<'a>),
     /// Seal a ward if the expected number of papers was given out.
     SealExpected(ExpectedSeal<'a>),
-    /// Count the stages of a ward until a lot is needed or the count ends. Each request has this id, a hyphen and its number in
-    /// this order as its id.
+    /// Count the stages of a ward until a lot is needed or the count ends. The id of each request is this id, a hyphen, and its
+    /// number within this order.
     Count {
         ward: u32,
         id: &'a str,
@@ -79,7 +79,7 @@ pub enum Errand<'a> {
     PrintStatus {
         ward: u32,
     },
-    /// Print what comes next for a ward.
+    /// Print what comes next in the election of a ward.
     PrintNext {
         ward: u32,
     },
@@ -175,9 +175,9 @@ pub enum Order<'a> {
         clerks: &'a str,
         with_office: bool,
     },
-    /// Serve connections on a port of this machine, and pages of an origin through a proxy if an origin is given. Serving ends
+    /// Serve connections on a port of this machine. If an origin is given, its pages are also served through a proxy. Serving ends
     /// after this many connections, or never if no number is given. Clerks need codes if the path of a file of codes is given. If a
-    /// title is given, the count is shown in public under it.
+    /// title is given, the count is shown in public with that title.
     Serve {
         port: u32,
         connections: Option<u32>,

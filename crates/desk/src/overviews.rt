@@ -310,7 +310,7 @@ fn doubtful_of<S: Alter>(alloc: Global, office: &mut Office<S>, ward: u32) -> Li
     }
 }
 
-/// Returns the lines for the papers of a batch as they count, or why there are none.
+/// Returns the lines that say how each paper of a batch counts, or why there are none.
 fn papers_of<S: Alter>(alloc: Global, office: &mut Office<S>, batch: u32) -> LineOutcome
     ensures found { WhenOpenAt (state S.Store) office.old office.new
         (λ s. IsAskedOf s (Question.Papers batch) (page_of result) office.new.closed (state S.Store office.old.held) (state S.Store office.new.held)) }

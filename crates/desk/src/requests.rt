@@ -13,7 +13,7 @@ use register::ranges::LAST_LOT_STAGE;
 use register::{BatchCommand, CandidateCommand, Command, CountCommand, KeyingCommand, Request};
 use std::alloc::{AllocError, Global};
 
-/// The actor of these requests, the office itself.
+/// The office itself, as the actor of these requests.
 const OFFICE: u32 = 0;
 
 /// Returns a request of the office itself.
@@ -165,7 +165,7 @@ fn advance_at(alloc: Global, ward: u32, id: &str, number: usize) -> Result<Reque
 /// one of them, who then needs no further stage. So this is also the last stage for which a lot may be drawn.
 const LAST_STAGE: u32 = LAST_LOT_STAGE;
 
-/// The maximum number of requests of an order that counts: one more than the number of stages. That last one is refused.
+/// The maximum number of requests in an order that counts: one more than the number of stages. The last one is refused.
 const MOST_ADVANCES: usize = LAST_STAGE as usize + 1;
 
 /// Returns the requests that count the stages of a ward, starting with the first: as many as an order may send.

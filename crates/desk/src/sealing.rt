@@ -1,4 +1,4 @@
-//! Sealing a ward on condition that an expected number of papers was given out.
+//! Sealing a ward, provided that the expected number of papers was given out.
 
 ghost use Rattle.std.specs.Prelude.{◌≡◌, ◌≢◌, ◌⊎◌, map, IfErr, IfOk};
 ghost use Rattle.sqlite.specs.Held.{state};

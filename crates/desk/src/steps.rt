@@ -74,7 +74,7 @@ fn all_named(
 // ---- what is due in a count
 
 #[tactic(auto, unfolding(crate::specs::Steps::action_words))]
-/// Returns what a stage does, and with which candidates.
+/// Returns what a stage does, and which candidate it concerns.
 fn action_words(
     alloc: Global,
     candidates: &[Candidate],
@@ -200,7 +200,7 @@ fn step_words(alloc: Global, step: &NextStep) -> Result<String, AllocError>
 }
 
 #[tactic(auto, unfolding(crate::specs::Steps::step_text))]
-/// Returns the line on what comes next in a ward, without its line end.
+/// Returns the line that says what comes next in the election of a ward, without its line end.
 fn step_text(alloc: Global, ward: u32, step: &NextStep) -> Result<String, AllocError>
     ensures { IfOk result (λ text. string_bytes text ≡ step_text ward (step_entry step.now)) }
 {
@@ -208,7 +208,7 @@ fn step_text(alloc: Global, ward: u32, step: &NextStep) -> Result<String, AllocE
     format!(in alloc; "ward {ward}: {words}")
 }
 
-/// Returns the words for what comes next in a ward, or why they aren't available.
+/// Returns the words for what comes next in the election of a ward, or why they aren't available.
 pub(crate) fn next_of<S: Alter>(alloc: Global, office: &mut Office<S>, ward: u32) -> LineOutcome
     ensures found { WhenOpenAt (state S.Store) office.old office.new
         (λ s. IsFound s (λ step. replied (step_text ward step)) (next_answer s ward) (page_of result) office.new.closed (state S.Store office.old.held) (state S.Store office.new.held)) }

@@ -2,7 +2,7 @@
 use Rattle.std.specs.Prelude.{ℕ, Bool, List, Option, Some, None, ⊤}
 use Rattle.keyfile.specs.declared.watched.Watched.{Watched}
 
--- P holds of a reader's bytes, if they are known
+-- P holds for a reader's bytes, if they are known
 abbrev pub Known : Option (List ℕ) → (List ℕ → Type 0) → Type 0
 Known None P = ⊤
 Known (Some bytes) P = P bytes

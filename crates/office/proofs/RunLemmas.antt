@@ -36,7 +36,7 @@ beginning earlier rs answered count low high within s is = record {
   is = is ∙ sym (fold-append after_one empty_office earlier (take count rs)) ∙ sym (after-accepted_of empty_office (earlier ++ take count rs));
 }
 
--- if the office has the state after some of the requests, the guarantee holds for whatever a stop leaves
+-- if the office has the state after some of the requests, the guarantee holds after any stop
 pub keeps_beginning : (earlier rs : List Request) (i : ℕ) (st : State) → i ≤ length rs → IsAt (after (after empty_office earlier) (take i rs)) st → LeavesState st (IsAfterBeginning earlier rs i)
 keeps_beginning earlier rs i st within at trees may =
     let it = at.leaves trees may in

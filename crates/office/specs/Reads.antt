@@ -22,23 +22,23 @@ abbrev pub found_or : {X : Type 0} → Reason → Option X → Result X Reason
 found_or why (Some x) = Ok x
 found_or why None = Err why
 
--- the answer for the status of a ward
+-- the result of reading the status of a ward
 abbrev pub status_answer : OfficeState → ℕ → Result StatusEntry Reason
 status_answer s ward = if is_ward_number ward then found_or NoSuchWard (status_at s ward) else Err NumberOutOfRange
 
--- the answer for the next step in the election of a ward
+-- the result of reading the next step in the election of a ward
 abbrev pub next_answer : OfficeState → ℕ → Result NextStepEntry Reason
 next_answer s ward = if is_ward_number ward then found_or NoSuchWard (next_at s ward) else Err NumberOutOfRange
 
--- the answer for the columns of a batch's papers
+-- the result of reading the columns of a batch's papers
 abbrev pub columns_answer : OfficeState → ℕ → Result (List ℕ) Reason
 columns_answer s batch = if is_batch_number batch then found_or NoSuchBatch (columns_at s batch) else Err NumberOutOfRange
 
--- the answer for the work of a clerk
+-- the result of reading the work of a clerk
 abbrev pub work_answer : OfficeState → ℕ → Result (List WorkEntry) Reason
 work_answer s clerk = if is_clerk clerk then Ok (work_of s clerk) else Err NumberOutOfRange
 
--- the answer for the papers of a batch, for one of its clerks; a batch that doesn't exist has no clerks
+-- the result of reading the papers of a batch, for one of its clerks; a batch that doesn't exist has no clerks
 abbrev pub paper_answer : OfficeState → ℕ → ℕ → Result BallotPaperEntry Reason
 paper_answer s clerk batch = if is_clerk clerk && is_batch_number batch then found_or NotItsClerk (paper_at s clerk batch) else Err NumberOutOfRange
 

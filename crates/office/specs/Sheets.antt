@@ -127,7 +127,7 @@ abbrev pub FailsToPrint : WardText → Phase → Bool → ReadError → Type 0
 FailsToPrint text phase closed (Refused why) = (why ≡ WrongPhase) × (is_printable_in text phase ≡ false) × (closed ≡ false)
 FailsToPrint text phase closed (Failed f) = FailsToWrite closed (Failed f)
 
--- if it is a fault, it is a failed allocation
+-- if it is a fault, it can only be a failed allocation
 abbrev pub IsOfMemory : ReadError → Type 0
 IsOfMemory (Refused why) = ⊤
 IsOfMemory (Failed f) = f ≡ Memory

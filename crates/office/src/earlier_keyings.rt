@@ -22,9 +22,9 @@ impl<S: Alter> Office<S> {
     /// Returns a clerk's own keying of a batch in the latest round before the current one that the clerk keyed: the
     /// round, and the papers in order. Returns `None` if the clerk keyed no earlier round.
     ///
-    /// The result depends only on what the clerk can see of the state, whatever others keyed. The read is refused if a
-    /// number is out of range, or if the clerk isn't one of the clerks of such a batch. Nothing is changed. After
-    /// `Memory` the office stays open; any other fault closes it. A closed office returns `Closed`.
+    /// The result depends only on what the clerk can see of the state, regardless of what others keyed. The read is
+    /// refused if a number is out of range, or if the clerk isn't one of the clerks of such a batch. Nothing is
+    /// changed. After `Memory` the office stays open; any other fault closes it. A closed office returns `Closed`.
     pub fn earlier_keying(
         &mut self,
         clerk: u32,

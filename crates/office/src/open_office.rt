@@ -209,7 +209,7 @@ impl<S: Alter> Office<S> {
     /// `Memory`. A closed office returns `Closed`, whatever the list contains.
     ///
     /// In a list of clerks' requests, each clerk gets the answers that this clerk's requests alone would get based on
-    /// what the clerk can see, whatever others keyed before or in between.
+    /// what the clerk can see, regardless of what others keyed before or in between.
     pub fn run(&mut self, requests: &[Request]) -> RunOutcome
         ensures answers { WhenOpenAt (state S.Store) self.old self.new (λ s. AnswersFirst s requests.now result.answers.items) }
         ensures all_answered { WhenOpenAt (state S.Store) self.old self.new

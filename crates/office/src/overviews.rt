@@ -1,5 +1,5 @@
 //! Overviews for the office alone: the wards, the batches of a ward and their doubtful papers, the differences between
-//! the keyings of a batch, the papers of a batch as they count, and the receipts. No read changes the state.
+//! the keyings of a batch, how each paper of a batch counts, and the receipts. No read changes the state.
 #![tactic(auto, using(crate::proofs::StopLemmas::stops_of_memory))]
 
 ghost use Rattle.std.specs.Prelude.{◌≡◌, true, map, IfErr, Err};
@@ -63,7 +63,7 @@ impl<S: Alter> Office<S> {
     }
 
     /// Returns the doubtful papers in the batches of a ward that are taken, ordered by batch and paper, and the
-    /// candidates of the ward. Each paper is returned as it counts, along with the verdict on it, if there is one.
+    /// candidates of the ward. Each paper is returned with how it counts and the verdict on it, if there is one.
     ///
     /// Refused if the ward number is outside 1 to 99 or there is no such ward. Nothing is changed. After `Memory` the
     /// office stays open; any other fault closes it. A closed office returns `Closed`.
@@ -99,8 +99,8 @@ impl<S: Alter> Office<S> {
         }
     }
 
-    /// Returns the papers of a batch that is taken, in numerical order, each as it counts, and the candidates of its
-    /// ward.
+    /// Returns the papers of a batch that is taken, in numerical order, each with how it counts, and the candidates of
+    /// its ward.
     ///
     /// Refused if the batch number is outside 1 to 9999, there is no such batch, or the batch isn't taken. Nothing is
     /// changed. After `Memory` the office stays open; any other fault closes it. A closed office returns `Closed`.

@@ -143,9 +143,9 @@ impl<S: Alter> Office<S> {
     /// Returns the work of a clerk: the clerk's batches in wards that are being keyed, in numerical order. Each has its
     /// ward, the columns and the number of its papers, its current round, and whether the clerk has keyed that round.
     ///
-    /// The result depends only on what the clerk can see of the state, whatever others keyed. Refused if the clerk
-    /// number is outside 1 to 999. Nothing is changed. After `Memory` the office stays open; any other fault closes it.
-    /// A closed office returns `Closed`.
+    /// The result depends only on what the clerk can see of the state, regardless of what others keyed. Refused if the
+    /// clerk number is outside 1 to 999. Nothing is changed. After `Memory` the office stays open; any other fault
+    /// closes it. A closed office returns `Closed`.
     pub fn work(&mut self, clerk: u32) -> Result<Vec<Work>, ReadError>
         ensures reads { ReadWhenOpen (state S.Store) self.old self.new (λ work. map work_entry work.items) (λ s. work_answer s clerk) result }
         ensures blind { WhenOpenAt (state S.Store) self.old self.new (λ s. IfOk result (λ work. map work_entry work.items ≡ work_of (seen_by clerk s) clerk)) }

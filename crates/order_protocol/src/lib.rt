@@ -1,6 +1,6 @@
 //! The protocol for sending an order to the server: the message, and the frames in which the output of the order is sent back.
 //!
-//! Every [`OrderMessage`] has exactly one encoding, and decoding accepts only such encodings.
+//! An [`OrderMessage`] has only one encoding, and whatever is decoded has that encoding.
 #![tactic(auto)]
 
 pub mod decoding;
