@@ -77,7 +77,7 @@ abbrev pub WentOn : Bool → Course → Type 0
 WentOn keep c = (goes_on keep c.page.status ≡ true) × (c.cut ≡ uncut)
 
 module _ (keep : Bool) (line : Option ℕ) (tells : OfficeState → Request → Told → Page) where
-  -- the page for a request in a state
+  -- the page for a request in the given state
   abbrev pub page_at : OfficeState → Request → Page
   page_at s r = fronted line (answer tells s r)
 

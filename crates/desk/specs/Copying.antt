@@ -46,7 +46,7 @@ state_behind (uncopied.Office fault) = Untouched
 state_behind uncopied.Taken = Untouched
 state_behind (uncopied.Copy fault) = Unknown
 
--- What is reported about the other database holds for any office. A copy that is confirmed is complete, and the reply describes it. With any other page, either
+-- What is reported about the other database is true for any office. A copy that is confirmed is complete, and the reply describes it. With any other page, either
 -- nothing was written, or the database after a stop contains what it could contain before, or a complete office.
 abbrev pub HoldsCopy : CopyState → Page → State → State → Type 0
 HoldsCopy Whole page copy_old copy_new =
@@ -56,9 +56,9 @@ HoldsCopy Unknown page copy_old copy_new =
     (failure : Failure) × (page ≡ failed failure)
     × (HasCleanDisk copy_new → IsBlank copy_old → (trees : Trees) → copy_new.may_leave trees → copy_old.may_leave trees ⊎ ((s : OfficeState) × StoresState s trees))
 
--- An office in a state is copied into an empty database, which then has exactly this state, and the page says how much the copy contains. Or the page reports a
--- failure, and after a stop the copy contains what it could contain before, or everything. The page shows one or the other even if the copy's disk doesn't behave as
--- `sqlite` specifies.
+-- An office in the given state is copied into an empty database, which then has exactly this state, and the page says how much the copy contains. Or the page
+-- reports a failure, and after a stop the copy contains what it could contain before, or everything. The page shows one or the other even if the copy's disk doesn't
+-- behave as `sqlite` specifies.
 abbrev pub IsCopiedAt : OfficeState → Page → CopyState → State → State → State → State → Type 0
 IsCopiedAt s page left old new copy_old copy_new =
     ((page ≡ replied (copied_text (holdings_of s))) × (left ≡ Whole) × (HasCleanDisk copy_new → IsAt s copy_new))
@@ -83,8 +83,8 @@ pub record IsCopied (page : Page) (left : CopyState) (old new copy_old copy_new 
   pub reads : OnlyReads old new
   pub leaves : (db : Database) → RestsAt db old → (earlier : List Request) → IsLeftAt (after empty_office earlier) db → LeavesState new (λ x. x ≡ after empty_office earlier)
 
--- The outcome of the order in an office that is open in a state and stays open. The copy has exactly this state, and the page says how much it contains. Or the page
--- reports a failure, with its cause if the store was open, and after a stop the copy contains what it could contain before, or everything.
+-- The outcome of the order in an office that is open in the given state and stays open. The copy has exactly this state, and the page says how much it contains. Or
+-- the page reports a failure, with its cause if the store was open, and after a stop the copy contains what it could contain before, or everything.
 abbrev pub IsCopiedOpen : OfficeState → Page → CopyState → State → State → State → State → Type 0
 IsCopiedOpen s page left old new copy_old copy_new =
     ((page ≡ replied (copied_text (holdings_of s))) × (left ≡ Whole) × (HasCleanDisk copy_new → IsBlank copy_old → IsAt s copy_new))

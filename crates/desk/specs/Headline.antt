@@ -1,5 +1,5 @@
--- The headline theorem's definitions: what an order prints, byte for byte, and what remains in effect if it is stopped at any time. Read it from the first
--- definition to the last. Requests.antt defines which requests an errand sends, Scripts.antt which steps a job has, and Pages.antt and Told.antt what pages say.
+-- The headline theorem's definitions: what an order prints, byte for byte, and what remains in effect if it is stopped at any time. They are best read from first to
+-- last. Requests.antt defines which requests an errand sends, Scripts.antt which steps a job has, and Pages.antt and Told.antt what pages say.
 use Rattle.std.specs.Prelude.{◌≡◌, ◌≢◌, ◌⊎◌, ◌+◌, ◌++◌, ℕ, Bool, true, false, List, [], ◌∷◌, codes, length, Option, None}
 use Rattle.sqlite.specs.{Effect.Database, State.State, Tree.Trees}
 use Rattle.register.specs.{Machine.after, Machine.after_one, Machine.is_accepted, Machine.step_of, Offices.OfficeState, Offices.empty_office, declared.command.Request.Request}
@@ -30,8 +30,8 @@ told_above own page rest = record { requests = own ++ rest.requests; answered = 
 abbrev pub ended : Option ℕ → List Request → ℕ → Page → Cut → Course
 ended line requests answered page cut = record { requests = requests; answered = answered; page = fronted line page; cut = cut }
 
--- The machine's answer to a request in a state, as a page of the errand that sends it. The page has status 0 and the reply, or status 1 and the reason for the
--- refusal. A reply to a request that was accepted earlier with different content comes with a note that nothing was changed.
+-- The machine's answer to a request in the given state, as a page of the errand that sends the request. The page has status 0 and the reply, or status 1 and the
+-- reason for the refusal. A reply to a request that was accepted earlier with different content comes with a note that nothing was changed.
 abbrev pub answer : (OfficeState → Request → Told → Page) → OfficeState → Request → Page
 answer tells s r = tells s r (told_of (step_of s r))
 
@@ -76,7 +76,7 @@ module _ (old : State) (closed : Bool) (st : State) where
       × (((requests : List Request) × Sends s turn.errand file requests × IsSent keep turn.line (page_answered turn.errand) (λ next. IsPlayed keep folder next turns) s requests course)
       ⊎ IsUnsent keep turn.line (IsTold s turn.errand file) (IsPlayed keep folder s turns) s course)
 
-  -- A job is done in the open office: its steps are run and, with `keep_going`, continue after refusals. Or the page says why its text isn't a script. Or the page
+  -- A job is done in the open office: its steps are run, continuing after refusals with `keep_going`. Or the page says why its text isn't a script. Or the page
   -- reports a fault.
   abbrev pub IsDone : Folder → OfficeState → Job → Course → Type 0
   IsDone folder s job course = ((turns : List ScriptStep) × HasSteps folder job turns
@@ -86,8 +86,8 @@ module _ (old : State) (closed : Bool) (st : State) where
 abbrev pub IsUntouched : (Page → Type 0) → OfficeState → Course → State → Type 0
 IsUntouched Tells s course new = (page : Page) × (cut : Cut) × (course ≡ ended None [] 0 page cut) × Tells page × LeavesState new (λ x. x ≡ s)
 
--- The outcome of a task for an office in a state. `init` creates no second office. For `migrate`, the office already has this version. For any other task, its job
--- is done in the office; or the office isn't opened, and the page reports a fault, with its cause.
+-- The outcome of a task for an office in the given state. `init` creates no second office. For `migrate`, the office already has this version. For any other task,
+-- its job is done in the office; or the office isn't opened, and the page reports a fault, with its cause.
 abbrev pub Performs : Folder → OfficeState → Task → Course → State → State → Type 0
 Performs folder s task.Init course old new = IsUntouched (λ page. page ≡ failed (Office WrongDatabase)) s course new
 Performs folder s task.Migrate course old new = IsUntouched (λ page. (page ≡ replied (migrated_text Already)) ⊎ IsFailed IsMemoryOrStore page) s course new
@@ -111,8 +111,8 @@ pub record Makes (page : Page) (old new : State) : Type 0 where
   pub taken : (db : Database) → RestsAt db old → has_some_table db.schema ≡ true → (page ≡ failed (Office WrongDatabase)) × OnlyReads old new
 
 -- An office created by an earlier version is migrated with exactly the state that it had, or the page reports a fault. After a stop, the database contains either
--- the older tables of that state or the tables of this version. If there is no office of either version, the page reports the fault for the database, and after a
--- stop only what could remain before can remain.
+-- the older tables of that state or the tables of this version. If there is no office of either version, the page reports the fault for the database, and a stop can
+-- leave only what it could have left before.
 pub record BringsOver (page : Page) (old new : State) : Type 0 where
   pub older : (form : OlderForm) (s : OfficeState) → RestsOlder form s old → LeavesOldOrNew form s old new × (((page ≡ replied (migrated_text Done)) × IsAt s new) ⊎ IsFailed IsMemoryOrStore page)
   pub beyond : (db : Database) → IsOurs db.schema → IsOlderSchema db.schema → RestsAt db old → HoldsNoState db → HoldsNoOlder db

@@ -51,7 +51,7 @@ words_of e = record { name = e.name.now; words = map word_of e.words.now }
 abbrev pub number : Text → WordEntry
 number name = record { name = name; kind = kind.Number }
 
--- a word that is such a number, optional
+-- an optional word that is such a number
 abbrev pub number_or_none : Text → WordEntry
 number_or_none name = record { name = name; kind = kind.NumberOrNone }
 
@@ -94,7 +94,7 @@ digest = record { name = codes "sha256"; kind = kind.Digest }
 abbrev pub papers : WordEntry
 papers = record { name = codes "papers"; kind = kind.Papers }
 
--- zero or more words that are any texts, after the other words
+-- zero or more words after the others, each of which is any text
 abbrev pub texts : Text → WordEntry
 texts name = record { name = name; kind = kind.Texts }
 

@@ -55,7 +55,7 @@ numbered_line kind number text = joined (kind ∷ decimal number ∷ codes ": " 
 
 -- ---- failures in words
 
--- the number that says why the program fails,
+-- the number for the reason why the program fails,
 abbrev pub failure_number : Failure → ℕ
 failure_number (Office fault) = fault_number fault
 failure_number Output = 107
@@ -64,7 +64,7 @@ failure_number CopyFailed = 110
 failure_number BeingServed = 111
 failure_number FileGone = 113
 
--- and the text that says so
+-- and the text for it
 abbrev pub failure_text : Failure → Text
 failure_text (Office fault) = fault_text fault
 failure_text Output = codes "socket or output"
@@ -102,7 +102,7 @@ replied text = printed (line text)
 abbrev pub refused : Reason → Page
 refused why = record { out = []; err = numbered_line (codes "refused ") (reason_number why) (reason_text why); status = 1 }
 
--- says why a file is refused
+-- the page that says why a file is refused
 abbrev pub unread : FileFault → Page
 unread fault = record {
   out = [];
@@ -115,7 +115,7 @@ abbrev pub codes_place : Option ℕ → Text
 codes_place None = []
 codes_place (Some number) = joined (codes " at line " ∷ decimal number ∷ [])
 
--- says why codes are refused or weren't made
+-- the page that says why codes are refused or weren't made
 abbrev pub codes_page : CodesFault → Page
 codes_page fault = record {
   out = [];
@@ -123,15 +123,15 @@ codes_page fault = record {
   status = 1;
 }
 
--- says that codes were made for this many clerks
+-- the page that says that codes were made for this many clerks
 abbrev pub codes_made_page : ℕ → Page
 codes_made_page count = printed (joined (codes "codes written: " ∷ decimal count ∷ codes "\n" ∷ []))
 
--- says that codes were made for this many clerks, and one for the office
+-- the page that says that codes were made for this many clerks, and one for the office
 abbrev pub codes_and_office_made_page : ℕ → Page
 codes_and_office_made_page count = printed (joined (codes "codes written: " ∷ decimal count ∷ codes ", and the office's\n" ∷ []))
 
--- says why the program fails
+-- the page that says why the program fails
 abbrev pub failed : Failure → Page
 failed failure = record { out = []; err = numbered_line (codes "fault ") (failure_number failure) (failure_text failure); status = 3 }
 
@@ -139,11 +139,11 @@ failed failure = record { out = []; err = numbered_line (codes "fault ") (failur
 abbrev pub closed_page : Page
 closed_page = failed (Office fault.Closed)
 
--- says that the office has no journal: the orders written from its tables don't reproduce it
+-- the page that says that the office has no journal: the orders written from its tables don't reproduce it
 abbrev pub unjournalled : Page
 unjournalled = record { out = []; err = line (codes "no journal: what was written does not make this office"); status = 1 }
 
--- says that a ward wasn't sealed: this many papers were given out, and a different number was expected
+-- the page that says that a ward wasn't sealed: this many papers were given out, and a different number was expected
 abbrev pub unsealed : ℕ → ℕ → Page
 unsealed given_out expected = record {
   out = [];
@@ -163,7 +163,7 @@ noted id reply = record { out = line reply; err = note_line id; status = 0 }
 abbrev pub page_kept : Text → Text → Bool → Page
 page_kept id reply differs = if differs then noted id reply else replied reply
 
--- what is printed for the machine's answer to a request in a state
+-- what is printed for the machine's answer to a request in the given state
 abbrev pub page_for : OfficeState → Request → Told → Page
 page_for s r (done reply) = replied reply
 page_for s r (again reply) = page_kept (string_bytes r.id) reply (is_kept_otherwise s r)
@@ -183,7 +183,7 @@ page_counted is_first (done reply) = replied reply
 page_counted is_first (again reply) = replied reply
 page_counted is_first (no why) = page_at_rest is_first why
 
--- what was found in a state, or why there is nothing
+-- what was found in the given state, or why there is nothing
 abbrev pub page_found : {X : Type 0} → (X → Page) → Result X Reason → Page
 page_found page (Ok x) = page x
 page_found page (Err why) = refused why
@@ -214,7 +214,7 @@ page_of (outcome.Uncopied why) = failed (failure_of why)
 page_of outcome.Unjournalled = unjournalled
 page_of (outcome.Unsealed given_out expected) = unsealed given_out expected
 
--- says why words aren't an order: help is printed on the output, and what is wrong with the words on the error output
+-- the page that says why words aren't an order: help is printed on the output, and what is wrong with the words on the error output
 abbrev pub words_page : WordsFault → Page
 words_page words.Memory = failed (Office fault.Memory)
 words_page words.Origin = record { out = []; err = bad_origin; status = 2 }
@@ -240,7 +240,7 @@ abbrev pub fronted : Option ℕ → Page → Page
 fronted None page = page
 fronted (Some number) page = record { out = page.out; err = after_prefix (line_front (Some number)) page.err; status = page.status }
 
--- says why a text isn't a script
+-- the page that says why a text isn't a script
 abbrev pub script_page : ScriptFault → Page
 script_page script.Memory = failed (Office fault.Memory)
 script_page (script.ScriptLine number flaw) = record { out = []; err = line_front (Some number) ++ line_flaw_text flaw; status = 2 }

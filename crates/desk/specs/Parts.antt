@@ -23,11 +23,11 @@ use Rattle.desk.specs.declared.orders.ExpectedSeal.{ExpectedSeal}
 use Rattle.desk.specs.declared.orders.KeyingFile.{KeyingFile}
 use Rattle.desk.specs.declared.orders.Question.{Question}
 
--- some outcome with this page, written this far, satisfies P, for some requests and some number of them answered
+-- an outcome with this page, written to this extent, satisfies P for some requests, some number of which were answered
 abbrev pub ComesTo : Cut → Page → (Course → Type 0) → Type 0
 ComesTo cut page P = (requests : List Request) × (answered : ℕ) × P (record { requests = requests; answered = answered; page = page; cut = cut })
 
--- nothing remains to be done, and the office is open in a state
+-- nothing remains to be done, and the office is open in the given state
 abbrev pub IsOver : Bool → State → OfficeState → Course → Type 0
 IsOver closed st s course = (course ≡ ended None [] 0 empty_page uncut) × IsOpenAt s closed st
 
@@ -41,7 +41,7 @@ abbrev pub IsCounted : State → Bool → State → Bool → Option ℕ → Offi
 IsCounted old closed st keep line s ward id course =
     (requests : List Request) × AreAdvances s ward id 1 requests × IsSent old closed st keep line (λ t r. page_counted (is_first id r)) (IsOver closed st) s requests course
 
--- the page shows what is found in a state, or says why there is nothing; or it reports a fault
+-- the page shows what is found in the given state, or says why there is nothing; or it reports a fault
 abbrev pub IsFound : {X : Type 0} → OfficeState → (X → Page) → Result X Reason → Page → Bool → State → State → Type 0
 IsFound s shown found page closed old st = ((page ≡ page_found shown found) × IsOpenAt s closed st) ⊎ IsStopped old closed st s page
 
@@ -57,12 +57,12 @@ IsUnread format digest file page = IsRefusedFile format digest file page ⊎ (pa
 abbrev pub IsUnreadScript : Page → Type 0
 IsUnreadScript page = (page ≡ unopened) ⊎ (page ≡ failed (Office Memory))
 
--- reading the file, in a state, results in the keying of a batch, or in the reason why there is none
+-- reading the file in the given state results in the keying of a batch, or in the reason why there is none
 abbrev pub IsKeyingRead : {O : Type 0} → OfficeState → KeyingFile → File → (O → Page) → Result Request O → Bool → State → State → Type 0
 IsKeyingRead s k file page_of (Ok request) closed old st = HoldsKeying (columns_answer s k.batch) k file (request ∷ []) × IsOpenAt s closed st
 IsKeyingRead s k file page_of (Err outcome) closed old st = (IsRefusedKeying (columns_answer s k.batch) k file (page_of outcome) × IsOpenAt s closed st) ⊎ IsStopped old closed st s (page_of outcome)
 
--- the request that seals a ward with an expected number of papers, in a state, or the reason why it isn't sent
+-- the request that seals a ward with an expected number of papers in the given state, or the reason why it isn't sent
 abbrev pub IsSealRead : {O : Type 0} → OfficeState → ExpectedSeal → (O → Page) → Result Request O → Bool → State → State → Type 0
 IsSealRead s e page_of (Ok request) closed old st = IsSealSent s e (request ∷ []) × IsOpenAt s closed st
 IsSealRead s e page_of (Err outcome) closed old st = (IsUnsealed (batches_answer s e.ward) e.papers (page_of outcome) × IsOpenAt s closed st) ⊎ IsStopped old closed st s (page_of outcome)

@@ -101,7 +101,7 @@ advances ward id n = map (advance_at ward id) (range_with_len 1 n)
 abbrev pub last_stage : ℕ
 last_stage = last_lot_stage
 
--- the maximum number of requests of such an order: one more than the number of stages; that last one is refused
+-- the maximum number of requests in such an order: one more than the number of stages; the last one is refused
 abbrev pub most_advances : ℕ
 most_advances = last_stage + 1
 
@@ -111,7 +111,7 @@ is_refused (accepted next reply) = false
 is_refused (kept reply) = false
 is_refused (refused why) = true
 
--- if a request is the last one, no request follows it; otherwise the others do
+-- if a request is the last one, no request follows it; otherwise the remaining requests do
 abbrev pub EndsOr : Bool → List Request → Type 0 → Type 0
 EndsOr true others Follow = others ≡ []
 EndsOr false others Follow = Follow
@@ -124,8 +124,8 @@ AreAdvances s ward id k (r ∷ rs) = (sent_as r ≡ advance_at ward id k) × End
 
 -- ---- the requests of an errand
 
--- the requests that an errand sends in a state: its own one, those in its file, the seal of a ward with an expected number of papers, or those that count; an errand
--- that asks a question sends none
+-- the requests that an errand sends in the given state: its own request, those in its file, the seal of a ward with an expected number of papers, or those that
+-- count; an errand that asks a question sends none
 abbrev pub Sends : OfficeState → Errand → File → List Request → Type 0
 Sends s (errand.Send request) file requests = map sent_as requests ≡ sent_as request ∷ []
 Sends s (errand.ImportCandidates path id digest) file requests = HoldsRequests candidates (requests_for candidate_asked id.now) (asked_digest digest) file requests

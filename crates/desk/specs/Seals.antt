@@ -23,7 +23,7 @@ abbrev pub AreAsExpected : Result (List BatchView) Reason → ℕ → Type 0
 AreAsExpected (Ok views) papers = given_out views ≡ papers
 AreAsExpected (Err why) papers = ⊥
 
--- the requests consist of the seal, given that as many papers as expected were given out
+-- as many papers as expected were given out, and the only request is the seal
 abbrev pub IsSealSent : OfficeState → ExpectedSeal → List Request → Type 0
 IsSealSent s e requests = AreAsExpected (batches_answer s e.ward) e.papers × (map sent_as requests ≡ seal_request e ∷ [])
 

@@ -38,7 +38,7 @@ abbrev pub page_answered : Errand → OfficeState → Request → Told → Page
 page_answered (errand.Count ward id) = λ s r. page_counted (is_first id.now r)
 page_answered other = page_for
 
--- says that a file can't be opened or read
+-- the page that says that a file can't be opened or read
 abbrev pub unopened : Page
 unopened = unread (record { flaw = ReadFailed; record_number = 0 })
 
@@ -52,7 +52,7 @@ abbrev pub IsRefusedKeying : Result (List ℕ) Reason → KeyingFile → File �
 IsRefusedKeying (Ok columns) k file page = IsRefusedFile (keying columns k.batch k.clerk) (asked_digest k.digest) file page
 IsRefusedKeying (Err why) k file page = page ≡ refused why
 
--- what is printed in a state when nothing is sent, or the reason why nothing is sent
+-- what is printed in the given state when nothing is sent, or the reason why nothing is sent
 abbrev pub IsTold : OfficeState → Errand → File → Page → Type 0
 IsTold s (errand.Send request) file page = ⊥
 IsTold s (errand.ImportCandidates path id digest) file page = IsRefusedFile candidates (asked_digest digest) file page

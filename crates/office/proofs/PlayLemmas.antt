@@ -10,7 +10,7 @@ use Rattle.office.specs.declared.answers.Answer.{Answer}
 use Rattle.office.specs.Answers.{told, told_of, is_done}
 use Rattle.office.specs.Runs.{outcomes, are_accepted}
 
--- an answer is that to an accepted request if and only if the machine accepts the request
+-- an answer belongs to an accepted request if and only if the machine accepts the request
 done_where_accepted : (o : Outcome) → is_done (told_of o) ≡ is_accepted o
 done_where_accepted (accepted next reply) = refl
 done_where_accepted (kept reply) = refl
@@ -20,7 +20,7 @@ all_done_where_accepted : (os : List Outcome) → list_all is_done (map told_of 
 all_done_where_accepted [] = refl
 all_done_where_accepted (o ∷ os) = rw (done_where_accepted o, all_done_where_accepted os) refl
 
--- if each request got the machine's answer, then all answers are those to accepted requests if and only if all requests are accepted
+-- if each request got the machine's answer, then all answers belong to accepted requests if and only if all requests are accepted
 pub answers_done : (s : OfficeState) (rs : List Request) (answers : List Answer) → length answers ≡ length rs → map told answers ≡ map told_of (outcomes s (take (length answers) rs))
     → list_all (λ answer. is_done (told answer)) answers ≡ are_accepted s rs
 answers_done s rs answers all same =

@@ -44,7 +44,7 @@ reply_of (accepted next reply) = reply
 reply_of (kept reply) = reply
 reply_of (refused why) = []
 
--- A guarantee for an office that was open in a state, on a clean disk. Whether the disk is clean is determined at the end of the call.
+-- A guarantee for an office that was open in some state, on a clean disk. Whether the disk is clean is determined at the end of the call.
 abbrev pub WhenOpenAt : {S : Type 0} → (Held S → State) → OfficeValue S → OfficeValue S → (OfficeState → Type 0) → Type 0
 WhenOpenAt state_of old new P = HasCleanDisk (state_of new.held) → old.closed ≡ false → (s : OfficeState) → IsAt s (state_of old.held) → P s
 

@@ -1,4 +1,4 @@
--- The answers for overviews, which only the office gets.
+-- The results of reading overviews, which are for the office alone.
 use Rattle.std.specs.Prelude.{ℕ, Bool, true, ◌||◌, if◌then◌else◌, List, Option, Some, None, Result, Ok, Err}
 use Rattle.register.specs.declared.refusal.Reason.{Reason}
 use Rattle.register.specs.declared.refusal.Reason.TheVariants.{NumberOutOfRange, NoSuchWard, NoSuchBatch, NoDifference, NotTaken}
@@ -37,7 +37,7 @@ taken_or why (Some p) = if p.taken then Ok p else Err NotTaken
 abbrev pub papers_answer : OfficeState → ℕ → Result PapersView Reason
 papers_answer s batch = if is_batch_number batch then taken_or NoSuchBatch (papers_at s batch) else Err NumberOutOfRange
 
--- whether an actor may have receipts, as the office and the clerks may; no actor stands for all of them
+-- whether an actor may have receipts, as the office and the clerks may; None stands for all actors
 abbrev pub may_have_receipts : Option ℕ → Bool
 may_have_receipts None = true
 may_have_receipts (Some actor) = is_office actor || is_clerk actor

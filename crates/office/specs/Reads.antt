@@ -55,7 +55,7 @@ Read view s told (Ok y) closed st = (told ≡ Ok (view y)) × IsOpenAt s closed 
 Read view s told (Err (Refused why)) closed st = (told ≡ Err why) × IsOpenAt s closed st
 Read view s told (Err (Failed f)) closed st = IsKeptOpen s f closed st ⊎ IsClosedReading s f closed st
 
--- what a read guarantees for an office that was open in a state
+-- what a read guarantees for an office that was open in some state
 abbrev pub ReadWhenOpen : {S X Y : Type 0} → (Held S → State) → OfficeValue S → OfficeValue S → (Y → X) → (OfficeState → Result X Reason) → Result Y ReadError → Type 0
 ReadWhenOpen state_of old new view told result = WhenOpenAt state_of old new (λ s. Read view s (told s) result new.closed (state_of new.held))
 

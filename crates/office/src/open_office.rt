@@ -164,7 +164,7 @@ impl<S: Alter> Office<S> {
         self.decide_and_commit(actor, id, command)
     }
 
-    /// Answers one request by deciding it based on the contents of the store and committing the change.
+    /// Answers one request: decides it based on the contents of the store, and commits the change.
     fn decide_and_commit(
         &mut self,
         actor: u32,

@@ -28,7 +28,8 @@ use std::alloc::{AllocError, Global};
 use store::Fault;
 
 /// Reads from the store if the office is open and the number is in range, and otherwise returns the reason why not.
-/// Returns what was found, or what is made of it. If the store has nothing under this number, returns the given reason.
+/// Returns what was found, or the value computed from it. If the store has nothing under this number, returns the given
+/// reason.
 macro_rules! read {
     ($office:ident, $is_in_range:expr => $load:ident($($number:ident)?)) => {{
         if let Some(stop) = $office.stop_before($is_in_range) {
@@ -140,8 +141,9 @@ impl<S: Alter> Office<S> {
         read!(self, is_batch_number(batch) => load_columns(batch), Reason::NoSuchBatch)
     }
 
-    /// Returns the work of a clerk: the clerk's batches in wards that are being keyed, in numerical order. Each has its
-    /// ward, the columns and the number of its papers, its current round, and whether the clerk has keyed that round.
+    /// Returns the work of a clerk: the clerk's batches in wards that are being keyed, in numerical order. Each entry
+    /// gives the batch's ward, the columns and the number of its papers, its current round, and whether the clerk has
+    /// keyed that round.
     ///
     /// The result depends only on what the clerk can see of the state, regardless of what others keyed. Refused if the
     /// clerk number is outside 1 to 999. Nothing is changed. After `Memory` the office stays open; any other fault
@@ -253,7 +255,7 @@ impl<S: Alter> Office<S> {
     }
 
     /// Returns a text of a ward that was read. If the texts of the ward can be written, which is the case for every
-    /// ward of an office, it fails only if an allocation fails.
+    /// ward of an office, this fails only if an allocation fails.
     fn read_text(&mut self, sheet: &WardSheet, text: WardText) -> Result<String, ReadError>
         ensures told { IfOk result (λ told. (is_printable_in text.entry sheet.now.counted.ward.phase ≡ true)
             × ((e : ElectionEntry) → IsSheetOf e sheet.now → string_bytes told ≡ text_shown text.entry e)) }

@@ -34,14 +34,14 @@ fn trial_fault(fault: Fault) -> Fault
     }
 }
 
-/// Returns true if an answer is that to a request that was accepted just now.
+/// Returns true if an answer belongs to a request that was accepted just now.
 fn is_done(answer: &Answer) -> bool
     ensures { result ≡ is_done (told answer.now) }
 {
     matches!(answer, Answer::Done(_))
 }
 
-/// Returns true if all answers are.
+/// Returns true if all answers do.
 fn are_done(answers: &[Answer]) -> bool
     ensures { result ≡ list_all (λ answer. is_done (told answer)) answers.now }
 {
@@ -63,8 +63,8 @@ fn has_rows<S: Alter>(alloc: Global, conn: &mut Connection<S>, rows: &Rows) -> R
 }
 
 impl<S: Alter> Office<S> {
-    /// Returns all entries of the office in a connection's database, with those of each table in key order. No office
-    /// is open afterwards. Nothing is changed, whatever the outcome.
+    /// Returns all entries of the office in a connection's database, in key order within each table. No office is open
+    /// afterwards. Nothing is changed, whatever the outcome.
     ///
     /// Fails with the fault that `open_from` would report, for the same cause. Inside a transaction the fault is
     /// `Store`, and nothing is read.
@@ -74,7 +74,7 @@ impl<S: Alter> Office<S> {
         read_office(alloc, conn)
     }
 
-    /// Returns all entries of this office, which stays open, with those of each table in key order. Nothing is changed,
+    /// Returns all entries of this office, which stays open, in key order within each table. Nothing is changed,
     /// whatever the outcome.
     ///
     /// After `Memory` the office stays open; any other fault closes it. A closed office returns `Closed`.

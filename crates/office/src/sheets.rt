@@ -22,7 +22,7 @@ use sheet::{
 use std::alloc::{AllocError, Global};
 use store::elected_in;
 
-/// States, for callers, the law of an office's texts: in any state of an office, the texts of every ward can be
+/// Provides callers with the law of an office's texts: in any state of an office, the texts of every ward can be
 /// written.
 pub fn texts_are_there()
     ensures { (s : OfficeState) (w : WardEntry) → IsState s → ward_at s w.number ≡ Some w → IsTextual (election_of s w) }
