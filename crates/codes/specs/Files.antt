@@ -140,7 +140,7 @@ entry_behind before (Ok entry) =
     (if has_code before entry.code then Err CodeTwice else Ok entry)
 
 -- The office's code in a line that follows others, none of which is the office's or has the same code. A second line for the office has a flaw of its own, because
--- the message for a clerk's second line, that the clerk appears twice, would be looked up among the clerks' numbers.
+-- the message for a clerk's second line, that the clerk appears twice, would send the reader looking among the clerks' numbers.
 abbrev pub office_behind : FileEntry → List ℕ → Result (List ℕ) CodeFlaw
 office_behind before code =
     if not (is_code code) then Err BadCode else
@@ -177,7 +177,7 @@ file_from number before (line ∷ lines) =
     if length (without_return line) == 0 then file_from (number + 1) before lines else
     file_by (λ all. file_from (number + 1) all lines) number (with_line before (without_return line))
 
--- the codes in the text of a file, or the first line that is wrong
+-- the codes in the text of a file, or a fault for the first line that is wrong
 abbrev pub file_in : List ℕ → Result FileEntry CodesFault
 file_in text = file_from 1 no_codes (lines_from [] text)
 

@@ -73,7 +73,7 @@ fn is_made_at(office: bool, code: Option<&[u8]>) -> bool
     }
 }
 
-/// Returns true if the codes in these lines are all new clerks' codes.
+/// Returns true if every code in these lines has the form of a new clerk's code.
 fn all_made(all: &[CodeLine<'_>]) -> bool
     ensures { result ≡ list_all (λ (e : CodeEntry). is_made e.code) (map code_entry all.now) }
 {

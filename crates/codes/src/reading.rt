@@ -316,7 +316,7 @@ pub fn lines_of(alloc: Global, text: &[u8]) -> Result<Vec<Vec<u8>>, AllocError>
     Ok(lines)
 }
 
-/// Parses all lines of a file. Fails if an allocation fails, or with the first line that is wrong.
+/// Parses all lines of a file. Fails if an allocation fails, or with a fault for the first line that is wrong.
 pub fn entries_of(alloc: Global, lines: &[Vec<u8>]) -> Result<FileLines<'_>, CodesError>
     ensures ok { IfOk result (λ found. file_from 1 no_codes (map (λ line. line.items) lines.now) ≡ Ok (file_entry found)) }
     ensures err { IfErr result (λ why. (why ≡ read_error.Memory)
@@ -336,7 +336,7 @@ pub fn entries_of(alloc: Global, lines: &[Vec<u8>]) -> Result<FileLines<'_>, Cod
 }
 
 impl Codes {
-    /// Reads the codes in the text of a file. Fails if an allocation fails, or with the first line that is wrong.
+    /// Reads the codes in the text of a file. Fails if an allocation fails, or with a fault for the first line that is wrong.
     pub fn read(alloc: Global, text: &[u8]) -> Result<Codes, CodesError>
         ensures ok { IfOk result (λ own. (entries : List CodeEntry) × (codes_in text.now ≡ Ok entries) × (holders_of own ≡ holders_by entries) × (own.weak.items ≡ weak_clerks entries)) }
         ensures office { IfOk result (λ own. office_of own ≡ office_held (office_in text.now)) }

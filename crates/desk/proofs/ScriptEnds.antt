@@ -68,7 +68,7 @@ unsent_ended : (Tells : Page → Type 0) (old : State) (closed : Bool) (st : Sta
     → IsUnsent old closed st false None Tells (λ rest. ⊥) s (ended None [] 0 page cut)
 unsent_ended Tells old closed st s page cut other why = inr (page, cut, refl, (λ goes. absurd (stops_at page other goes)), why)
 
--- a script's file at a path, and an office that is open in a state
+-- a script's file at a path, and an office that is open in the given state
 module _ (folder : Folder) (s : OfficeState) (keep : Bool) (path : Bor Text) (file : File) (found : IsFileAt folder (Some path.now) file) (old : State) (closed : Bool) (st : State) where
   out_of_memory : (page : Page) (cut : Cut) → page ≡ failed (Office Memory) → IsOpenAt s closed st → IsDone old closed st folder s (job.Replay path keep) (ended None [] 0 page cut)
   out_of_memory page cut is here = inr (unsent_ended _ old closed st s page cut (unread_ends page (inr is)) (inr (Memory, is, (inl refl, inl (record { memory = refl; open_at = here })))))

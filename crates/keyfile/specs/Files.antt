@@ -8,7 +8,7 @@ use Rattle.keyfile.specs.declared.fault.FileFault.{FileFault}
 use Rattle.keyfile.specs.declared.fault.Flaw.{Flaw}
 use Rattle.keyfile.specs.declared.fault.Flaw.TheVariants.{Header, RecordLength, NotUtf8, TooManyRecords}
 
--- the format of a file: what is wrong with its first record as a header, if anything is; the maximum number of records after it; and what the record with each
+-- the format of a file: what is wrong with its first record as a header, if anything is; the maximum number of records after it; and what the record with a given
 -- number is parsed into
 pub record Format (Row : Type 0) : Type 0 where
   pub header_flaw : Record → Option Flaw
@@ -23,13 +23,13 @@ text_header_flaw format fields = if list_all is_utf8 fields then format.header_f
 abbrev pub read_as_text : {Row : Type 0} → Format Row → ℕ → Record → Result Row Flaw
 read_as_text format k fields = if list_all is_utf8 fields then format.read k fields else Err NotUtf8
 
--- what the record with a number is parsed into; its length is checked first, and then its number
+-- what the record with the given number is parsed into; its length is checked first, and then its number
 abbrev pub read_record : {Row : Type 0} → Format Row → Record → ℕ → Record → Result Row Flaw
 read_record format header k fields =
     if not (length fields == length header) then Err RecordLength else (
     if nat_lt format.most k then Err TooManyRecords else read_as_text format k fields)
 
--- the fault of the record with a number
+-- the fault of the record with the given number
 abbrev pub fault_at : ℕ → Flaw → FileFault
 fault_at k flaw = record { flaw = flaw; record_number = k }
 

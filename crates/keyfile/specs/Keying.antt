@@ -56,7 +56,7 @@ field_text i mark = if i == 0 then mark else 44 ∷ mark
 abbrev pub marks_text : List (List ℕ) → List ℕ
 marks_text marks = if is_doubtful marks then codes "D" else join_with_byte 44 marks
 
--- what the paper with a number is parsed into, given the number in its record and its mark fields
+-- what the paper with the given number is parsed into, based on the number in its record and on its mark fields
 abbrev pub of_number : ℕ → Option ℕ → List (List ℕ) → Result (List ℕ) Flaw
 of_number k None marks = Err Number
 of_number k (Some told) marks =

@@ -16,7 +16,7 @@ pub enum Flaw {
     Header,
     /// The record doesn't have as many fields as the header.
     RecordLength,
-    /// The value of a number field isn't 1 to 5 digits without a leading 0.
+    /// A number field doesn't consist of 1 to 5 digits without a leading 0.
     Number,
     /// The number of the paper isn't the number of the record.
     PaperOrder,
@@ -36,7 +36,7 @@ pub enum Flaw {
     OtherFile,
 }
 
-/// The fault that an import file is refused for.
+/// The fault for which an import file is refused.
 #[derive(Clone, Copy, Debug, PartialEq, Eq)]
 pub struct FileFault {
     pub flaw: Flaw,

@@ -11,7 +11,7 @@ use paper::plain_number_in;
 /// The highest batch number that the office assigns.
 const HIGHEST_BATCH: u32 = 9999;
 
-/// The highest clerk number that the office assigns.
+/// The highest clerk number that the office recognizes.
 const HIGHEST_CLERK: u32 = 999;
 
 /// Splits a text at the first occurrence of a character into the part before it and the part after it. If the character doesn't

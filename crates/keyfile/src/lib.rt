@@ -3,8 +3,8 @@
 //! [`read_candidates`] returns the [`CandidateRow`]s in a file, [`read_batches`] the [`BatchRow`]s, and [`read_keying`] the marks
 //! text of each paper, in the form that the crate `paper` reads. A [`FileFault`] gives the first faulty record and its first
 //! [`Flaw`]; the header is record 0. No row is returned before the whole file has been read. Each function can be given a
-//! [`FileDigest`], and then returns no rows of any file with another digest. [`plain`] contains versions for candidates and keyings
-//! without these options.
+//! [`FileDigest`], and then returns no rows from a file with a different digest. [`plain`] contains versions for candidates and
+//! keyings without these options.
 //!
 //! ```text
 //! match read_keying(alloc, file, columns, 12, 4, None) {

@@ -55,7 +55,7 @@ pieces ps = to_be_bytes w32 (length ps) ++ flat_map piece ps
 abbrev pub encoding_of : OrderMessageEntry → List ℕ
 encoding_of h = string h.version ++ (to_be_bytes w64 h.device ++ (to_be_bytes w64 h.inode ++ (string h.folder ++ (pieces h.words ++ pieces h.files))))
 
--- the pieces that have an encoding
+-- the piece has an encoding
 pub record PieceFits (p : MessagePartEntry) : Type 0 where
   pub name : length p.name < 2 ^ 32
   pub bytes : IfSome p.bytes (λ b. length b < 2 ^ 32)

@@ -25,7 +25,7 @@ abbrev pub Gives : {X Y : Type 0} → (X → Y) → Result X DecodeError → Res
 Gives view (Ok x) read = read ≡ Ok (view x)
 Gives view (Err e) read = Fails e read
 
--- A field is read as a value and the bytes after it.
+-- Reading a field yields its value and the bytes after it.
 abbrev pub number_at : Width → List ℕ → Result (ℕ × List ℕ) FormatError
 number_at w bytes = if nat_lt (length bytes) (byte_len w) then Err Short else Ok (from_be_bytes w (take (byte_len w) bytes), drop (byte_len w) bytes)
 

@@ -123,7 +123,7 @@ pub fn decode_message(alloc: Global, bytes: &[u8]) -> Result<OrderMessage<'_>, D
     ensures found { IfOk result (λ h. Fits (order_message_entry h) × (bytes.now ≡ encoding_of (order_message_entry h))) }
     // Every such encoding is decoded, unless an allocation fails.
     ensures only { (h : OrderMessageEntry) → Fits h → bytes.now ≡ encoding_of h → Gives order_message_entry result (Ok h) }
-    // The error is exactly this one.
+    // Specifies which error is returned.
     ensures exact { Gives order_message_entry result (order_message_in bytes.now) }
 {
     all(alloc, bytes)

@@ -19,7 +19,7 @@ is_port_or_none (b ∷ bs) = (b == 58) && (nat_le (length bs) 5 && are_digits bs
 abbrev pub is_with_port : List ℕ → List ℕ → Bool
 is_with_port front text = starts_with nat_eq text front && is_port_or_none (drop (length front) text)
 
--- ---- the origin of a proxy in front
+-- ---- the origin of pages behind a proxy
 
 -- whether a byte may appear in a host as browsers send it: a lower-case letter, a digit, a hyphen, a dot or an underscore
 abbrev pub is_host_byte : ℕ → Bool

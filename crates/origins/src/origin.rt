@@ -21,7 +21,7 @@ fn all_digits(text: &[u8]) -> bool
     text.iter().all(|b| b.is_ascii_digit())
 }
 
-/// Returns true if a text is empty or a colon and a port, as it would follow a host.
+/// Returns true if a text is empty or consists of a colon and a port number, as may follow a host.
 fn is_port_or_none(text: &[u8]) -> bool
     ensures { result ≡ is_port_or_none text.now }
 {
