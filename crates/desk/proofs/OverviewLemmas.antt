@@ -1,4 +1,4 @@
--- What is printed for a question is the page by its definition.
+-- What is printed for a question is the page that the specification defines.
 use Rattle.std.proofs.Common.{◌≡◌, ◌⊎◌, ◌∙◌, ◌++◌, inl, inr, Bool, List, [], ◌∷◌, map, Result, Ok, Err, IfOk, IfErr, refl, sym, ap}
 use Rattle.std.specs.List.{flat_map}
 use Rattle.clap.specs.Words.{Text}
@@ -14,12 +14,12 @@ use Rattle.desk.specs.Overviews.{lines_of}
 use Rattle.desk.specs.Pages.{Page, failed, line, page_found, page_stopped, printed}
 use Rattle.desk.specs.declared.lines.Failure.TheVariants.{Office}
 
--- the lines of values are those of their views
+-- the lines of values are the lines of their views
 lines_viewed : {X V : Type 0} (text : V → Text) (view : X → V) (xs : List X) → flat_map (λ x. line (text (view x))) xs ≡ lines_of text (map view xs)
 lines_viewed text view [] = refl
 lines_viewed text view (x ∷ xs) = ap (λ rest. line (text (view x)) ++ rest) (lines_viewed text view xs)
 
--- the lines of what was read, or why there are none, are what is printed
+-- what is printed is the lines of what was read, or why there are none
 pub lines_found : {W X V : Type 0} (items : W → List X) (text : V → Text) (view : X → V) (s : OfficeState) (told : Result (List V) Reason)
     (found : Result W ReadError) (page : Page) (closed : Bool) (old st : State)
     → Read (λ w. map view (items w)) s told found closed st
@@ -33,7 +33,7 @@ lines_found items text view s told (Ok w) page closed old st read (inr is) stops
 lines_found items text view s told (Err (Refused why)) page closed old st read lines is cause = inl (is ∙ sym (ap (page_found (λ views. printed (lines_of text views))) read.0), read.1)
 lines_found items text view s told (Err (Fault fault)) page closed old st read lines is cause = inr (fault, is, (cause, read))
 
--- why nothing was found is printed
+-- the reason why nothing was found is printed
 pub stop_found : {X Y : Type 0} (view : Y → X) (shown : X → Page) (s : OfficeState) (told : Result X Reason) (stop : ReadError) (page : Page) (closed : Bool) (old st : State)
     → Read view s told (Err stop) closed st → ReadFailsBy old st stop
     → page ≡ page_stopped stop → IsFound s shown told page closed old st

@@ -1,4 +1,4 @@
--- The seal of a ward of which a number of papers is expected, or why it isn't sent.
+-- The request that seals a ward with an expected number of papers, or the reason why it isn't sent.
 use Rattle.std.proofs.Common.{◌≡◌, ◌≢◌, ◌⊎◌, ◌∙◌, inl, inr, ℕ, Bool, List, [], ◌∷◌, Result, Ok, Err, IfOk, IfErr, refl, sym, ap, subst}
 use Rattle.sqlite.specs.State.{State}
 use Rattle.register.specs.Offices.{OfficeState}
@@ -14,7 +14,7 @@ use Rattle.desk.specs.Seals.{AreAsExpected, IsUnsealed, given_out, seal_request}
 use Rattle.desk.specs.declared.lines.Failure.TheVariants.{Office}
 use Rattle.desk.specs.declared.orders.ExpectedSeal.{ExpectedSeal}
 
--- the batches are shown, and so many papers were given out to them
+-- the batches can be read, and n papers were given out in them
 pub seal_read : {O : Type 0} (s : OfficeState) (e : ExpectedSeal) (shown : O → Page) (r : Result Request O) (n : ℕ) (views : List BatchView) (closed : Bool) (old st : State)
     → batches_answer s e.ward ≡ Ok views → n ≡ given_out views → IsOpenAt s closed st
     → IfOk r (λ request. (n ≡ e.papers) × (sent_as request ≡ seal_request e))

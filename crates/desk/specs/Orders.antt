@@ -1,4 +1,4 @@
--- The orders of the program: the name and the words of each, and what it means by the values of these.
+-- The orders of the program: the name and words of each, and what it means for given values of those words.
 use Rattle.std.specs.Prelude.{ℕ, Bool, true, false, List, [], ◌∷◌, ◌++◌, Option, Some, None, codes, map, option_map, string_bytes}
 use Rattle.clap.specs.Words.{Text}
 use Rattle.register.specs.declared.command.Command.{Command}
@@ -39,11 +39,11 @@ pub record OrderWords : Type 0 where
   pub name : Text
   pub words : List WordEntry
 
--- the entry of a word of the program's table
+-- the word that the program's table contains
 abbrev pub word_of : Word → WordEntry
 word_of w = record { name = w.name.now; kind = w.kind }
 
--- the name and the words of an entry of the program's table
+-- the name and the words of an entry in the program's table
 abbrev pub words_of : Entry → OrderWords
 words_of e = record { name = e.name.now; words = map word_of e.words.now }
 
@@ -70,41 +70,41 @@ text name = record { name = name; kind = kind.Text }
 abbrev pub verdict : Text → WordEntry
 verdict name = record { name = name; kind = kind.Verdict }
 
--- the id, any text after `--id`
+-- the id: any text after `--id`
 abbrev pub id : WordEntry
 id = record { name = codes "id"; kind = kind.Id }
 
--- an origin, after `--` and its name, optional
+-- an origin after `--` and the word's name, optional
 abbrev pub origin : WordEntry
 origin = record { name = codes "origin"; kind = kind.Origin }
 
--- the path of a file of codes, after `--` and its name, optional
+-- the path of a file of codes after `--` and the word's name, optional
 abbrev pub codes_file : WordEntry
 codes_file = record { name = codes "codes"; kind = kind.CodesFile }
 
--- a title, after `--` and its name, optional
+-- a title after `--` and the word's name, optional
 abbrev pub title : WordEntry
 title = record { name = codes "title"; kind = kind.Title }
 
--- the digest of a file, after `--` and its name, optional
+-- the digest of a file after `--` and the word's name, optional
 abbrev pub digest : WordEntry
 digest = record { name = codes "sha256"; kind = kind.Digest }
 
--- how many papers are expected, after `--` and its name, optional
+-- the expected number of papers after `--` and the word's name, optional
 abbrev pub papers : WordEntry
 papers = record { name = codes "papers"; kind = kind.Papers }
 
--- words that are any texts, zero or more after the others
+-- zero or more words after the others, each of which is any text
 abbrev pub texts : Text → WordEntry
 texts name = record { name = name; kind = kind.Texts }
 
--- a flag, `--` and its name, optional
+-- a flag: `--` and the word's name, optional
 abbrev pub flag : Text → WordEntry
 flag name = record { name = name; kind = kind.Flag }
 
 -- ---- what a command asks for
 
--- what a command asks for, with its names as text
+-- what a command asks for, with names as text
 pub data Asked : Type 0 where
   ward_to_add : ℕ → ℕ → Text → Asked
   ward_to_close : ℕ → Asked
@@ -136,7 +136,7 @@ asked_by (command.Count (count_command.Advance ward)) = stage_to_count ward
 asked_by (command.Count (count_command.Lot ward stage candidate)) = lot_to_record ward stage candidate
 asked_by (command.Count (count_command.Declare ward)) = ward_to_declare ward
 
--- a request: its actor, its id, and what it asks for
+-- a request: its actor, its id and what it asks for
 pub record Sent : Type 0 where
   pub actor : ℕ
   pub id : Text
@@ -156,7 +156,7 @@ by_clerk clerk id asked = record { actor = clerk; id = id; asked = asked }
 
 -- ---- what an order means
 
--- what is to be done; or nothing, since the word of a verdict, of an origin or of a digest is invalid, or a title is given for nothing
+-- what is to be done; or nothing, because a verdict, an origin or a digest is invalid, or a title is given although nothing is shown in public
 pub data Meant : Type 0 where
   make : Meant
   migrate : Meant
@@ -182,7 +182,7 @@ pub data Meant : Type 0 where
   no_digest : Meant
   title_alone : Meant
 
--- the meaning of printing a text of a ward; the title of a page is taken as text
+-- the meaning of printing a text of a ward; the title of a page is represented as text
 abbrev pub told_text : ℕ → WardText → Meant
 told_text ward (ward_text.Page title) = print_page ward title.now
 told_text ward text = print ward text
@@ -213,14 +213,14 @@ told (order.Codes path clerks with_office) = make_codes path.now clerks.now with
 told (order.Serve port connections origin file public) =
     serve port connections (option_map origin_text origin) (option_map (λ path. path.now) file) (option_map (λ title. title.now) public)
 
--- the task that an order is to perform, if it has one
+-- the task that an order performs, if it has one
 abbrev pub task_of : Order → Option Task
 task_of (order.Perform task) = Some task
 task_of other = None
 
 -- ---- the orders
 
--- the value of a word
+-- the type of the values of a word
 abbrev pub WordValue : Kind → Type 0
 WordValue kind.Number = ℕ
 WordValue kind.NumberOrNone = Option ℕ
@@ -237,55 +237,55 @@ WordValue kind.Papers = Option ℕ
 WordValue kind.Texts = List Text
 WordValue kind.Flag = Bool
 
--- a function of the values of some words, in sequence
+-- a function of the values of some words, in order
 abbrev pub OfWords : List WordEntry → Type 0 → Type 0
 OfWords [] T = T
 OfWords (w ∷ ws) T = WordValue w.kind → OfWords ws T
 
--- an order's name and words, what it means by the values of its words, and whether that is a command of the office
+-- an order's name and words, its meaning as a function of the values of its words, and whether that meaning is a command of the office
 pub record OrderEntry : Type 0 where
   pub typed : OrderWords
   pub means : OfWords typed.words Meant
   pub is_command : Bool
 
--- an order of this name with these words, in sequence, which means this of their values
+-- an order with this name and these words, in order, and with this meaning as a function of their values
 abbrev pub takes : Text → (words : List WordEntry) → OfWords words Meant → OrderEntry
 takes name words means = record { typed = record { name = name; words = words }; means = means; is_command = false }
 
--- the office sends a command, made from the values of some words, under the id that follows them
+-- the office sends a command, made from the values of some words, under the id that follows those words
 abbrev pub under_id : (words : List WordEntry) → OfWords words Asked → OfWords (words ++ id ∷ []) Meant
 under_id [] asked = λ id. send (by_office id asked)
 under_id (w ∷ ws) asked = λ value. under_id ws (asked value)
 
--- an order of this name with these words and an id, which sends a command of the office
+-- an order with this name, these words and an id, which sends a command of the office
 abbrev pub sends : Text → (words : List WordEntry) → OfWords words Asked → OrderEntry
 sends name words asked = record { typed = record { name = name; words = words ++ id ∷ [] }; means = under_id words asked; is_command = true }
 
--- a clerk, never the office, stores the clerk's keying of a batch in a round: the marks of its papers in turn, under an id
+-- a clerk, and never the office, stores the clerk's keying of a batch in a round: the marks of its papers, in order, under an id
 abbrev pub key : ℕ → ℕ → ℕ → List Text → Text → Meant
 key clerk batch round papers id = send (by_clerk clerk id (keying_to_keep batch round papers))
 
--- the title of what is shown in public, if anything is; or None, since a title is given and nothing is shown
+-- the title of what is shown in public, if anything is; or None if a title is given and nothing is shown
 abbrev pub public_of : Bool → Text → Option (Option Text)
 public_of true title = Some (Some title)
 public_of false [] = Some None
 public_of false (c ∷ cs) = None
 
--- what that means, or that a title is given for nothing
+-- what this means, or that a title is given although nothing is shown in public
 abbrev pub shown_as : Option (Option Text) → (Option Text → Meant) → Meant
 shown_as None means = title_alone
 shown_as (Some public) means = means public
 
--- to serve on a port, and to show something in public under a title
+-- serving on a port, with something shown in public under a title
 abbrev pub serve_shown : ℕ → Option ℕ → Option Text → Option Text → Bool → Text → Meant
 serve_shown port connections origin file public title = shown_as (public_of public title) (serve port connections origin file)
 
--- the office seals a ward; if a number of papers is expected, only where as many were given out
+-- the office seals a ward; if a number of papers is expected, it does so only if that many were given out
 abbrev pub seal : ℕ → Text → Option ℕ → Meant
 seal ward id None = send (by_office id (ward_to_seal ward))
 seal ward id (Some papers) = seal_expected ward papers id
 
--- the table of orders, in the sequence of an election
+-- the table of orders, in the order in which an election uses them
 unfoldable pub orders : List OrderEntry
 orders =
     takes (codes "init") [] make

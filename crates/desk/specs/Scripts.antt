@@ -1,4 +1,4 @@
--- The orders of a script: the lines of its text, the words of a line, and the order that they mean.
+-- The orders of a script: the lines of its text, the words of a line, and the order that those words mean.
 use Rattle.std.specs.Prelude.{◌≡◌, ◌≢◌, ◌⊎◌, ◌==◌, ◌&&◌, ◌||◌, ◌++◌, ℕ, suc, Bool, true, false, List, [], ◌∷◌, Option, Some, None, Result, Ok, Err}
 use Rattle.std.specs.Prelude.{codes, if◌then◌else◌, map, fold, string_bytes, IsOkAnd}
 use Rattle.std.specs.List.{list_all, list_any}
@@ -25,31 +25,31 @@ use Rattle.desk.specs.declared.scripts.ScriptStep.{ScriptStep}
 
 -- ---- the lines of a text
 
--- the lines of a text, given the beginning of the first; a line feed ends one
+-- the lines of a text, given the beginning of the first one; a line feed ends a line
 abbrev pub lines_from : Text → Text → List Text
 lines_from line [] = line ∷ []
 lines_from line (byte ∷ bytes) = if byte == 10 then line ∷ lines_from [] bytes else lines_from (line ++ byte ∷ []) bytes
 
--- a text without its byte order mark, if it begins with one
+-- a text without its byte order mark, if it has one
 abbrev pub behind_byte_order_mark : Text → Text
 behind_byte_order_mark (a ∷ b ∷ c ∷ text) = if a == 239 && (b == 187 && c == 191) then text else a ∷ b ∷ c ∷ text
 behind_byte_order_mark text = text
 
--- the lines of a text; a byte order mark at its beginning is skipped
+-- the lines of a text; a byte order mark at the beginning is skipped
 abbrev pub lines_of : Text → List Text
 lines_of text = lines_from [] (behind_byte_order_mark text)
 
 -- ---- the words of a line
 
--- a space, a tab, or a carriage return; one may precede a line feed
+-- whether a byte is whitespace within a line: a space, a tab, or a carriage return, which may precede a line feed
 abbrev pub is_blank : ℕ → Bool
 is_blank byte = byte == 32 || (byte == 9 || byte == 13)
 
--- either quote, " or '
+-- whether a byte is either kind of quote, " or '
 abbrev pub is_quote : ℕ → Bool
 is_quote byte = byte == 34 || byte == 39
 
--- a line is skipped: it consists of blanks, or the first byte after its blanks is #
+-- whether a line is skipped: it consists of whitespace only, or its first byte that isn't whitespace is #
 abbrev pub passes_over : Text → Bool
 passes_over [] = true
 passes_over (byte ∷ bytes) = if is_blank byte then passes_over bytes else byte == 35
@@ -60,23 +60,23 @@ pub record LexerEntry : Type 0 where
   pub word : Text
   pub place : LexerState
 
--- the context of the next byte changes
+-- changes the context of the next byte
 abbrev pub moved_to : LexerState → LexerEntry → LexerEntry
 moved_to place c = record { words = c.words; word = c.word; place = place }
 
--- a byte is appended to the current word
+-- appends a byte to the current word
 abbrev pub with_byte : LexerEntry → ℕ → LexerEntry
 with_byte c byte = record { words = c.words; word = c.word ++ byte ∷ []; place = c.place }
 
--- the current word is complete
+-- completes the current word
 abbrev pub with_word : LexerEntry → LexerEntry
 with_word c = record { words = c.words ++ c.word ∷ []; word = []; place = Between }
 
--- a byte that isn't a blank, outside quotes: a quote opens, any other belongs to the word
+-- a byte outside quotes that isn't whitespace: a quote opens, and any other byte belongs to the word
 abbrev pub cut_open : LexerEntry → ℕ → LexerEntry
 cut_open c byte = if is_quote byte then moved_to (Quoted byte) c else moved_to Within (with_byte c byte)
 
--- one more byte: inside quotes each belongs to the word up to the same quote, and outside them a blank ends a word
+-- one more byte: inside quotes, each byte up to the same quote belongs to the word; outside quotes, whitespace ends the word
 abbrev pub cut_at : LexerState → LexerEntry → ℕ → LexerEntry
 cut_at Between c byte = if is_blank byte then c else cut_open c byte
 cut_at Within c byte = if is_blank byte then with_word c else cut_open c byte
@@ -85,7 +85,7 @@ cut_at (Quoted quote) c byte = if byte == quote then moved_to Within c else with
 abbrev pub cut_byte : LexerEntry → ℕ → LexerEntry
 cut_byte c byte = cut_at c.place c byte
 
--- the words of a line once all its bytes were processed; None if a quote isn't closed
+-- the words of a line after all its bytes have been processed; None if a quote isn't closed
 abbrev pub words_at : LexerState → LexerEntry → Option (List Text)
 words_at Between c = Some c.words
 words_at Within c = Some (c.words ++ c.word ∷ [])
@@ -100,22 +100,22 @@ words_of line = words_cut (fold cut_byte (record { words = []; word = []; place 
 
 -- ---- the lines of a script
 
--- a line with its number
+-- a line and its number
 pub record Numbered : Type 0 where
   pub number : ℕ
   pub words : Option (List Text)
 
--- the lines that aren't skipped, numbered from some number on
+-- the lines that aren't skipped, numbered from `k` on
 abbrev pub numbered_from : ℕ → List Text → List Numbered
 numbered_from k [] = []
 numbered_from k (line ∷ lines) = if passes_over line then numbered_from (suc k) lines else record { number = k; words = words_of line } ∷ numbered_from (suc k) lines
 
--- the words as typed after the program's name, with DB; or why there are none: a quote isn't closed, or a word isn't UTF-8
+-- the words as typed after the program's name, including DB; or why there are none: a quote isn't closed, or a word isn't UTF-8
 abbrev pub typed : Option (List Text) → Result (List Text) Garbled
 typed None = Err garbled.Quote
 typed (Some words) = if list_all is_utf8 words then Ok (codes "DB" ∷ words) else Err garbled.NotUtf8
 
--- a line that was typed
+-- a line as typed
 pub record Typed : Type 0 where
   pub number : ℕ
   pub words : Result (List Text) Garbled
@@ -129,7 +129,7 @@ script_lines text = map typed_line (numbered_from 1 (lines_of text))
 
 -- ---- the order of a line
 
--- whether an errand sends requests; only one that does can be in a script
+-- whether an errand sends requests; only such errands are allowed in a script
 abbrev pub sends_requests : Errand → Bool
 sends_requests (errand.Send request) = true
 sends_requests (errand.ImportCandidates file id digest) = true
@@ -139,12 +139,12 @@ sends_requests (errand.SealExpected seal) = true
 sends_requests (errand.Count ward id) = true
 sends_requests other = false
 
--- whether an order can be in a script: its errand sends requests
+-- whether an order is allowed in a script: its errand sends requests
 abbrev pub is_allowed_in_script : Order → Bool
 is_allowed_in_script (order.Perform (task.InOffice (job.Run errand))) = sends_requests errand
 is_allowed_in_script other = false
 
--- the words are those of an order that can be in a script, and this is its errand
+-- the words mean an order that is allowed in a script, and this is its errand
 pub record Means (words : List Text) (errand : Errand) : Type 0 where
   pub right : wrong_with words ≡ []
   pub means : meaning (subcommand_of office_words words) ≡ Some (told (order.Perform (task.InOffice (job.Run errand))))
@@ -155,17 +155,17 @@ pub record IsStep (line : Typed) (turn : ScriptStep) : Type 0 where
   pub line_number : turn.line ≡ Some line.number
   pub means : IsOkAnd line.words (λ words. Means words turn.errand)
 
--- the lines are these steps, one each
+-- the lines are these steps, one step per line
 abbrev pub AreTurns : List Typed → List ScriptStep → Type 0
 AreTurns [] turns = turns ≡ []
 AreTurns (line ∷ lines) turns = (turn : ScriptStep) × (others : List ScriptStep) × (turns ≡ turn ∷ others) × IsStep line turn × AreTurns lines others
 
--- the steps of a job: an errand alone is one step, without a line; the steps of a script are the errands that its lines mean
+-- the steps of a job: a single errand is one step, without a line number; the steps of a script are the errands that its lines mean
 abbrev pub HasSteps : Folder → Job → List ScriptStep → Type 0
 HasSteps folder (job.Run errand) turns = turns ≡ record { line = None; errand = errand } ∷ []
 HasSteps folder (job.Replay path keep_going) turns = (file : File) × IsFileAt folder (Some path.now) file × HoldsText file (λ text. AreTurns (script_lines text) turns)
 
--- whether a job continues after refusals: a script does if it is to keep going
+-- whether a job continues after refusals: a script does so with `keep_going`
 abbrev pub keeps_going : Job → Bool
 keeps_going (job.Run errand) = false
 keeps_going (job.Replay path keep_going) = keep_going
@@ -183,8 +183,8 @@ line_flaw_text flaw.TitleAlone = bad_title
 line_flaw_text (flaw.Words text) = string_bytes text
 line_flaw_text flaw.Elsewhere = codes "error: this order can't be used in a script\n"
 
--- what is wrong with its words. Though `clap` accepts them, the word of a verdict, an origin or a digest is invalid, or a title is given for nothing. Or it is what `clap`
--- says of them. Or the order can't be in a script, such as one that asks for help.
+-- what is wrong with the words of a line. Either `clap` accepts them, but a verdict, an origin or a digest is invalid, or a title is given although nothing is shown
+-- in public. Or it is what `clap` reports for them. Or the order isn't allowed in a script, such as one that asks for help.
 abbrev pub IsFlawOfWords : List Text → LineFlaw → Type 0
 IsFlawOfWords words (flaw.NoWords why) = ⊥
 IsFlawOfWords words flaw.Verdict = (wrong_with words ≡ []) × (meaning (subcommand_of office_words words) ≡ Some no_verdict)
@@ -201,7 +201,7 @@ abbrev pub IsFlawOf : Result (List Text) Garbled → LineFlaw → Type 0
 IsFlawOf (Err why) found = found ≡ flaw.NoWords why
 IsFlawOf (Ok words) found = IsFlawOfWords words found
 
--- this is wrong with the line of some number, and nothing is with those before it
+-- this is wrong with the line of number `k`, and nothing is wrong with the lines before it
 abbrev pub IsFirstFlaw : List Typed → ℕ → LineFlaw → Type 0
 IsFirstFlaw [] k found = ⊥
 IsFirstFlaw (line ∷ lines) k found = ((line.number ≡ k) × IsFlawOf line.words found) ⊎ ((turn : ScriptStep) × IsStep line turn × IsFirstFlaw lines k found)

@@ -1,4 +1,4 @@
--- What is printed if nothing is sent: the answer to a question, or why a file is refused.
+-- What is printed when nothing is sent: the answer to a question, or why a file is refused.
 use Rattle.std.specs.Prelude.{◌≡◌, ◌⊎◌, ℕ, List, Option, Some, None, Result, Ok, Err}
 use Rattle.register.specs.Offices.{OfficeState}
 use Rattle.register.specs.declared.command.Request.{Request}
@@ -32,27 +32,27 @@ use Rattle.desk.specs.declared.orders.KeyingFile.{KeyingFile}
 use Rattle.desk.specs.declared.scripts.LineFlaw.{LineFlaw}
 use Rattle.desk.specs.declared.scripts.ScriptFault.TheVariants as script
 
--- What an errand prints for the answer to a request that it sends. One that counts prints why the count rests. None of its replies has a note, since the subject of
--- such a request determines its content.
+-- What an errand prints for the answer to a request that it sends. An errand that counts also prints why the count stopped. None of its replies comes with a note,
+-- since the subject of such a request determines its content.
 abbrev pub page_answered : Errand → OfficeState → Request → Told → Page
 page_answered (errand.Count ward id) = λ s r. page_counted (is_first id.now r)
 page_answered other = page_for
 
--- that a file can't be opened or read
+-- the page that says that a file can't be opened or read
 abbrev pub unopened : Page
 unopened = unread (record { flaw = ReadFailed; record_number = 0 })
 
--- why the file is refused, whether or not a digest is asked for
+-- why the file is refused, whether or not a digest is requested
 abbrev pub IsRefusedFile : {Row : Type 0} → Format Row → Option (List ℕ) → File → Page → Type 0
 IsRefusedFile format digest None page = page ≡ unopened
 IsRefusedFile format digest (Some told) page = (fault : FileFault) × (page ≡ unread fault) × Known told (λ bytes. IsFaultBy digest format bytes fault)
 
--- why the file of a clerk's keying of a batch is refused; there may be no such batch
+-- why the file with a clerk's keying of a batch is refused; the batch may not exist
 abbrev pub IsRefusedKeying : Result (List ℕ) Reason → KeyingFile → File → Page → Type 0
 IsRefusedKeying (Ok columns) k file page = IsRefusedFile (keying columns k.batch k.clerk) (asked_digest k.digest) file page
 IsRefusedKeying (Err why) k file page = page ≡ refused why
 
--- what is printed for a state, or why nothing is sent
+-- what is printed in the given state when nothing is sent, or the reason why nothing is sent
 abbrev pub IsTold : OfficeState → Errand → File → Page → Type 0
 IsTold s (errand.Send request) file page = ⊥
 IsTold s (errand.ImportCandidates path id digest) file page = IsRefusedFile candidates (asked_digest digest) file page

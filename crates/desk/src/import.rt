@@ -1,4 +1,4 @@
-//! The requests that import files contain.
+//! Reading the requests in import files.
 
 ghost use Rattle.std.specs.Prelude.{option_map, [], ◌∷◌, IfErr, IfOk};
 ghost use Rattle.sqlite.specs.Held.{state};
@@ -30,8 +30,8 @@ pub(crate) const UNOPENED: FileFault = FileFault {
     record_number: 0,
 };
 
-/// Returns the requests that add the candidates of a file, or why there are none. The file is None if it can't be opened, and is read
-/// to its end. If a digest is asked for, the requests are those of bytes that have it.
+/// Returns the requests that add the candidates of a file, or why there are none. `file` is None if it couldn't be opened;
+/// otherwise it is read to the end. If a digest is given, the bytes that the requests are read from have it.
 pub(crate) fn candidate_requests<R: Read + Drop>(
     alloc: Global,
     id: &str,
@@ -54,8 +54,8 @@ pub(crate) fn candidate_requests<R: Read + Drop>(
     }
 }
 
-/// Returns the requests that give out the batches of a file, or why there are none. The file is None if it can't be opened, and is read
-/// to its end. If a digest is asked for, the requests are those of bytes that have it.
+/// Returns the requests that give out the batches of a file, or why there are none. `file` is None if it couldn't be opened;
+/// otherwise it is read to the end. If a digest is given, the bytes that the requests are read from have it.
 pub(crate) fn batch_requests<R: Read + Drop>(
     alloc: Global,
     id: &str,
@@ -78,9 +78,9 @@ pub(crate) fn batch_requests<R: Read + Drop>(
     }
 }
 
-/// Returns the request that stores the keying in a file, of papers with these columns; or why there is none. The file is None if it
-/// can't be opened, and is read to its end. If it names a batch and a clerk, these are the request's. If a digest is asked for, the
-/// request is that of bytes that have it.
+/// Returns the request that stores the keying in a file, whose papers have these columns, or why there is none. `file` is None if
+/// it couldn't be opened; otherwise it is read to the end. If the file names a batch and a clerk, they are the request's. If a
+/// digest is given, the bytes that the request is read from have it.
 fn keying_in<R: Read + Drop>(
     alloc: Global,
     keyed: KeyingFile<'_>,
@@ -106,9 +106,9 @@ fn keying_in<R: Read + Drop>(
     }
 }
 
-/// Returns the request that stores the keying of a batch in a file, or why there is none. The file is None if it can't be opened.
+/// Returns the request that stores the keying of a batch in a file, or why there is none. `file` is None if it couldn't be opened.
 ///
-/// The columns are those of the batch's ward; if there is no such batch, the file isn't read.
+/// The columns are those of the batch's ward. If there is no such batch, the file isn't read.
 pub(crate) fn keying_of<S: Alter, R: Read + Drop>(
     alloc: Global,
     office: &mut Office<S>,

@@ -1,6 +1,6 @@
 //! The words of orders, and the entries of the table of orders.
 
-/// What a word of an order contains.
+/// The kind of value that a word of an order has.
 #[derive(Clone, Copy)]
 pub(crate) enum Kind {
     /// A number from 0 to 4294967295.
@@ -13,27 +13,27 @@ pub(crate) enum Kind {
     Connections,
     /// Any text.
     Text,
-    /// A verdict: `accept:` and a marks text, or `reject:` and a number from 0 to 4294967295.
+    /// A verdict: `accept:` followed by a marks text, or `reject:` followed by a number from 0 to 4294967295.
     Verdict,
-    /// Any text, after `--id`.
+    /// Any text after `--id`.
     Id,
-    /// An origin as a browser writes it, after `--origin`, optional.
+    /// An origin as a browser writes it, after `--origin`; optional.
     Origin,
-    /// The path of a file of codes, after `--codes`, optional.
+    /// The path of a file of codes, after `--codes`; optional.
     CodesFile,
-    /// Any text, after `--title`, empty by default.
+    /// Any text after `--title`; empty by default.
     Title,
-    /// A digest in 64 hexadecimal digits, after `--sha256`, optional.
+    /// A digest of 64 hexadecimal digits, after `--sha256`; optional.
     Digest,
-    /// A number from 0 to 4294967295, after `--papers`, optional.
+    /// A number from 0 to 4294967295, after `--papers`; optional.
     Papers,
-    /// Any texts, zero or more words after the others.
+    /// Zero or more texts, after the other words.
     Texts,
-    /// A flag: `--` and its name, optional.
+    /// A flag: `--` followed by its name; optional.
     Flag,
 }
 
-/// A word of an order, and its line of help.
+/// A word of an order, with its help line.
 #[derive(Clone, Copy)]
 pub(crate) struct Word {
     pub(crate) name: &'static str,
@@ -46,13 +46,13 @@ pub(crate) struct Word {
 pub(crate) enum Heading {
     /// The orders of an election.
     Election,
-    /// The orders for the office alone, listed at the end of the help.
+    /// The orders for the office alone, which are listed at the end of the help.
     Office,
-    /// The orders by which anyone can check a result, listed there too.
+    /// The orders with which anyone can check a result, which are also listed there.
     Everyone,
 }
 
-/// An order's name and words, and its help, which ends with an example.
+/// An order's name and words, with its help, which ends with an example.
 #[derive(Clone, Copy)]
 pub(crate) struct Entry {
     pub(crate) name: &'static str,
@@ -61,7 +61,7 @@ pub(crate) struct Entry {
     pub(crate) heading: Heading,
 }
 
-/// Makes a word of an order from what it contains, its name, and its line of help.
+/// Makes a word of an order from its kind, its name and its help line.
 macro_rules! word {
     ($kind:ident $name:literal, $help:literal) => {
         Word {
@@ -129,7 +129,7 @@ pub(crate) const KEEP_GOING: Word =
 pub(crate) const ID: Word =
     word!(Id "id", "An id that you choose for this order, 1 to 40 of a-z, 0-9 and -;\nan order sent again under the same id is done only once");
 
-/// The highest port.
+/// The highest port number.
 pub(crate) const MAX_PORT: i64 = 65535;
 
 pub(crate) const PORT: Word = word!(Port "PORT", "The port of this machine, 1 to 65535");

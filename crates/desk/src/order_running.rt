@@ -1,4 +1,4 @@
-//! The steps of an order: an errand, or the orders of a script in turn.
+//! Running the steps of an order: a single errand, or the orders of a script one after the other.
 
 ghost use Rattle.std.specs.Prelude.{◌≡◌, ◌∷◌, [], ◌-◌, ◌^◌, ◌<◌, map, option_map, IfErr, IfOk};
 ghost use Rattle.sqlite.specs.State.{HasCleanDisk};
@@ -36,7 +36,7 @@ use std::slice;
 use store::Fault;
 use streams::Sink;
 
-/// Opens the file that an errand reads.
+/// Opens the file that an errand reads, if any.
 fn opened<F: Folder>(folder: &F, errand: &Errand<'_>) -> Option<F::File>
     ensures { IsFileAt (F.held folder.now) (file_of errand.now) (option_map F.File.remaining result) }
 {
@@ -46,8 +46,8 @@ fn opened<F: Folder>(folder: &F, errand: &Errand<'_>) -> Option<F::File>
     }
 }
 
-/// Runs an errand in an open office, prints the outcome, and returns the status. If the errand is that of a script's line, what is
-/// written to `err` begins with that line's number. With `keep_going`, a refused request doesn't end it.
+/// Runs an errand in an open office, prints the outcome, and returns the status. If the errand comes from a line of a script,
+/// whatever is written to `err` begins with the line number. With `keep_going`, a refused request doesn't end the errand.
 fn run<S: Alter, F: Folder, O: Sink, E: Sink>(
     alloc: Global,
     office: &mut Office<S>,
@@ -104,9 +104,9 @@ fn run<S: Alter, F: Folder, O: Sink, E: Sink>(
     }
 }
 
-/// Runs steps in turn, and prints each reply. A refusal or a fault is printed after its line's number. The first fault ends it; so
-/// does the first output that fails, and, without `keep_going`, the first refusal. A file is opened when its step is run. The status
-/// is the last one other than 0.
+/// Runs steps one after the other and prints each reply. A refusal or fault is printed after its line number. The sequence ends at
+/// the first fault, at the first output that fails and, without `keep_going`, at the first refusal. A file is opened when its step
+/// is run. The status is the last nonzero one, or 0.
 fn run_steps<S: Alter, F: Folder, O: Sink, E: Sink>(
     alloc: Global,
     office: &mut Office<S>,
@@ -144,8 +144,8 @@ fn run_steps<S: Alter, F: Folder, O: Sink, E: Sink>(
     ends
 }
 
-/// Sends the orders in the lines of a script, once each line has been understood. If one isn't, it prints what is wrong with the first
-/// such line, and sends none.
+/// Sends the orders in the lines of a script once every line has been understood. If a line isn't understood, prints what is wrong
+/// with the first such line and sends nothing.
 fn run_script<S: Alter, F: Folder, O: Sink, E: Sink>(
     alloc: Global,
     office: &mut Office<S>,
@@ -169,7 +169,7 @@ fn run_script<S: Alter, F: Folder, O: Sink, E: Sink>(
     }
 }
 
-/// Returns the bytes of a script's file, or why there are none. The file is None if it can't be opened.
+/// Returns the contents of a script's file, or why there are none. `file` is None if it couldn't be opened.
 fn bytes_of<R: Read + Drop>(alloc: Global, file: Option<R>) -> Result<Vec<u8>, LineOutcome>
     ensures read { IfOk result (λ bytes. HoldsText (option_map R.remaining file) (λ text. bytes.items ≡ text)) }
     ensures unread { IfErr result (λ outcome. IsUnreadScript (page_of outcome)) }
@@ -202,8 +202,8 @@ fn script_of<R: Read + Drop>(alloc: Global, file: Option<R>) -> Result<Vec<Scrip
     }
 }
 
-/// Sends the orders of a script's file in turn, once all its lines have been understood; with `keep_going`, past those that are
-/// refused. The status is 2 if a line isn't understood; it is printed with its number, and nothing is sent.
+/// Sends the orders in a script's file one after the other, once every line has been understood; with `keep_going`, continues after
+/// refusals. If a line isn't understood, the status is 2: the line is reported with its number, and nothing is sent.
 fn replay<S: Alter, F: Folder, O: Sink, E: Sink>(
     alloc: Global,
     office: &mut Office<S>,
@@ -233,7 +233,7 @@ fn replay<S: Alter, F: Folder, O: Sink, E: Sink>(
 
 /// Does a job in an open office, prints the outcome, and returns the status.
 ///
-/// `perform` opens an office, and then does the same. An office that is being served is open already: an order that is sent to it is
+/// `perform` opens an office and then does the same. An office that is being served is already open, so an order sent to it is
 /// performed here.
 pub fn follow<S: Alter, F: Folder, O: Sink, E: Sink>(
     alloc: Global,

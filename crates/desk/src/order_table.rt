@@ -1,8 +1,8 @@
-//! The table of orders, and the order that matched words mean.
+//! The table of orders, and the meaning of matched words.
 //!
-//! To add an order, add an entry to [`ORDERS_TO_SEAL`] or [`ORDERS_FROM_SEAL`], and an arm that returns what its words mean. The arm
-//! is in [`command_named`] if the order sends a command, and otherwise in [`order_named`]; it may need a new variant of
-//! [`Errand`](crate::orders::Errand) too. A line of `orders` in specs/Orders.antt defines what the order means.
+//! To add an order, add an entry to [`ORDERS_TO_SEAL`] or [`ORDERS_FROM_SEAL`] and a match arm that returns what its words mean.
+//! The arm goes in [`command_named`] if the order sends a command, and in [`order_named`] otherwise; it may also need a new variant
+//! of [`Errand`](crate::orders::Errand). The meaning of the order is defined by an entry of `orders` in specs/Orders.antt.
 #![tactic(auto, unfolding(crate::specs::Orders::orders))]
 
 ghost use Rattle.std.specs.Prelude.{◌≡◌, ◌⊎◌, false, Err, None, Some, codes, drop, map, take, IfErr, IfOk, option_map, string_bytes};
@@ -33,7 +33,7 @@ use std::alloc::{AllocError, Global};
 
 // ---- the table
 
-/// Makes the entry of an order: its heading in the help, its name, its words in sequence, and its help.
+/// Makes the entry of an order from its heading in the help, its name, its words in order, and its help.
 macro_rules! order {
     ($heading:ident $name:literal [$($word:ident),*], $help:literal) => {
         Entry {
@@ -45,8 +45,8 @@ macro_rules! order {
     };
 }
 
-/// The orders up to the seal of a ward, in the sequence of an election. They are in a table of their own, since a proof computes each
-/// table whole.
+/// The orders up to the seal of a ward, in the order in which an election uses them. They form a table of their own because a proof
+/// evaluates each table as a whole.
 #[rattlefmt::skip]
 const ORDERS_TO_SEAL: [Entry; 13] = [
     order!(Election "init" [], "Makes an office in DB, a new file or an empty one:\ncount-office town.db init"),
@@ -65,7 +65,8 @@ const ORDERS_TO_SEAL: [Entry; 13] = [
     order!(Election "judge" [BATCH, PAPER, VERDICT, ID], "Keeps the verdict on a doubtful paper of a batch that is taken:\ncount-office town.db judge 12 6 accept:1,,, --id v1"),
 ];
 
-/// The other orders: those from the seal on in the same sequence, then `migrate`, those for the office alone, and those for everyone.
+/// The other orders: those from the seal on, in the same order; then `migrate`; then those for the office alone; and then those for
+/// everyone.
 #[rattlefmt::skip]
 const ORDERS_FROM_SEAL: [Entry; 25] = [
     order!(Election "seal" [WARD, ID, PAPERS], "Seals a ward whose papers are all agreed and judged:\ncount-office town.db seal 7 --id s1"),
@@ -95,7 +96,7 @@ const ORDERS_FROM_SEAL: [Entry; 25] = [
     order!(Everyone "index" [TITLE], "Prints the status of all wards, and who is elected, as a page to hang at the door:\ncount-office town.db index"),
 ];
 
-/// Returns the orders up to the seal, the first 13 of all.
+/// Returns the orders up to the seal, which are the first 13.
 pub(crate) fn entries_to_seal() -> &'static [Entry]
     ensures { map words_of result.now ≡ map (λ e. e.typed) (take 13 orders) }
 {
@@ -111,18 +112,18 @@ pub(crate) fn entries_from_seal() -> &'static [Entry]
 
 // ---- what matched words mean
 
-/// Why matched words mean no order.
+/// The reason why matched words mean no order.
 #[derive(Clone, Copy)]
 pub(crate) enum NoOrder {
-    /// They name no order.
+    /// The words name no order.
     Unknown,
-    /// The word of a verdict is invalid.
+    /// The word for a verdict is invalid.
     BadVerdict,
-    /// The word of an origin is invalid.
+    /// The word for an origin is invalid.
     BadOrigin,
-    /// The word of a digest is invalid.
+    /// The word for a digest is invalid.
     BadDigest,
-    /// There is a title, but nothing is shown in public.
+    /// A title is given, but nothing is shown in public.
     TitleAlone,
     /// An allocation failed.
     Memory,
@@ -179,7 +180,7 @@ fn text_copied(alloc: Global, matches: &ArgMatches<'_>, word: Word) -> Result<St
     String::from_str(alloc, text_in(matches, word))
 }
 
-/// Copies the texts that were matched, if any.
+/// Copies the texts that were matched for a word; empty if there are none.
 fn texts_copied(
     alloc: Global,
     matches: &ArgMatches<'_>,
@@ -196,7 +197,7 @@ fn texts_copied(
     Ok(texts)
 }
 
-/// Returns whether a flag was matched; its value is `true` if it was present.
+/// Returns true if a flag was matched. Its value is `true` if the flag is present.
 fn flag_in(matches: &ArgMatches<'_>, word: Word) -> bool
     ensures { result ≡ flag_at word.name.now (rows_of (found_of matches.now)) }
 {
@@ -231,7 +232,7 @@ fn digest_in(matches: &ArgMatches<'_>) -> Result<Option<FileDigest>, NoOrder>
     }
 }
 
-/// Returns the title of what is shown in public, if anything is.
+/// Returns the title of what is shown in public; None if nothing is.
 fn public_in<'a>(matches: &ArgMatches<'a>) -> Result<Option<&'a str>, NoOrder>
     ensures ok { IfOk result (λ found. public_at (rows_of (found_of matches.now)) ≡ Some (option_map (λ title. title.now) found)) }
     ensures err { IfErr result (λ why. (why ≡ NoOrder.TitleAlone) × (public_at (rows_of (found_of matches.now)) ≡ None)) }
@@ -274,7 +275,7 @@ fn verdict_command(alloc: Global, matches: &ArgMatches<'_>) -> Result<Command, N
     }
 }
 
-/// Returns the command that the order of this name sends, with the values that were matched.
+/// Returns the command that the order of this name sends, with the matched values.
 fn command_named(alloc: Global, name: &str, matches: &ArgMatches<'_>) -> Result<Command, NoOrder>
     ensures ok { IfOk result (λ command. meaning_of name.now (rows_of (found_of matches.now)) ≡ Some (sent (rows_of (found_of matches.now)) command)) }
     ensures unknown { result ≡ Err NoOrder.Unknown → is_command_name name.now ≡ false }
@@ -319,14 +320,14 @@ fn command_named(alloc: Global, name: &str, matches: &ArgMatches<'_>) -> Result<
 
 // ---- orders
 
-/// Returns the order to run an errand in an open office.
+/// Returns the order that runs an errand in an open office.
 fn in_office<'a>(errand: Errand<'a>) -> Order<'a>
     ensures { told result ≡ told_errand errand.entry }
 {
     Order::Perform(Task::InOffice(Job::Run(errand)))
 }
 
-/// Returns the order that sends a command of the office under the id that was matched.
+/// Returns the order that sends a command of the office under the matched id.
 fn sending<'a>(
     alloc: Global,
     matches: &ArgMatches<'a>,
@@ -375,7 +376,7 @@ fn import_keying<'a>(matches: &ArgMatches<'a>) -> Result<Order<'a>, NoOrder>
     })))
 }
 
-/// Returns the order that sends a clerk's keying of the papers that were matched.
+/// Returns the order that sends a clerk's keying of the matched papers.
 fn key<'a>(alloc: Global, matches: &ArgMatches<'a>) -> Result<Order<'a>, NoOrder>
     ensures ok { IfOk result (λ o. meaning_of (codes "key") (rows_of (found_of matches.now)) ≡ Some (told o)) }
     ensures err { IfErr result (λ why. why ≡ NoOrder.Memory) }
@@ -390,7 +391,7 @@ fn key<'a>(alloc: Global, matches: &ArgMatches<'a>) -> Result<Order<'a>, NoOrder
     Ok(in_office(Errand::Send(by_clerk(clerk, id, Command::Keying(command)))))
 }
 
-/// Returns the order that seals a ward, or does so if the number of papers that was matched were given out.
+/// Returns the order that seals a ward, conditional on the matched number of papers if there is one.
 fn seal<'a>(alloc: Global, matches: &ArgMatches<'a>) -> Result<Order<'a>, NoOrder>
     ensures ok { IfOk result (λ o. meaning_of (codes "seal") (rows_of (found_of matches.now)) ≡ Some (told o)) }
     ensures err { IfErr result (λ why. why ≡ NoOrder.Memory) }
@@ -439,7 +440,7 @@ fn serve<'a>(matches: &ArgMatches<'a>) -> Result<Order<'a>, NoOrder>
     })
 }
 
-/// Returns the order that prints a text of the ward that was matched.
+/// Returns the order that prints a text of the matched ward.
 fn printing<'a>(matches: &ArgMatches<'a>, text: WardText<'a>) -> Order<'a>
     ensures { told result ≡ told_text (number_at (codes "WARD") (rows_of (found_of matches.now))) text.entry }
 {
@@ -469,7 +470,7 @@ fn asking<'a>(question: Question) -> Order<'a>
     in_office(Errand::Ask(question))
 }
 
-/// Returns the order of this name, with the values that were matched.
+/// Returns the order of this name, with the matched values.
 fn order_named<'a>(
     alloc: Global,
     name: &str,

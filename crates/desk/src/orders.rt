@@ -17,11 +17,11 @@ pub struct KeyingFile<'a> {
     pub round: u32,
     pub file: &'a str,
     pub id: &'a str,
-    /// The digest that the file must have, if any.
+    /// The digest that the file must have, if one is given.
     pub digest: Option<FileDigest>,
 }
 
-/// The seal of a ward, for which this many papers are to have been given out to the ward's batches.
+/// The seal of a ward, provided that this many papers were given out to the ward's batches.
 #[derive(Clone, Copy, Debug)]
 pub struct ExpectedSeal<'a> {
     pub ward: u32,
@@ -38,38 +38,39 @@ pub enum Question {
     Batches { ward: u32 },
     /// Which papers of a ward are doubtful.
     Doubtful { ward: u32 },
-    /// On which papers the keyings of a batch differ.
+    /// On which papers of a batch the keyings differ.
     Differences { batch: u32 },
     /// How each paper of a batch counts.
     Papers { batch: u32 },
-    /// The receipts of an actor, or of all.
+    /// The receipts of one actor, or of all actors.
     Receipts { actor: Option<u32> },
 }
 
-/// A task in an existing office. The numbers are as given, in range or not.
+/// A task in an existing office. Numbers are kept as given, whether or not they are in range.
 #[derive(Debug, Drop)]
 pub enum Errand<'a> {
-    /// Send this request: one of the office's own, or a clerk's keying.
+    /// Send this request, either one of the office's own or a clerk's keying.
     Send(Request),
-    /// Add the candidates of a file, each under this id, a hyphen, and its record's number. If a digest is given, the file must have
-    /// it.
+    /// Add the candidates in a file. The id of each request is this id, a hyphen, and the record number. If a digest is given, the
+    /// file must have it.
     ImportCandidates {
         file: &'a str,
         id: &'a str,
         digest: Option<FileDigest>,
     },
-    /// Give out the batches of a file, each under this id, a hyphen, and its record's number. If a digest is given, the file must have
-    /// it.
+    /// Give out the batches in a file. The id of each request is this id, a hyphen, and the record number. If a digest is given,
+    /// the file must have it.
     ImportBatches {
         file: &'a str,
         id: &'a str,
         digest: Option<FileDigest>,
     },
-    /// Store a clerk's keying.
+    /// Store a clerk's keying of a batch.
     ImportKeying(KeyingFile<'a>),
-    /// Seal a ward, if as many papers as expected were given out.
+    /// Seal a ward if the expected number of papers was given out.
     SealExpected(ExpectedSeal<'a>),
-    /// Count the stages of a ward up to a lot or the end, each under this id, a hyphen, and its number in this order.
+    /// Count the stages of a ward until a lot is needed or the count ends. The id of each request is this id, a hyphen, and its
+    /// number within this order.
     Count {
         ward: u32,
         id: &'a str,
@@ -78,7 +79,7 @@ pub enum Errand<'a> {
     PrintStatus {
         ward: u32,
     },
-    /// Print what comes next in a ward.
+    /// Print what comes next in the election of a ward.
     PrintNext {
         ward: u32,
     },
@@ -87,7 +88,7 @@ pub enum Errand<'a> {
         ward: u32,
         text: WardText<'a>,
     },
-    /// Print the page of all wards, under this title.
+    /// Print the page of all wards, with this title.
     PrintIndex {
         title: &'a str,
     },
@@ -108,7 +109,7 @@ impl<'a> Errand<'a> {
         }
     }
 
-    /// Returns whether the errand sends requests. Only errands that do can be in a script.
+    /// Returns true if the errand sends requests. Only such errands are allowed in a script.
     pub(crate) fn sends(&self) -> bool
         ensures { result ≡ sends_requests self.now }
     {
@@ -129,18 +130,18 @@ impl<'a> Errand<'a> {
 pub enum Job<'a> {
     /// Run this errand.
     Run(Errand<'a>),
-    /// Run the errands of a script in turn, up to the first that is refused; with `keep_going` also past those.
+    /// Run the errands of a script one after the other, up to the first refusal; with `keep_going`, continue after refusals.
     Replay { file: &'a str, keep_going: bool },
 }
 
-/// A task on a connection to the office's database, which needs nothing else.
+/// A task that needs nothing but a connection to the office's database.
 #[derive(Debug, Drop)]
 pub enum Task<'a> {
-    /// Make an office.
+    /// Create an office.
     Init,
-    /// Migrate an office that an earlier program made to this version.
+    /// Migrate an office created by an earlier version of the program to this version.
     Migrate,
-    /// Open the office, and do this in it.
+    /// Open the office and do this job in it.
     InOffice(Job<'a>),
 }
 
@@ -160,24 +161,23 @@ impl<'a> Task<'a> {
 /// What the program is to do.
 #[derive(Debug, Drop)]
 pub enum Order<'a> {
-    /// Perform this on the office's database.
+    /// Perform this task on the office's database.
     Perform(Task<'a>),
-    /// Make a copy of the office, in a file that doesn't exist yet.
+    /// Copy the office into a file that doesn't exist yet.
     Copy {
         path: &'a str,
     },
     /// Print the journal of the office.
     Journal,
-    /// Write a new file of codes, which isn't there yet, for the clerks that a word names, and for the office too if that is
-    /// asked for.
+    /// Write a new file of codes, which must not exist yet, for the clerks that a word names, and for the office too if requested.
     Codes {
         path: &'a str,
         clerks: &'a str,
         with_office: bool,
     },
-    /// Serve connections on a port of this machine, and pages of an origin through a proxy, if one is given. It ends after this many
-    /// connections, or never if no number is given. Clerks need codes if the path of a file of codes is given. If a title is given,
-    /// the count is shown in public under it.
+    /// Serve connections on a port of this machine. If an origin is given, its pages are also served through a proxy. Serving ends
+    /// after this many connections, or never if no number is given. Clerks need codes if the path of a file of codes is given. If a
+    /// title is given, the count is shown in public with that title.
     Serve {
         port: u32,
         connections: Option<u32>,

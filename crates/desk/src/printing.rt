@@ -1,4 +1,4 @@
-//! The texts of a ward for people to read, and the page of all wards, printed.
+//! Printing the human-readable texts of a ward and the page of all wards.
 
 ghost use Rattle.sqlite.specs.Held.{state};
 ghost use Rattle.office.specs.Index.{index_answer};
@@ -19,7 +19,7 @@ pub(crate) fn text_of<S: Alter>(office: &mut Office<S>, ward: u32, text: WardTex
     ensures same { OnlyReads (state S.Store office.old.held) (state S.Store office.new.held) }
 {
     let told = match text {
-        // it needs less of the office's data than the others
+        // needs less of the office's data than the other texts
         WardText::Declaration => office.result(ward),
         _ => office.text(ward, text),
     };

@@ -13,7 +13,7 @@ use register::ranges::LAST_LOT_STAGE;
 use register::{BatchCommand, CandidateCommand, Command, CountCommand, KeyingCommand, Request};
 use std::alloc::{AllocError, Global};
 
-/// The actor of these requests: the office itself.
+/// The office itself, as the actor of these requests.
 const OFFICE: u32 = 0;
 
 /// Returns a request of the office itself.
@@ -56,14 +56,14 @@ pub(crate) fn keying_request(
 }
 
 #[tactic(auto, unfolding(crate::specs::Requests::id_at))]
-/// Returns the id of the request for the record of some number: the order's, a hyphen, and that number.
+/// Returns the request id for the record with this number: the order's id, a hyphen, and the number.
 fn id_at(alloc: Global, id: &str, number: usize) -> Result<String, AllocError>
     ensures { IfOk result (λ text. string_bytes text ≡ id_at id.now number) }
 {
     format!(in alloc; "{id}-{number}")
 }
 
-/// The rows of an import file, each of which is sent as one request of the office.
+/// A row of an import file. Each row is sent as one request of the office.
 pub(crate) trait ImportRow: Drop {
     ghost use Rattle.desk.specs.Orders.{Asked};
 
@@ -72,10 +72,10 @@ pub(crate) trait ImportRow: Drop {
 
     ghost entry: { Self → Entry };
 
-    /// What an entry asks for.
+    /// What an entry requests.
     ghost asked: { Entry → Asked };
 
-    /// Returns the command that asks for it.
+    /// Returns the command that requests it.
     fn command(&self) -> Result<Command, AllocError>
         ensures { IfOk result (λ command. asked_by command ≡ asked (entry self.now)) };
 }
@@ -116,7 +116,7 @@ impl ImportRow for BatchRow {
     }
 }
 
-/// Returns the request for the record of some number.
+/// Returns the request for the record with this number.
 fn request_at<T: ImportRow>(
     alloc: Global,
     id: &str,
@@ -153,7 +153,7 @@ pub(crate) fn seal_request(alloc: Global, seal: ExpectedSeal<'_>) -> Result<Requ
     Ok(by_office(id, Command::Count(command)))
 }
 
-/// Returns the request that counts a stage of a ward, with this number in its order.
+/// Returns the request that counts a stage of a ward. `number` is its number within the order.
 fn advance_at(alloc: Global, ward: u32, id: &str, number: usize) -> Result<Request, AllocError>
     ensures { IfOk result (λ request. sent_as request ≡ advance_at ward id.now number) }
 {
@@ -162,13 +162,13 @@ fn advance_at(alloc: Global, ward: u32, id: &str, number: usize) -> Result<Reque
 }
 
 /// The highest stage that a count can have. There are at most 30 candidates, and each stage after the first transfers the papers of
-/// one of them, who then needs no further stage. So this is the last stage for which a lot may be drawn.
+/// one of them, who then needs no further stage. So this is also the last stage for which a lot may be drawn.
 const LAST_STAGE: u32 = LAST_LOT_STAGE;
 
-/// The maximum number of requests of an order that counts: one more than the stages, which is refused.
+/// The maximum number of requests in an order that counts: one more than the number of stages. The last one is refused.
 const MOST_ADVANCES: usize = LAST_STAGE as usize + 1;
 
-/// Returns the requests that count the stages of a ward, from the first on, as many as an order may send.
+/// Returns the requests that count the stages of a ward, starting with the first: as many as an order may send.
 pub(crate) fn advances(alloc: Global, ward: u32, id: &str) -> Result<Vec<Request>, AllocError>
     ensures { IfOk result (λ requests. map sent_as requests.items ≡ advances ward id.now most_advances) }
 {

@@ -1,4 +1,4 @@
-//! The files that a script names, for a client that sends them along with it.
+//! The files that a script names, for a client that sends them along with the script.
 
 ghost use Rattle.std.specs.Prelude.{◌≡◌, IfOk, map, string_bytes};
 ghost use Rattle.desk.specs.ScriptFiles.{AreNamedIn, files_of};
@@ -6,7 +6,7 @@ ghost use Rattle.desk.specs.ScriptFiles.{AreNamedIn, files_of};
 use crate::scripts::{ScriptFault, ScriptStep, lines_in, script_steps, typed_lines};
 use std::alloc::{AllocError, Global};
 
-/// Returns the paths of the files that steps read, in order and with repetitions.
+/// Returns the paths of the files that steps read, in order and including repetitions.
 fn files_of(alloc: Global, turns: &[ScriptStep<'_>]) -> Result<Vec<String>, AllocError>
     ensures { IfOk result (λ paths. map string_bytes paths.items ≡ files_of turns.now) }
 {
@@ -20,7 +20,7 @@ fn files_of(alloc: Global, turns: &[ScriptStep<'_>]) -> Result<Vec<String>, Allo
 }
 
 /// Returns the paths of the files that the lines of a script name, in order. If a line isn't understood, there are none: the order
-/// reports that line, and opens no file.
+/// reports that line and opens no files.
 pub fn files_named_in(alloc: Global, script: &[u8]) -> Result<Vec<String>, AllocError>
     ensures { IfOk result (λ paths. AreNamedIn script.now (map string_bytes paths.items)) }
 {

@@ -1,4 +1,4 @@
-//! The status of the election of a ward, in a line.
+//! The status of the election of a ward, in one line.
 
 ghost use Rattle.std.specs.Prelude.{◌≡◌, IfOk, string_bytes};
 ghost use Rattle.sqlite.specs.Held.{state};
@@ -29,7 +29,7 @@ pub(crate) fn phase_word(phase: Phase) -> &'static str
 }
 
 #[tactic(auto, unfolding(crate::specs::WardStatus::ward_words))]
-/// Returns the ward, its phase and its candidates in words.
+/// Returns the number and phase of the ward, and how many candidates it has.
 fn ward_words(alloc: Global, status: &Status) -> Result<String, AllocError>
     ensures { IfOk result (λ text. string_bytes text ≡ ward_words (status_entry status.now)) }
 {
@@ -39,7 +39,7 @@ fn ward_words(alloc: Global, status: &Status) -> Result<String, AllocError>
 }
 
 #[tactic(auto, unfolding(crate::specs::WardStatus::batch_words))]
-/// Returns its batches in words.
+/// Returns how many batches the ward has, how many of them are taken, and how many differ.
 fn batch_words(alloc: Global, status: &Status) -> Result<String, AllocError>
     ensures { IfOk result (λ text. string_bytes text ≡ batch_words (status_entry status.now)) }
 {
@@ -48,7 +48,7 @@ fn batch_words(alloc: Global, status: &Status) -> Result<String, AllocError>
 }
 
 #[tactic(auto, unfolding(crate::specs::WardStatus::count_words))]
-/// Returns what is open, and how far its count is.
+/// Returns how many doubtful papers are open, and how many stages are counted.
 fn count_words(alloc: Global, status: &Status) -> Result<String, AllocError>
     ensures { IfOk result (λ text. string_bytes text ≡ count_words (status_entry status.now)) }
 {
@@ -57,7 +57,7 @@ fn count_words(alloc: Global, status: &Status) -> Result<String, AllocError>
 }
 
 #[tactic(auto, unfolding(crate::specs::WardStatus::status_text))]
-/// Returns the status line of a ward, without its end.
+/// Returns the status line of a ward, without its line end.
 pub(crate) fn status_text(alloc: Global, status: &Status) -> Result<String, AllocError>
     ensures { IfOk result (λ text. string_bytes text ≡ status_text (status_entry status.now)) }
 {

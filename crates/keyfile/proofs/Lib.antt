@@ -1,4 +1,4 @@
--- What the proofs of the readers share.
+-- Lemmas that the proofs of the readers have in common.
 pub mod KeyedLemmas
 pub mod MarkLemmas
 pub mod FieldLemmas

@@ -1,4 +1,4 @@
--- Import files in computed examples: their rows, and their faults.
+-- Computed examples of import files: their rows and their faults.
 use Rattle.std.proofs.Common.{◌≡◌, ℕ, List, [], ◌∷◌, ◌++◌, codes, Result, Ok, Err, refl}
 use Rattle.std.specs.Str.{chars, is_utf8}
 use lib.Utf8.{encode}
@@ -12,11 +12,11 @@ use Rattle.keyfile.specs.Records.{file_records}
 use Rattle.keyfile.specs.declared.fault.FileFault.{FileFault}
 use Rattle.keyfile.specs.declared.fault.Flaw.TheVariants.{Header, RecordLength, Number, PaperOrder, Marks, NotUtf8, OtherKeying}
 
--- clerk 4's keying of batch 12, whose papers have the columns 1, 2, 3
+-- clerk 4's keying of batch 12, whose papers have the columns 1, 2 and 3
 abbrev keying_of : List ℕ → Result (List (List ℕ)) FileFault
 keying_of bytes = file_rows (keying (1 ∷ 2 ∷ 3 ∷ []) 12 4) (file_records bytes)
 
--- that keying, by the records after its header
+-- that keying, given the records after its header
 abbrev papers_of : List ℕ → Result (List (List ℕ)) FileFault
 papers_of bytes = keying_of (codes "paper,1,2,3" ++ 10 ∷ bytes)
 
@@ -75,7 +75,7 @@ no_columns : keying_of (codes "paper 12/9") ≡ Err (fault_at 0 (OtherKeying 12 
 unfolding chars encode is_utf8 next_record records_from strip_bom
 no_columns = refl
 
--- if it names neither batch nor clerk, or this batch and this clerk, the columns decide
+-- if the header names neither batch nor clerk, or this batch and this clerk, the columns decide
 own_with_other_columns : keying_of (codes "paper 12/4,1,2") ≡ Err (fault_at 0 Header)
 unfolding chars encode is_utf8 next_record records_from strip_bom
 own_with_other_columns = refl
@@ -92,7 +92,7 @@ nobody_without_papers : keying_of (codes "paper,1,2,3") ≡ Ok []
 unfolding chars encode is_utf8 next_record records_from strip_bom
 nobody_without_papers = refl
 
--- a first field that names batch and clerk in any other spelling is no header
+-- a first field that names a batch and a clerk in any other spelling isn't a header
 mistyped_with_other_columns : keying_of (codes "paper 13/09,1,2") ≡ Err (fault_at 0 Header)
 unfolding chars encode is_utf8 next_record records_from strip_bom
 mistyped_with_other_columns = refl

@@ -7,7 +7,7 @@ use Rattle.keyfile.specs.declared.batches.BatchRow.{BatchRow}
 use Rattle.keyfile.specs.declared.fault.Flaw.{Flaw}
 use Rattle.keyfile.specs.declared.fault.Flaw.TheVariants.{Header, RecordLength, Number}
 
--- a batch to be given out: its number, its ward, how many papers it has, and the two clerks that key it
+-- a batch to be given out: its number, its ward, the number of its papers, and the two clerks who key it
 pub record BatchRowEntry : Type 0 where
   pub batch : ℕ
   pub ward : ℕ
@@ -15,11 +15,11 @@ pub record BatchRowEntry : Type 0 where
   pub first_clerk : ℕ
   pub second_clerk : ℕ
 
--- the entry of a row
+-- the entry that a row represents
 abbrev pub batch_row_entry : BatchRow → BatchRowEntry
 batch_row_entry row = record { batch = row.batch; ward = row.ward; size = row.size; first_clerk = row.first_clerk; second_clerk = row.second_clerk }
 
--- the header is `batch,ward,size,first clerk,second clerk`: its first three fields, and those of the clerks
+-- the header is `batch,ward,size,first clerk,second clerk`: its first three fields are these, and the others name the clerks
 abbrev pub names_pile : List ℕ → List ℕ → List ℕ → Bool
 names_pile batch ward size = bytes_eq batch (codes "batch") && (bytes_eq ward (codes "ward") && bytes_eq size (codes "size"))
 
@@ -30,16 +30,16 @@ abbrev pub is_batch_header : Record → Bool
 is_batch_header (batch ∷ ward ∷ size ∷ first ∷ second ∷ []) = names_pile batch ward size && names_clerks first second
 is_batch_header other = false
 
--- a first record that isn't the header is refused as such
+-- a first record that isn't the header has the flaw `Header`
 abbrev pub batch_header_flaw : Record → Option Flaw
 batch_header_flaw fields = if is_batch_header fields then None else Some Header
 
--- what is read by a number, if there is one
+-- what is read using a number, if there is one
 abbrev pub numbered_by : {Row : Type 0} → Option ℕ → (ℕ → Result Row Flaw) → Result Row Flaw
 numbered_by None read = Err Number
 numbered_by (Some number) read = read number
 
--- a record is a batch if each of its five fields is a number
+-- a record is a batch if all of its five fields are numbers
 abbrev pub batch_in : Record → Result BatchRowEntry Flaw
 batch_in (batch ∷ ward ∷ size ∷ first ∷ second ∷ []) =
     numbered_by (plain_number_in batch) (λ b. numbered_by (plain_number_in ward) (λ w. numbered_by (plain_number_in size) (λ n.
@@ -47,10 +47,10 @@ batch_in (batch ∷ ward ∷ size ∷ first ∷ second ∷ []) =
     Ok (record { batch = b; ward = w; size = n; first_clerk = f; second_clerk = s }))))))
 batch_in other = Err RecordLength
 
--- the maximum number of batches in a file: all numbers of batches
+-- the maximum number of batches in a file, which is the number of possible batch numbers
 abbrev pub most_batches : ℕ
 most_batches = 9999
 
--- the format of the file of batches, which has at most all of them
+-- the format of the file of batches, which contains at most that many
 abbrev pub batches : Format BatchRowEntry
 batches = record { header_flaw = batch_header_flaw; most = most_batches; read = λ k fields. batch_in fields }

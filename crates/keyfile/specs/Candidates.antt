@@ -11,7 +11,7 @@ use Rattle.keyfile.specs.declared.fault.Flaw.TheVariants.{Header, RecordLength, 
 abbrev pub CandidateEntry : Type 0
 CandidateEntry = ℕ × ℕ × List ℕ
 
--- the entry of a row
+-- the entry that a row represents
 abbrev pub candidate_entry : CandidateRow → CandidateEntry
 candidate_entry row = (row.ward, row.candidate, string_bytes row.name)
 
@@ -20,7 +20,7 @@ abbrev pub is_candidate_header : Record → Bool
 is_candidate_header (ward ∷ candidate ∷ name ∷ []) = bytes_eq ward (codes "ward") && (bytes_eq candidate (codes "candidate") && bytes_eq name (codes "name"))
 is_candidate_header other = false
 
--- a first record that isn't the header is refused as such
+-- a first record that isn't the header has the flaw `Header`
 abbrev pub candidate_header_flaw : Record → Option Flaw
 candidate_header_flaw fields = if is_candidate_header fields then None else Some Header
 
@@ -30,7 +30,7 @@ numbered (Some ward) (Some candidate) name = Ok (ward, candidate, name)
 numbered (Some ward) None name = Err Number
 numbered None candidate name = Err Number
 
--- a record is a candidate if its first two fields, ward and candidate, are numbers
+-- a record is a candidate if its first two fields, the ward and the candidate, are numbers
 abbrev pub candidate_in : Record → Result CandidateEntry Flaw
 candidate_in (ward ∷ candidate ∷ name ∷ []) = numbered (plain_number_in ward) (plain_number_in candidate) name
 candidate_in other = Err RecordLength
@@ -39,6 +39,6 @@ candidate_in other = Err RecordLength
 abbrev pub most_candidates : ℕ
 most_candidates = 2970
 
--- the format of the file of candidates, which has at most all of them
+-- the format of the file of candidates, which contains at most that many
 abbrev pub candidates : Format CandidateEntry
 candidates = record { header_flaw = candidate_header_flaw; most = most_candidates; read = λ k fields. candidate_in fields }

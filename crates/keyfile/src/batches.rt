@@ -1,4 +1,4 @@
-//! The file of batches, of one ward or several: `batch,ward,size,first clerk,second clerk`.
+//! The file of batches, for one ward or several: `batch,ward,size,first clerk,second clerk`.
 
 ghost use Rattle.std.specs.Prelude.{◌≡◌, false, ◌⊎◌, ◌∷◌, [], map, IfOk, IfErr, Ok, Err, None, Some};
 ghost use Rattle.keyfile.specs.Batches.{BatchRowEntry, batch_in, batch_row_entry, batches, is_batch_header, names_clerks, names_pile};
@@ -16,10 +16,10 @@ use paper::plain_number_in;
 use std::alloc::Global;
 use std::io::Read;
 
-/// The most batches of a file: all numbers that a batch may have.
+/// The maximum number of batches in a file, which is the number of possible batch numbers.
 const MOST_BATCH_ROWS: u32 = 9999;
 
-/// A batch in an import file. The numbers have 1 to 5 digits: whether they are in range is checked when the batch is given out.
+/// A batch in an import file. The numbers have 1 to 5 digits. Whether they are in range is checked when the batch is given out.
 #[derive(Drop)]
 pub struct BatchRow {
     pub batch: u32,
@@ -29,14 +29,14 @@ pub struct BatchRow {
     pub second_clerk: u32,
 }
 
-/// Returns the batches of a file, in file order.
+/// Returns the batches in a file, in file order.
 ///
-/// The header is `batch,ward,size,first clerk,second clerk`; at most 9999 records follow it. The rows are those of the file's records
-/// as `csv` parses them, or the fault is the first flaw of the first faulty record. `ReadFailed` and `Memory` may be reported at any
-/// record up to the first faulty one.
+/// The header is `batch,ward,size,first clerk,second clerk`, followed by at most 9999 records. The rows are those of the file's
+/// records as parsed by `csv`. The fault is the first flaw of the first faulty record, except that `ReadFailed` and `Memory` may be
+/// reported at any record up to that one.
 ///
-/// If a digest is asked for, the rows are those of bytes that have it. A file of other bytes is `OtherFile`, whatever else is wrong
-/// with it.
+/// If a digest is given, the rows are read from bytes that have it. A file with other bytes is refused with `OtherFile`, whatever
+/// else is wrong with it.
 pub fn read_batches<R: Read + Drop>(
     alloc: Global,
     r: R,
@@ -83,21 +83,21 @@ impl FileFormat for BatchFormat {
     }
 }
 
-/// Returns whether fields are the header's first three, of the pile.
+/// Returns true if the fields are the first three of the header, which describe the pile of papers.
 fn names_pile(batch: &str, ward: &str, size: &str) -> bool
     ensures { result ≡ names_pile batch.now ward.now size.now }
 {
     batch == "batch" && ward == "ward" && size == "size"
 }
 
-/// Returns whether fields are the header's last two, of the clerks.
+/// Returns true if the fields are the last two of the header, which name the clerks.
 fn names_clerks(first: &str, second: &str) -> bool
     ensures { result ≡ names_clerks first.now second.now }
 {
     first == "first clerk" && second == "second clerk"
 }
 
-/// Returns whether the fields are the header.
+/// Returns true if the fields are the header.
 fn is_batch_header(fields: &[&str]) -> bool
     ensures { result ≡ is_batch_header (map (λ f. f.now) fields.now) }
 {
@@ -109,7 +109,7 @@ fn is_batch_header(fields: &[&str]) -> bool
     }
 }
 
-/// Returns the number that a field has.
+/// Returns the number in a field.
 fn number_in(field: &str) -> Result<u32, Flaw>
     ensures ok { IfOk result (λ number. plain_number_in field.now ≡ Some number) }
     ensures err { IfErr result (λ flaw. (flaw ≡ Flaw.Number) × (plain_number_in field.now ≡ None)) }

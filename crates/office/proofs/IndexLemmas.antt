@@ -1,4 +1,4 @@
--- The answer to a request for the page of all wards, from the overviews found.
+-- The answer to a request for the page of all wards, given the overviews found.
 use Rattle.std.proofs.Common.{◌≡◌, inl, ℕ, Bool, false, List, map, Result, Ok, Err, IfOk, IfErr, OnOk, String, Vec, string_bytes, refl, sym, ap, ◌∙◌}
 use Rattle.std.specs.declared.alloc.Global.{Global}
 use Rattle.sqlite.specs.State.{State}
@@ -19,7 +19,7 @@ use Rattle.office.specs.Reads.{Read}
 abbrev views : Vec WardOverview Global → List WardView
 views wards = map ward_view wards.items
 
--- why there are no overviews is why there is no page; it is not a refusal, since overviews of all wards are never refused
+-- the reason why there are no overviews is the reason why there is no page; it isn't a refusal, since a request for overviews of all wards is never refused
 pub index_stopped : (title : List ℕ) (s : OfficeState) (stop : ReadError) (closed : Bool) (st : State) → Read views s (wards_answer s) (Err stop) closed st
     → Read (string_bytes {Z = Global}) s (index_answer title s) (Err stop) closed st
 index_stopped title s (Refused why) closed st read = absurd (never read.0)
@@ -28,7 +28,7 @@ index_stopped title s (Refused why) closed st read = absurd (never read.0)
     never e = cc
 index_stopped title s (Failed f) closed st read = read
 
--- the page from the overviews found is that of the state
+-- the page for the overviews found is the page for the state
 pub index_read : (title : List ℕ) (s : OfficeState) (wards : Vec WardOverview Global) (r : Result (String Global) ReadError) (before closed : Bool) (old st : State)
     → Read views s (wards_answer s) (Ok wards) before old → (IsAt s old → IsAt s st) → IfOk r (λ text. string_bytes text ≡ index title (map listed_shown (views wards)))
     → IfErr r (λ stop. (stop ≡ Failed Memory) × (closed ≡ false)) → OnOk r (closed ≡ before) → Read string_bytes s (index_answer title s) r closed st

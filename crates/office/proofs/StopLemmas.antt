@@ -1,4 +1,4 @@
--- A read that is refused, or stopped by a failed allocation; and what an order that only reads leaves.
+-- Reads that are refused or stopped by a failed allocation, and the effect of orders that only read.
 use Rattle.std.proofs.Common.{inl, inr, Bool, true, false, Result, Ok, Err, IfErr, refl}
 use Rattle.sqlite.specs.State.{State, HasCleanDisk}
 use Rattle.register.specs.Offices.{OfficeState}
@@ -19,7 +19,7 @@ pub if_of_memory : {X : Type 0} (old new : State) (r : Result X ReadError) → I
 if_of_memory old new (Ok x) h = tt
 if_of_memory old new (Err stop) h = stops_of_memory old new stop h
 
--- it leaves the office at its state, open or closed
+-- such an order leaves the office in its state, open or closed
 pub left_reading : (s : OfficeState) (closed : Bool) (old new : State) → OnlyReads old new → HasCleanDisk new → IsAt s old → IsReadAt s closed new
 left_reading s false old new reads clean at = inl (record { is_open = refl; at = is_at_read s old new reads clean at })
 left_reading s true old new reads clean at = let it = is_at_read s old new reads clean at in inr (refl, it.leaves)

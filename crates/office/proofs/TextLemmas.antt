@@ -1,4 +1,4 @@
--- The answer to a request for a text of a ward, from what was found of the ward.
+-- The answer to a request for a text of a ward, given what was found for the ward.
 use Rattle.std.proofs.Common.{◌≡◌, inl, inr, ℕ, Bool, true, false, Option, Some, None, option_map, Result, Ok, Err, IfOk, IfErr, OnOk, String, string_bytes, refl, sym, ap, subst, ◌∙◌}
 use Rattle.std.specs.declared.alloc.Global.{Global}
 use Rattle.std.proofs.lemmas.Bool.{cond-true, cond-false}
@@ -22,7 +22,7 @@ use Rattle.office.specs.Sheets.{is_printable_in, text_shown, text_found, text_an
 
 -- ---- what was found
 
--- what was found of a ward represents an election of the state
+-- what was found for a ward represents an election in the state
 pub sheet_found : {R : Type 0} (s : OfficeState) (ward : ℕ) (sheet : WardSheet) → IsSheetFor (option_map (election_of s) (ward_at s ward)) (Some sheet)
     → ((w : WardEntry) → ward_at s ward ≡ Some w → IsSheetOf (election_of s w) sheet → R) → R
 sheet_found {R = R} s ward sheet made so = by_ward (ward_at s ward) refl made
@@ -48,7 +48,7 @@ textual_at s ward w law there = law w (subst (λ (n : ℕ). ward_at s n ≡ Some
 told_there : (text : WardText) (s : OfficeState) (ward : ℕ) (w : WardEntry) → is_ward_number ward ≡ true → ward_at s ward ≡ Some w → text_answer text s ward ≡ text_found text s (Some w)
 told_there text s ward w in_range there = cond-true (is_ward_number ward) _ _ in_range ∙ ap (text_found text s) there
 
--- if a read of an existing ward returns a text, or a stop, that is the answer to a request for this text
+-- if a read of an existing ward returns a text, or the reason why there is none, then that is the answer to a request for this text
 pub text_read : (text : WardText) (Stands : ElectionEntry → Type 0) (s : OfficeState) (ward : ℕ) (w : WardEntry) (phase : Phase)
     (r : Result (String Global) ReadError) (before closed : Bool) (st : State)
     → is_ward_number ward ≡ true → ward_at s ward ≡ Some w → phase ≡ w.phase → Stands (election_of s w) → before ≡ false → IsAt s st

@@ -1,4 +1,4 @@
--- What an accepted decision leads to.
+-- The effect of an accepted decision.
 use Rattle.std.specs.Prelude.{⊤}
 use Rattle.register.specs.declared.decision.Decision.{Decision}
 use Rattle.register.specs.declared.decision.Decision.TheVariants.{Accepted, Kept, Refused}
@@ -7,7 +7,7 @@ use Rattle.register.specs.StateConditions.{IsState}
 use Rattle.register.specs.Effects.{change_entry, with_change}
 use Rattle.register.specs.Tabulated.{IsTabulated}
 
--- from this state, an accepted decision leads to another state, and adds all that is counted there
+-- from this state, an accepted decision leads to another state and adds everything that is counted there
 abbrev pub LeadsToState : OfficeState → Decision → Type 0
 LeadsToState s (Accepted change reply) = IsTabulated s change × IsState (with_change (change_entry change) s)
 LeadsToState s (Kept reply) = ⊤

@@ -1,4 +1,4 @@
--- The answer for a clerk's own keying of a batch in an earlier round.
+-- The answer to a clerk who reads the clerk's own keying of a batch from an earlier round.
 use Rattle.std.specs.Prelude.{ℕ, ◌&&◌, if◌then◌else◌, Option, Result, Err}
 use Rattle.register.specs.declared.refusal.Reason.{Reason}
 use Rattle.register.specs.declared.refusal.Reason.TheVariants.{NotItsClerk, NumberOutOfRange}
@@ -7,6 +7,6 @@ use Rattle.register.specs.Offices.{OfficeState}
 use Rattle.store.specs.EarlierKeyings.{KeyedRoundEntry, earlier_at}
 use Rattle.office.specs.Reads.{found_or}
 
--- the answer for what one of a batch's clerks keyed of it in the latest earlier round that the clerk keyed, if there is one; a batch that doesn't exist is no clerk's
+-- what one of a batch's clerks keyed of it in the latest earlier round that the clerk keyed, if there is one; a batch that doesn't exist has no clerks
 abbrev pub earlier_told : OfficeState → ℕ → ℕ → Result (Option KeyedRoundEntry) Reason
 earlier_told s clerk batch = if is_clerk clerk && is_batch_number batch then found_or NotItsClerk (earlier_at s clerk batch) else Err NumberOutOfRange

@@ -18,12 +18,12 @@ standing_in Keying = standing.Keying
 standing_in Sealed = standing.Sealed
 standing_in Declared = standing.Declared
 
--- a candidate is among those elected, if they are known
+-- whether those elected are known and the candidate is one of them
 abbrev pub is_among_elected : Option (List ℕ) → CandidateEntry → Bool
 is_among_elected None c = false
 is_among_elected (Some elected) c = list_any (nat_eq c.number) elected
 
--- a ward as it is listed: with those elected, by number and name, once it is declared
+-- the entry of a ward in the list, with the numbers and names of those elected once the ward is declared
 abbrev pub listed_shown : WardView → ListedEntry
 listed_shown v = record {
   number = v.ward.number;
@@ -33,10 +33,10 @@ listed_shown v = record {
   elected = map candidate_shown (filter (is_among_elected v.elected) v.candidates);
 }
 
--- the page of all wards, in the order of their numbers, under a title
+-- the page of all wards in numerical order, with a title
 abbrev pub index_of : List ℕ → OfficeState → List ℕ
 index_of title s = index title (map listed_shown (ward_views s))
 
--- the answer to a request for the page: it is never refused
+-- the answer to a request for the page, which is never refused
 abbrev pub index_answer : List ℕ → OfficeState → Result (List ℕ) Reason
 index_answer title s = Ok (index_of title s)

@@ -1,4 +1,4 @@
-//! The machine's decision, on what the store keeps.
+//! The machine's decision on a request, based on the contents of the store.
 
 ghost use Rattle.std.specs.Prelude.{◌≡◌, IfOk, IfErr, OnOk, IsTrue};
 ghost use Rattle.sqlite.specs.State.{HasCleanDisk};
@@ -17,7 +17,7 @@ use sqlite::Alter;
 use std::alloc::Global;
 use store::{CachedStore, Fault};
 
-/// Returns the decision on a view; the fault is `Memory` if an allocation fails.
+/// Returns the decision for a view, or `Memory` if an allocation fails.
 fn decide_on_view(alloc: Global, view: &View<'_>, command: &Command) -> Result<Decision, Fault>
     ensures decides { IfOk result (λ decision. (s : OfficeState) → IsViewOf s command.now view.now → outcome_of s decision ≡ step s view.now.actor view.now.id.now command.now) }
     ensures stays { (s : OfficeState) → IsState s → IsState (state_after s (step s view.now.actor view.now.id.now command.now)) }
@@ -31,7 +31,7 @@ fn decide_on_view(alloc: Global, view: &View<'_>, command: &Command) -> Result<D
     }
 }
 
-/// Returns the machine's decision on a request, at the state that the store keeps. Changes nothing.
+/// Returns the machine's decision on a request in the state that the store contains. Changes nothing.
 pub(crate) fn decision_of<S: Alter>(
     alloc: Global,
     store: &mut CachedStore<S>,

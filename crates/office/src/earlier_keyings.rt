@@ -1,4 +1,4 @@
-//! What the office returns to a clerk of the clerk's own keying in an earlier round.
+//! Reading a clerk's own keying from an earlier round.
 #![tactic(auto, using(crate::proofs::StopLemmas::stops_of_memory))]
 
 ghost use Rattle.std.specs.Prelude.{◌≡◌, true, IfOk, IfErr, Some, Err, option_map};
@@ -19,12 +19,12 @@ use sqlite::Alter;
 use store::{Fault, KeyedRound};
 
 impl<S: Alter> Office<S> {
-    /// Returns a clerk's own keying of a batch, in the latest round before the current one that the clerk keyed: the
-    /// round, and the papers in order. None if the clerk keyed no earlier round.
+    /// Returns a clerk's own keying of a batch in the latest round before the current one that the clerk keyed: the
+    /// round, and the papers in order. Returns `None` if the clerk keyed no earlier round.
     ///
-    /// It depends only on what the clerk sees of the state, whatever others keyed. Refused if a number is out of range,
-    /// or the clerk is not one of such a batch. Changes nothing. `Memory` leaves the office open; any other fault closes
-    /// it. A closed office returns `Closed`.
+    /// The result depends only on what the clerk can see of the state, regardless of what others keyed. The read is
+    /// refused if a number is out of range, or if the clerk isn't one of the clerks of such a batch. Nothing is
+    /// changed. After `Memory` the office stays open; any other fault closes it. A closed office returns `Closed`.
     pub fn earlier_keying(
         &mut self,
         clerk: u32,

@@ -1,4 +1,4 @@
-//! The page of all wards, written from their overviews.
+//! The page of all wards, generated from their overviews.
 #![tactic(auto, using(crate::proofs::StopLemmas::stops_of_memory))]
 
 ghost use Rattle.std.specs.Prelude.{◌≡◌, false, true, nat_eq, map, IfOk, IfErr, OnOk, Err, string_bytes};
@@ -34,21 +34,21 @@ fn standing_in(phase: Phase) -> WardStanding
     }
 }
 
-/// Returns whether a column has a candidate's number.
+/// Returns true if a column has the number of a candidate.
 fn has_number(number: u32, column: u8) -> bool
     ensures { result ≡ nat_eq number column }
 {
     number == u32::from(column)
 }
 
-/// Returns whether a candidate's number is among these columns.
+/// Returns true if the number of a candidate is among these columns.
 fn is_among(columns: &[u8], number: u32) -> bool
     ensures { result ≡ list_any (nat_eq number) columns.now }
 {
     columns.iter().any(|column| has_number(number, *column))
 }
 
-/// Returns whether a candidate is among those elected, if they are known.
+/// Returns true if the elected candidates are known and this candidate is one of them.
 fn is_elected(elected: &Option<Columns>, candidate: &Candidate) -> bool
     ensures { result ≡ is_among_elected elected.now (candidate_entry candidate.now) }
 {
@@ -75,7 +75,7 @@ fn elected_names(
     Ok(names)
 }
 
-/// Returns a ward as it is listed.
+/// Returns the entry of a ward in the list.
 fn listed_of(alloc: Global, overview: &WardOverview) -> Result<ListedWard, AllocError>
     ensures { IfOk result (λ ward. listed ward ≡ listed_shown (ward_view overview.now)) }
 {
@@ -88,7 +88,7 @@ fn listed_of(alloc: Global, overview: &WardOverview) -> Result<ListedWard, Alloc
     })
 }
 
-/// Returns all wards as they are listed.
+/// Returns the entries of all wards in the list.
 fn all_listed(alloc: Global, overviews: &[WardOverview]) -> Result<Vec<ListedWard>, AllocError>
     ensures { IfOk result (λ wards. map listed wards.items ≡ map listed_shown (map ward_view overviews.now)) }
 {
@@ -99,7 +99,7 @@ fn all_listed(alloc: Global, overviews: &[WardOverview]) -> Result<Vec<ListedWar
     Ok(wards)
 }
 
-/// Returns the page of all wards with these overviews.
+/// Returns the page of all wards for these overviews.
 fn index_over(alloc: Global, title: &str, overviews: &[WardOverview]) -> Result<String, AllocError>
     ensures { IfOk result (λ text. string_bytes text ≡ index title.now (map listed_shown (map ward_view overviews.now))) }
 {
@@ -108,7 +108,8 @@ fn index_over(alloc: Global, title: &str, overviews: &[WardOverview]) -> Result<
 }
 
 impl<S: Alter> Office<S> {
-    /// Returns the page of all wards with these overviews. It fails only if an allocation fails, which leaves the office open.
+    /// Returns the page of all wards for these overviews. Fails only if an allocation fails, which leaves the office
+    /// open.
     fn index_of(&mut self, title: &str, overviews: &[WardOverview]) -> Result<String, ReadError>
         ensures told { IfOk result (λ text. string_bytes text ≡ index title.now (map listed_shown (map ward_view overviews.now))) }
         ensures stopped { IfErr result (λ stop. (stop ≡ ReadError.Fault Fault.Memory) × (self.new.closed ≡ false)) }
@@ -121,10 +122,11 @@ impl<S: Alter> Office<S> {
         }
     }
 
-    /// Returns the page of all wards, to be posted for the public: the standing of each, and those elected once it is
-    /// declared. An empty title is left out.
+    /// Returns the page of all wards, for posting in public. It shows the standing of each ward and, once the ward is
+    /// declared, who is elected. An empty title is left out.
     ///
-    /// Changes nothing. `Memory` leaves the office open; any other fault closes it. A closed office returns `Closed`.
+    /// Nothing is changed. After `Memory` the office stays open; any other fault closes it. A closed office returns
+    /// `Closed`.
     pub fn index(&mut self, title: &str) -> Result<String, ReadError>
         ensures reads { ReadWhenOpen (state S.Store) self.old self.new string_bytes (λ s. index_answer title.now s) result }
         ensures same { OnlyReads (state S.Store self.old.held) (state S.Store self.new.held) }

@@ -1,4 +1,4 @@
-//! Reads a whole office, and replays requests in an empty office to check whether they lead to it.
+//! Reading a whole office, and replaying requests in an empty office to check whether they lead to it.
 
 ghost use Rattle.std.specs.Prelude.{◌≡◌, true, false, Err, IfOk, IfErr, OnOk};
 ghost use Rattle.std.specs.List.{list_all};
@@ -22,7 +22,7 @@ use sqlite::{Alter, Connection};
 use std::alloc::Global;
 use store::{Fault, read_office};
 
-/// Returns why a call on a database that was empty before it failed: an allocation or its store failed.
+/// Returns the reason why a call failed on a database that was empty at first: an allocation or the store failed.
 fn trial_fault(fault: Fault) -> Fault
     ensures memory { fault ≡ Fault.Memory → result ≡ Fault.Memory }
     ensures other { ¬ (fault ≡ Fault.Memory) → result ≡ Fault.Store }
@@ -34,21 +34,22 @@ fn trial_fault(fault: Fault) -> Fault
     }
 }
 
-/// Returns whether an answer is that of a request that was accepted just now.
+/// Returns true if an answer belongs to a request that was accepted just now.
 fn is_done(answer: &Answer) -> bool
     ensures { result ≡ is_done (told answer.now) }
 {
     matches!(answer, Answer::Done(_))
 }
 
-/// Returns whether every answer is.
+/// Returns true if all answers do.
 fn are_done(answers: &[Answer]) -> bool
     ensures { result ≡ list_all (λ answer. is_done (told answer)) answers.now }
 {
     answers.iter().all(|answer| is_done(answer))
 }
 
-/// Returns whether the office in a connection's database has these entries. `Memory` or `Store` if it can't be read.
+/// Returns whether the office in a connection's database has these entries. Fails with `Memory` or `Store` if the
+/// office can't be read.
 fn has_rows<S: Alter>(alloc: Global, conn: &mut Connection<S>, rows: &Rows) -> Result<bool, Fault>
     ensures same { HasCleanDisk (state S.Store conn.new) → (s : OfficeState) → IsAt s (state S.Store conn.old) → IfOk result (λ has. has ≡ true → s ≡ state_of rows.now) }
     ensures other { HasCleanDisk (state S.Store conn.new) → (s : OfficeState) → IsAt s (state S.Store conn.old) → IfOk result (λ has. has ≡ false → ¬ (s ≡ state_of rows.now)) }
@@ -62,21 +63,21 @@ fn has_rows<S: Alter>(alloc: Global, conn: &mut Connection<S>, rows: &Rows) -> R
 }
 
 impl<S: Alter> Office<S> {
-    /// Returns all entries of the office in a connection's database, those of each table in key order. No office is
-    /// open afterwards, and nothing is changed, whatever the outcome.
+    /// Returns all entries of the office in a connection's database, in key order within each table. No office is open
+    /// afterwards. Nothing is changed, whatever the outcome.
     ///
-    /// A fault is the one that `open_from` would report, with its cause; within a transaction it is `Store`, and
-    /// nothing is read.
+    /// Fails with the fault that `open_from` would report, for the same cause. Inside a transaction the fault is
+    /// `Store`, and nothing is read.
     pub fn rows(alloc: Global, conn: &mut Connection<S>) -> Result<Rows, Fault>
         ensures { ReadsOffice (state S.Store conn.old) (state S.Store conn.new) result }
     {
         read_office(alloc, conn)
     }
 
-    /// Returns all entries of this office, which stays open, those of each table in key order. Nothing is changed,
+    /// Returns all entries of this office, which stays open, in key order within each table. Nothing is changed,
     /// whatever the outcome.
     ///
-    /// `Memory` leaves the office open. Any other fault closes it. A closed office returns `Closed`.
+    /// After `Memory` the office stays open; any other fault closes it. A closed office returns `Closed`.
     pub fn rows_open(&mut self) -> Result<Rows, Fault>
         ensures kept { WhenOpenAt (state S.Store) self.old self.new
             (λ s. IfOk result (λ rows. state_of rows ≡ s) × IfErr result IsMemoryOrStore × IsReadAt s self.new.closed (state S.Store self.new.held)) }
@@ -99,8 +100,8 @@ impl<S: Alter> Office<S> {
         }
     }
 
-    /// Answers requests in order, and returns whether each was accepted. A fault is `Memory` or `Store`; what it leaves
-    /// is unspecified, since the office was made for the trial alone.
+    /// Answers requests in order, and returns whether all of them were accepted. A fault is `Memory` or `Store`. The
+    /// state after a fault is unspecified, since the office was created only for this trial.
     fn accepts_all(&mut self, requests: &[Request]) -> Result<bool, Fault>
         ensures all { WhenOpenAt (state S.Store) self.old self.new
             (λ s. IfOk result (λ yes. (yes ≡ are_accepted s requests.now) × IsOpenAt (after s requests.now) self.new.closed (state S.Store self.new.held))) }
@@ -114,13 +115,14 @@ impl<S: Alter> Office<S> {
         }
     }
 
-    /// Replays requests in an empty office, and returns whether they lead to the office of these rows: each is
-    /// accepted, and in the end the entries are the same, including the receipts. The empty office is made in a
+    /// Replays requests in an empty office, and returns whether they lead to the office with these rows: each request
+    /// is accepted, and at the end the entries are the same, including the receipts. The empty office is created in a
     /// connection's database, and the clauses guarantee the result if that database was empty. The connection is
-    /// returned, with whatever the trial left in its database.
+    /// returned along with whatever the trial left in its database.
     ///
-    /// `Memory` or `Store` if the trial couldn't be completed: an allocation or the trial's store failed. Nothing
-    /// guarantees which. The rows are an argument, so no other database is read or changed.
+    /// Fails with `Memory` or `Store` if the trial couldn't be completed because an allocation or the trial's store
+    /// failed. Nothing guarantees which of the two is reported. The rows are passed as an argument, so no other
+    /// database is read or changed.
     pub fn leads_to(
         alloc: Global,
         blank: Connection<S>,

@@ -1,4 +1,4 @@
-//! The texts of a ward for the public, written from its election.
+//! The texts of a ward for the public, generated from its election.
 
 ghost use Rattle.std.specs.Prelude.{◌≡◌, [], true, map, Some, IfOk, IfSome, IsSome, string_bytes};
 ghost use Rattle.std.specs.List.{list_all};
@@ -22,11 +22,12 @@ use sheet::{
 use std::alloc::{AllocError, Global};
 use store::elected_in;
 
-/// The law of the texts of an office, for its callers: at a state, those of every ward can be written.
+/// Provides callers with the law of an office's texts: in any state of an office, the texts of every ward can be
+/// written.
 pub fn texts_are_there()
     ensures { (s : OfficeState) (w : WardEntry) → IsState s → ward_at s w.number ≡ Some w → IsTextual (election_of s w) }
 {
-    // For its law that a ward's columns are its candidates' numbers.
+    // Called for its law that the columns of a ward are the numbers of its candidates.
     columns_of(&[]);
 }
 
@@ -39,14 +40,14 @@ pub enum WardText<'a> {
     Declaration,
     /// The ballots in the BLT format, once the ward is sealed.
     Ballots,
-    /// The result as a page to print and sign, under this title, once the ward is sealed; an empty title is left out.
+    /// The result as a page to print and sign, with this title, once the ward is sealed. An empty title is left out.
     Page(&'a str),
     /// The stages as a table for a spreadsheet, once the ward is sealed.
     Table,
 }
 
 impl<'a> WardText<'a> {
-    /// Returns whether the text may be printed in a phase.
+    /// Returns true if the text may be printed in a phase.
     pub(crate) fn is_printable_in(self, phase: Phase) -> bool
         ensures is { result ≡ is_printable_in self.entry phase }
         ensures counted { result ≡ true → is_counted phase ≡ true }
@@ -60,7 +61,8 @@ impl<'a> WardText<'a> {
     }
 }
 
-/// Returns a candidate's number and name. `None` if the number is out of range; no candidate of an office has such a number.
+/// Returns a candidate's number and name, or `None` if the number is out of range. No candidate of an office has such a
+/// number.
 fn candidate_line(candidate: &Candidate) -> Result<Option<(u8, String)>, AllocError>
     ensures is { IfOk result (λ found. IfSome found (λ line. (line.0, string_bytes line.1) ≡ candidate_shown (candidate_entry candidate.now))) }
     ensures some { IfOk result (λ found. is_candidate_number candidate.now.number ≡ true → IsSome found) }
@@ -71,7 +73,7 @@ fn candidate_line(candidate: &Candidate) -> Result<Option<(u8, String)>, AllocEr
     Ok(Some((number, candidate.name.clone()?)))
 }
 
-/// Returns the numbers and names of candidates, in order. `None` if a number is out of range.
+/// Returns the numbers and names of candidates, in order, or `None` if a number is out of range.
 fn candidate_lines(
     alloc: Global,
     candidates: &[Candidate],
@@ -89,7 +91,7 @@ fn candidate_lines(
     Ok(Some(lines))
 }
 
-/// Returns the poll of a ward in count.
+/// Returns the poll of a ward that is being counted.
 fn poll_of(sheet: &WardSheet) -> Option<Poll>
     ensures { (e : ElectionEntry) → IsSheetOf e sheet.now → is_counted e.ward.phase ≡ true → result ≡ poll_shown e }
 {
@@ -102,8 +104,8 @@ fn poll_of(sheet: &WardSheet) -> Option<Poll>
     }
 }
 
-/// Returns a counted ward as the texts show it, with these lines of its candidates and this poll. `None` if a number is
-/// out of range, so that the ward can't be printed; no ward of an office has such a number.
+/// Returns a counted ward as the texts show it, with these lines for its candidates and this poll. Returns `None` if a
+/// number is out of range and the ward therefore can't be printed. No ward of an office has such a number.
 fn ward_of<'a>(
     counted: &'a CountedWard,
     candidates: &'a [(u8, String)],
@@ -134,7 +136,7 @@ fn ward_of<'a>(
     Some(ward)
 }
 
-/// Returns the stages of a ward's count that are done; none for an uncontested ward.
+/// Returns the stages of a ward's count that are done; an uncontested ward has none.
 fn stages_of(counted: &CountedWard) -> &[Stage]
     ensures { (e : ElectionEntry) → IsCountedWard e counted.now → is_counted e.ward.phase ≡ true → result.now ≡ stages_shown e }
 {
@@ -144,7 +146,8 @@ fn stages_of(counted: &CountedWard) -> &[Stage]
     }
 }
 
-/// Returns the bundles of equal valid papers of a ward in count; `none` for an uncontested ward, which has no bundles.
+/// Returns the bundles of equal valid papers of a ward that is being counted, or `none` for an uncontested ward, which
+/// has no bundles.
 fn bundles_of<'a>(counted: &'a CountedWard, none: &'a Bundles) -> &'a Bundles
     requires { none.now ≡ [] }
     ensures { (e : ElectionEntry) → IsCountedWard e counted.now → is_counted e.ward.phase ≡ true → result.now ≡ bundles_shown e }
@@ -155,7 +158,7 @@ fn bundles_of<'a>(counted: &'a CountedWard, none: &'a Bundles) -> &'a Bundles
     }
 }
 
-/// Returns the lots recorded in a ward's count; none for an uncontested ward.
+/// Returns the lots recorded in a ward's count; an uncontested ward has none.
 fn lots_of(counted: &CountedWard) -> &[(u8, u8)]
     ensures { (e : ElectionEntry) → IsCountedWard e counted.now → is_counted e.ward.phase ≡ true → result.now ≡ lots_shown e }
 {
@@ -165,7 +168,7 @@ fn lots_of(counted: &CountedWard) -> &[(u8, u8)]
     }
 }
 
-/// Returns a text of a ward that was read, from what it shows.
+/// Returns a text of a ward that was read, given what the text shows.
 fn write_text(
     alloc: Global,
     counted: &CountedWard,
@@ -198,8 +201,8 @@ fn write_text(
     }
 }
 
-/// Returns a text of a ward, from the stages that are done. `None` if it can't be written, but every text of an office
-/// can be. `AllocError` if an allocation fails.
+/// Returns a text of a ward, generated from the stages that are done. Returns `None` if the text can't be written,
+/// which never happens for an office. Fails with `AllocError` if an allocation fails.
 pub(crate) fn text_of(
     alloc: Global,
     sheet: &WardSheet,
@@ -218,7 +221,7 @@ pub(crate) fn text_of(
     Ok(Some(write_text(alloc, counted, &ward, text)?))
 }
 
-/// Returns the declaration of a ward, from those elected, in the same way.
+/// Returns the declaration of a ward, generated from the elected candidates, under the same conditions.
 pub(crate) fn declaration(
     alloc: Global,
     counted: &CountedWard,

@@ -1,4 +1,5 @@
--- The invariant of the loop in `given_out`: the papers so far, and those of the batches that are left, are all; and they are few enough to be added up.
+-- The invariant of the loop in `given_out`: the papers counted so far plus those of the remaining batches are all papers, and their number is small enough not to
+-- overflow.
 use Rattle.std.proofs.Common.{◌≡◌, ◌≤◌, ◌+◌, ◌*◌, ◌^◌, drop, map}
 use Rattle.store.specs.Overviews.{batch_view}
 use Rattle.desk.specs.Seals.{given_out}
