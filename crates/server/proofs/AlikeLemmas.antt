@@ -37,7 +37,7 @@ tails x y xs ys is = ap of is
     of (z ∷ zs) = zs
 
 module _ (settings : ServerSettingsEntry) where
-  -- ---- a client at a view, and another client that asks the same at that view
+  -- ---- a client at a view, and another client that asks for the same at that view
 
   none_sent : (view : OfficeState) (sent sent_too : List Request) → sent ≡ [] → sent_too ≡ [] → after view sent_too ≡ after view sent
   none_sent view sent sent_too none none_too = ap (after view) (none_too ∙ sym none)
@@ -121,7 +121,7 @@ module _ (settings : ServerSettingsEntry) where
     answers_first view next exchange later (sent, inl (back, none), is_next) others = inr (inr (inl (inl back)))
     answers_first view next exchange later (sent, inr (free, told), is_next) others = inl (sent, told, subst (λ (v : OfficeState). AnswersOwn v later) is_next others)
 
-    -- a client that asks no order was answered as such
+    -- a client that sends no order was answered as such
     client_turn : (view next : OfficeState) (exchange : Exchange) → AsksNoOrder settings.clients exchange.got → RespondsBySeen Clients state_of settings clerk view exchange next
         → IsAnsweredBySeen settings clerk view exchange next
     client_turn view next exchange free (inl it) = it

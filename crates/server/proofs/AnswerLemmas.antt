@@ -120,7 +120,7 @@ put_first response answer before after served is_before is_answer it = (
   subst (λ (a : List ℕ). IsPut (Some []) (Some a) response served) (sym is_answer) (subst (λ (b : List ℕ). IsPut (Some b) (Some after) response served) is_before it),
 )
 
--- it was the response to what was asked
+-- it was the response to the request
 pub put_answers : {S : Type 0} (state_of : Held S → State) (old new : OfficeValue S) (asked : HttpRequestEntry) (answer : List ℕ) (response : Response)
     → EndsIn answer (λ before after ending. IsPut before after response ending)
     → (HasCleanDisk (state_of new.held) → old.closed ≡ false → (s : OfficeState) → IsAt s (state_of old.held) → Readies s asked response new.closed (state_of new.held))

@@ -202,7 +202,7 @@ module _ (itself : SeenIsAlike) (alike : AlikeOfficesAnswerAlike) (seen : SeenIs
               other = λ not. other_seen s request handed.handed state handed.command apart;
             }
 
-    -- a client asked something that isn't an order, and was answered
+    -- a client asked for something other than an order, and was answered
     asked_seen : (s : OfficeState) (exchange : Exchange) (sent : List Request) (served : Served) (asked : HttpRequestEntry) → IsState s → AsksNoOrder settings.clients exchange.got
         → Asks settings.clients exchange.got asked → (response : _)
         → TellsAsked s asked response sent → IsPut (Some []) (Some exchange.answer) response served

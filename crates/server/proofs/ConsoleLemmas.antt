@@ -31,9 +31,9 @@ use Rattle.server.specs.declared.served_order.ServedOrder.TheVariants as asked
 use Rattle.server.proofs.AnswerLemmas.{noted_still, served_none}
 use Rattle.server.proofs.OrderLemmas.{follows_sent}
 
--- ---- what is asked
+-- ---- what is requested
 
--- what is asked is an order
+-- what is requested is an order
 abbrev pub is_order : HttpRequestEntry → Bool
 is_order (denied why) = false
 is_order (shown clerk show) = false
@@ -43,13 +43,13 @@ is_order (console show) = false
 is_order (order entry) = true
 is_order (public its what) = false
 
--- a request for anything else doesn't ask an order
+-- a request for anything else isn't an order
 pub asks_no_order : (settings : HttpSettingsEntry) (got : List ℕ) (what : HttpRequestEntry) → Asks settings got what → is_order what ≡ false → AsksNoOrder settings got
 asks_no_order settings got what asks other entry its =
     let one : what ≡ order entry = AsksOneThing-all settings got what (order entry) asks its in
     true≢false (sym (ap is_order one) ∙ other)
 
--- what is asked is an order, or it isn't
+-- what is requested is an order, or it isn't
 asks_order_or_not : (settings : HttpSettingsEntry) (got : List ℕ) (what : HttpRequestEntry) → Asks settings got what
     → AsksNoOrder settings got ⊎ ((entry : ConsoleOrderEntry) × Asks settings got (order entry))
 asks_order_or_not settings got (denied why) asks = inl (asks_no_order settings got (denied why) asks refl)
@@ -60,7 +60,7 @@ asks_order_or_not settings got (console show) asks = inl (asks_no_order settings
 asks_order_or_not settings got (order entry) asks = inr (entry, asks)
 asks_order_or_not settings got (public its what) asks = inl (asks_no_order settings got (public its what) asks refl)
 
--- whatever was parsed, something is asked
+-- whatever was parsed, something is requested
 asks_something : (settings : HttpSettingsEntry) (got : List ℕ) (head : Parsed) → IsParsed settings got head → (what : HttpRequestEntry) × Asks settings got what
 asks_something settings got (parsed.Head head) is = (asked_by settings is.found is.behind, inr (is.found, is.behind, is.begins, refl))
 asks_something settings got parsed.Partial is = (denied BadRequest, inl (is.none, refl))
@@ -136,7 +136,7 @@ module _ {S : Type 0} (settings : ServerSettingsEntry) (state_of : Held S → St
         };
       }
 
-  -- the same for anything that is asked; the cache is then empty
+  -- the same for anything that is requested; the cache is then empty
   pub unread_served : (office : OfficeValue S) (kept later : MemoryEntry) (number moment : ℕ) (got answer : List ℕ) (head : Parsed) → IsParsed settings.clients got head → later.reads ≡ []
       → EndsIn answer (IsServed (IsWritten (fault_response 101)))
       → ServesAsked settings state_of (served_office office kept) (record { listener = Clients; number = number; moment = moment; got = got; answer = answer }) (served_office office later)

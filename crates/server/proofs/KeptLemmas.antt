@@ -302,7 +302,7 @@ module _ {S : Type 0} (settings : ServerSettingsEntry) (state_of : Held S → St
           let still = keeps clean is_open s at right in
           subst (λ (rs : List Request). AreReadAt (after s rs) new.kept.reads) (sym (nothing_sent settings.clients s exchange asked sent asks nothing told)) still.0
 
-  -- a client that asks no order was served
+  -- a client that sends no order was served
   served_leaves : (s : OfficeState) (exchange : Exchange) (old new : ServedOffice S) → AsksNoOrder settings.clients exchange.got → ServesClient settings.clients state_of old exchange new
       → HasCleanDisk (state_of new.office.held) → old.office.closed ≡ false
       → IsAt s (state_of old.office.held) → AreReadAt s old.kept.reads → TurnLeaves Clients state_of settings s exchange new.kept.reads new.office.closed (state_of new.office.held)

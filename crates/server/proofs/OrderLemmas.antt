@@ -46,7 +46,7 @@ shown_said uncut told page status it = taken_known told.out page.out it.out
 shown_said (cut_behind took) told page status it = taken_known told.out took it.out
 shown_said cut_error told page status it = taken_known told.out page.out it.out
 
--- what is asked was carried out, and this part of its page was sent in this way
+-- what is requested was carried out, and this part of its page was sent in this way
 pub follows_asked : {S : Type 0} (state_of : Held S → State) (old new : OfficeValue S) (files : List MessagePartEntry) (what : ServedOrder) (before after : Outputs) (status : ℕ)
     (IsSent : Cut → Page → Type 0) → before ≡ untold → ((cut : Cut) (page : Page) → IsShown cut untold after page status → IsSent cut page)
     → Tells before after status (λ cut page. WhenOpenAt state_of old new (λ s. IsOrderOutcome (state_of old.held) new.closed (state_of new.held) (folder_of files) s what cut page)
@@ -73,7 +73,7 @@ follows_sent {S} state_of old new files what IsSent IsSentToo turns it = record 
   clean = it.clean;
 }
 
--- what is asked was processed, and its page was sent in frames
+-- what is requested was processed, and its page was sent in frames
 pub tells_asked : {L S : Type 0} (stream : Stream L) (state_of : Held S → State) (old new : OfficeValue S) (files : List MessagePartEntry) (what : ServedOrder)
     (before after : Outputs) (status : ℕ) (err : List ℕ)
     (now : L) (answer : PendingResponse) → before ≡ untold → after.err ≡ Some err → ((said : List ℕ) → after.out ≡ Some said → IsEnded stream said status err now answer)
@@ -115,7 +115,7 @@ pub tells_open : {S : Type 0} (state_of : Held S → State) (old new : OfficeVal
 tells_open {S} state_of old new files what before after status is_open it =
     record { page = it.page; cut = it.cut; shown = it.shown; is = (it.is, λ closed. absurd (true≢false (sym closed ∙ is_open))) }
 
--- ---- what is asked
+-- ---- what is requested
 
 -- a message encodes only one order
 same_order : (got : List ℕ) (one other : OrderMessageEntry) → IsMessage got one → IsMessage got other → one ≡ other

@@ -40,10 +40,10 @@ pub record IsUnder (settings : HttpSettingsEntry) (clerk : ℕ) (bytes : List �
 abbrev pub ClerksAskNoOrder : Type 0
 ClerksAskNoOrder = (settings : HttpSettingsEntry) (clerk : ℕ) (bytes : List ℕ) → IsUnder settings clerk bytes → AsksNoOrder settings bytes
 
--- A client that asks no order was served, along with a clerk's view of the office. If it asked under the clerk's number, the view alone determines the response: it is
--- what the office's machine and its reads answer at the view, and the client's own request leads to the next view. The response to a rejected request depends only on
--- its own bytes. A client that didn't ask under the clerk's number leaves the view unchanged. This says nothing about the responses to other clerks and to public
--- reads.
+-- A client that sends no order was served, along with a clerk's view of the office. If it asked for something under the clerk's number, the view alone determines the
+-- response: it is what the office's machine and its reads answer at the view, and the client's own request leads to the next view. The response to a rejected request
+-- depends only on its own bytes. A client that didn't ask for anything under the clerk's number leaves the view unchanged. This says nothing about the responses to
+-- other clerks and to public reads.
 pub record IsAnsweredBySeen (settings : ServerSettingsEntry) (clerk : ℕ) (view : OfficeState) (exchange : Exchange) (next : OfficeState) : Type 0 where
   pub own : IsUnder settings.clients clerk exchange.got → (sent : List Request) × IsClientAnsweredAt settings view exchange sent × (next ≡ after view sent)
   pub denied : (why : RequestError) → Asks settings.clients exchange.got (denied why) → IsClientAnsweredAt settings view exchange []
@@ -72,7 +72,7 @@ abbrev pub RespondsBySeen : {S : Type 0} → Listener → (Held S → State) →
 RespondsBySeen Clients state_of settings clerk view exchange next = IsAnsweredBySeen settings clerk view exchange next ⊎ IsConsoleBySeen state_of settings clerk view exchange next
 RespondsBySeen Orders state_of settings clerk view exchange next = IsFollowedBySeen state_of settings clerk view exchange next
 
--- A fault closed the office. The response to a client that asks no order is the fault, and the output of an order is its output at some state of which the clerk has
+-- A fault closed the office. The response to a client that sends no order is the fault, and the output of an order is its output at some state of which the clerk has
 -- this view.
 abbrev pub IsStoppedBySeen : {S : Type 0} → Listener → (Held S → State) → ServerSettingsEntry → ℕ → OfficeState → Exchange → Type 0
 IsStoppedBySeen Clients state_of settings clerk view exchange =
@@ -116,7 +116,7 @@ AreOwn settings clerk (exchange ∷ exchanges) own =
     (IsUnder settings clerk exchange.got × ((later : List Exchange) × (own ≡ exchange ∷ later) × AreOwn settings clerk exchanges later))
     ⊎ ((IsUnder settings clerk exchange.got → ⊥) × AreOwn settings clerk exchanges own)
 
--- each exchange is that of a client that asks no order
+-- each exchange is that of a client that sends no order
 abbrev pub AreClients : HttpSettingsEntry → List Exchange → Type 0
 AreClients settings [] = ⊤
 AreClients settings (exchange ∷ exchanges) = (exchange.listener ≡ Clients) × AsksNoOrder settings exchange.got × AreClients settings exchanges
@@ -137,7 +137,7 @@ AreAnsweredAlike settings [] others = others ≡ []
 AreAnsweredAlike settings (one ∷ ones) [] = ⊥
 AreAnsweredAlike settings (one ∷ ones) (two ∷ twos) = (AreSentTheSame one two × AreAnsweredAlike settings ones twos) ⊎ (IsUnanswered settings one ⊎ IsUnanswered settings two)
 
--- The law: suppose that two offices look alike to a clerk, that both serve only clients that ask no orders, and that both receive the same bytes under the clerk's
+-- The law: suppose that two offices look alike to a clerk, that both serve only clients that send no orders, and that both receive the same bytes under the clerk's
 -- number, in the same order. Then both send the clerk the same responses, whatever other clerks send.
 abbrev pub ClerksCannotTell : {S : Type 0} → (Held S → State) → Type 0
 ClerksCannotTell state_of =

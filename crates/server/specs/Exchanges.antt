@@ -40,7 +40,7 @@ pub record Exchange : Type 0 where
 abbrev pub EndsSo : Exchange → (Option (List ℕ) → Option (List ℕ) → Served → Type 0) → Type 0
 EndsSo exchange IsEnd = EndsIn exchange.answer IsEnd
 
--- The office answered what was asked. If it was open, these bytes are the response, with the state that it left; if it was closed, they say so.
+-- The office answered what was requested. If it was open, these bytes are the response, with the state that it left; if it was closed, they say so.
 pub record HasAnswered {S : Type 0} (state_of : Held S → State) (old : OfficeValue S) (asked : HttpRequestEntry) (answer : List ℕ) (new : OfficeValue S) : Type 0 where
   pub serves : WhenOpenAt state_of old new (λ s. EndsIn answer (IsServed (λ response. Readies s asked response new.closed (state_of new.held))))
   pub turned_away : old.closed ≡ true → EndsIn answer (IsServed (IsTold (closed_response asked))) × (new ≡ old)
@@ -56,7 +56,7 @@ ChangesNothing (console show) = ⊤
 ChangesNothing (order entry) = ⊥
 ChangesNothing (public its what) = ⊤
 
--- these bytes don't ask an order of the console
+-- these bytes don't contain an order from the console
 abbrev pub AsksNoOrder : HttpSettingsEntry → List ℕ → Type 0
 AsksNoOrder settings bytes = (entry : ConsoleOrderEntry) → Asks settings bytes (order entry) → ⊥
 
@@ -67,7 +67,7 @@ KeepsReads settings state_of old got new =
     ⊎ (((asked : HttpRequestEntry) × Asks settings got asked × ChangesNothing asked)
     × WhenOpenAt state_of old.office new.office (λ s. AreReadAt s old.kept.reads → AreReadAt s new.kept.reads × IsReadAt s new.office.closed (state_of new.office.held)))
 
--- A client was served, by the office or from the cache. If the office was open and the cache was right, the response is the one to what the client asks, with the state
+-- A client was served, by the office or from the cache. If the office was open and the cache was right, the response is the one to the client's request, with the state
 -- that it left. If the office was closed, the response says so.
 pub record ServesClient {S : Type 0} (settings : HttpSettingsEntry) (state_of : Held S → State) (old : ServedOffice S) (exchange : Exchange) (new : ServedOffice S) : Type 0 where
   pub serves : WhenOpenAt state_of old.office new.office
@@ -103,13 +103,13 @@ pub record IsRateLimited {S : Type 0} (settings : HttpSettingsEntry) (old : Serv
   pub told : IsWaitResponse exchange
   pub stays : new ≡ old
 
--- A client that asks no order is served. An order that a client asks is carried out, and the cache is emptied.
+-- A client that sends no order is served. An order that a client sends is carried out, and the cache is emptied.
 abbrev pub ServesAsked : {S : Type 0} → ServerSettingsEntry → (Held S → State) → ServedOffice S → Exchange → ServedOffice S → Type 0
 ServesAsked settings state_of old exchange new =
     (AsksNoOrder settings.clients exchange.got × ServesClient settings.clients state_of old exchange new)
     ⊎ (FollowsConsole settings state_of old.office exchange.got exchange.answer new.office × (new.kept.reads ≡ []))
 
--- otherwise the client is served what it asks; and if its code was wrong, the code is counted
+-- otherwise the client is served what it asks for; and if its code was wrong, the code is counted
 pub record IsAdmitted {S : Type 0} (settings : ServerSettingsEntry) (state_of : Held S → State) (old : ServedOffice S) (exchange : Exchange) (new : ServedOffice S) : Type 0 where
   pub authentication : Option AuthenticationEntry
   pub is : IsAuthentication settings.clients exchange.got authentication
@@ -134,7 +134,7 @@ ServesExchange settings state_of old exchange new = ServesAt exchange.listener s
 
 -- ---- one request after another
 
--- the last request is the clerk's keying that these bytes ask, or there is none
+-- the last request is the clerk's keying that these bytes contain, or there is none
 abbrev pub IsLastFor : HttpSettingsEntry → List ℕ → List Request → Type 0
 IsLastFor settings bytes last =
     (last ≡ [])
@@ -153,7 +153,7 @@ abbrev pub AreRefusedClosed : ServerSettingsEntry → List Exchange → Type 0
 AreRefusedClosed settings [] = ⊤
 AreRefusedClosed settings (exchange ∷ exchanges) = GetsClosedResponse exchange.listener settings exchange × AreRefusedClosed settings exchanges
 
--- A client that asks no order is served at a state, and these commands were answered for it: none, or one keying, in which case the response is the office's reply to
+-- A client that sends no order is served at a state, and these commands were answered for it: none, or one keying, in which case the response is the office's reply to
 -- it. For a client that is turned away there are none.
 abbrev pub IsClientAnsweredAt : ServerSettingsEntry → OfficeState → Exchange → List Request → Type 0
 IsClientAnsweredAt settings s exchange sent =
@@ -167,7 +167,7 @@ IsAnsweredAt Clients state_of settings s exchange sent =
     IsClientAnsweredAt settings s exchange sent ⊎ ((last : List Request) × ConsolePrints state_of settings s exchange.got exchange.answer sent last)
 IsAnsweredAt Orders state_of settings s exchange sent = (last : List Request) × OrderPrints state_of settings s exchange.got exchange.answer sent last
 
--- a fault, which is the response, closed the office while a client that asks no order was served: no command was answered for it, and its keying may or may not be kept
+-- a fault, which is the response, closed the office while a client that sends no order was served: no command was answered for it, and its keying may or may not be kept
 pub record IsClientStopped (settings : ServerSettingsEntry) (exchange : Exchange) (answered last : List Request) : Type 0 where
   pub no_order : AsksNoOrder settings.clients exchange.got
   pub told : EndsSo exchange (IsServed TellsFault)

@@ -69,8 +69,8 @@ IsForNone (order.Serve port connections origin codes public) = ⊤
 IsForNone (order.Codes path clerks with_office) = ⊤
 IsForNone other = ⊥
 
--- What the words of an order for this file ask: a job, a copy, or the journal. Or why it isn't carried out: the words aren't an order; or the file is gone (and wasn't
--- known to be whole).
+-- What the words of an order for this file ask for: a job, a copy, or the journal. Or why it isn't carried out: the words aren't an order; or the file is gone (and
+-- wasn't known to be whole).
 abbrev pub AsksSo : Option Bool → List Text → ServedOrder → Type 0
 AsksSo whole words (asked.Do job) = MeansOrder words (order.Perform (task.InOffice job))
 AsksSo whole words (asked.Copy path) = MeansOrder words (order.Copy path)
@@ -86,7 +86,7 @@ IsUnread file got what =
     (what ≡ asked.Refused (Office Memory))
     ⊎ ((what ≡ asked.Refused (Office Store)) × ((h : OrderMessageEntry) → IsMessage got h → IsForFile file h → list_all is_utf8 (words_in h) ≡ true → ⊥))
 
--- these bytes ask this, given the files sent with it
+-- these bytes ask for this, given the files sent with it
 abbrev pub AsksOrder : ServerSettingsEntry → List ℕ → List MessagePartEntry → ServedOrder → Type 0
 AsksOrder settings got files what =
     ((h : OrderMessageEntry) × IsMessage got h × IsForFile settings.file h × (files ≡ h.files) × AsksSo settings.whole (words_in h) what) ⊎ (IsUnread settings.file got what × (files ≡ []))
@@ -129,7 +129,7 @@ IsCopyTold s page =
     (page ≡ replied (copied_text (holdings_of s)))
     ⊎ ((page ≡ below (replied (copied_text (holdings_of s))) (failed CopyFailed)) ⊎ ((failure : Failure) × (page ≡ failed failure)))
 
--- The outcome of what is asked at a state, and what it leaves of the office, whose connection was at `old`. A job is carried out in the office. For a copy or the
+-- The outcome of what is requested at a state, and what it leaves of the office, whose connection was at `old`. A job is carried out in the office. For a copy or the
 -- journal, the office is only read. An order that isn't carried out leaves it unchanged.
 abbrev pub IsOrderOutcome : State → Bool → State → Folder → OfficeState → ServedOrder → Cut → Page → Type 0
 IsOrderOutcome old closed st folder s (asked.Do job) cut page = ComesTo cut page (IsDone old closed st folder s job)
@@ -150,7 +150,7 @@ closed_office_page asked.Journal = closed_page
 closed_office_page (asked.Refused failure) = failed failure
 closed_office_page (asked.Misread fault) = words_page fault
 
--- What is asked, with these files, was carried out, and this part of its page was sent in this way. If the office was open, the page is the outcome, as far as the
+-- What is requested, with these files, was carried out, and this part of its page was sent in this way. If the office was open, the page is the outcome, as far as the
 -- outputs accepted it, together with the state that it left. If the office was closed, the page says so.
 pub record Follows {S : Type 0} (state_of : Held S → State) (old : OfficeValue S) (files : List MessagePartEntry) (asked : ServedOrder) (IsSent : Cut → Page → Type 0) (new : OfficeValue S)
     : Type 0 where
@@ -161,11 +161,11 @@ pub record Follows {S : Type 0} (state_of : Held S → State) (old : OfficeValue
   pub turned_away : old.closed ≡ true → (page ≡ closed_office_page asked) × (new ≡ old)
   pub clean : HasCleanDisk (state_of new.held) → HasCleanDisk (state_of old.held)
 
--- what is asked was carried out, and these frames are the response
+-- what is requested was carried out, and these frames are the response
 abbrev pub IsResponseToOrder : {S : Type 0} → (Held S → State) → OfficeValue S → List MessagePartEntry → ServedOrder → List ℕ → OfficeValue S → Type 0
 IsResponseToOrder state_of old files asked frames new = Follows state_of old files asked (λ cut page. IsFramed cut page frames) new
 
--- the order that these bytes ask was processed, and these frames are the response
+-- the order that these bytes contain was processed, and these frames are the response
 pub record FollowsOrder {S : Type 0} (settings : ServerSettingsEntry) (state_of : Held S → State) (old : OfficeValue S) (got frames : List ℕ) (new : OfficeValue S) : Type 0 where
   pub files : List MessagePartEntry
   pub asked : ServedOrder
@@ -178,7 +178,7 @@ pub record FollowsOrder {S : Type 0} (settings : ServerSettingsEntry) (state_of 
 abbrev pub AreAnswered : List Request → ℕ → List Request → List Request → Type 0
 AreAnswered requests answered sent last = (sent ≡ take answered requests) × (last ≡ take 1 (drop answered requests))
 
--- The page of what is asked at a state, where these requests were answered, and this one more was sent, if any. A job prints it in an office that was open at that
+-- The page of what is requested at a state, where these requests were answered, and this one more was sent, if any. A job prints it in an office that was open at that
 -- state, over some connection, whose failure may be the cause of a reported fault.
 abbrev pub PrintsAt : {S : Type 0} → (Held S → State) → Folder → OfficeState → ServedOrder → Cut → Page → List Request → List Request → Type 0
 PrintsAt {S} state_of folder s (asked.Do job) cut page sent last =
@@ -189,7 +189,7 @@ PrintsAt state_of folder s asked.Journal cut page sent last = IsJournalTold s pa
 PrintsAt state_of folder s (asked.Refused failure) cut page sent last = (page ≡ failed failure) × (sent ≡ []) × (last ≡ [])
 PrintsAt state_of folder s (asked.Misread fault) cut page sent last = (page ≡ words_page fault) × (sent ≡ []) × (last ≡ [])
 
--- the order that these bytes ask printed its page at a state, in these frames
+-- the order that these bytes contain printed its page at a state, in these frames
 pub record OrderPrints {S : Type 0} (state_of : Held S → State) (settings : ServerSettingsEntry) (s : OfficeState) (got frames : List ℕ) (sent last : List Request) : Type 0 where
   pub files : List MessagePartEntry
   pub asked : ServedOrder
@@ -199,7 +199,7 @@ pub record OrderPrints {S : Type 0} (state_of : Held S → State) (settings : Se
   pub told : IsFramed cut page frames
   pub tells : PrintsAt state_of (folder_of files) s asked cut page sent last
 
--- the order that these bytes ask found the office closed, and these frames say so
+-- the order that these bytes contain found the office closed, and these frames say so
 pub record IsRefusedClosed (settings : ServerSettingsEntry) (got frames : List ℕ) : Type 0 where
   pub files : List MessagePartEntry
   pub asked : ServedOrder

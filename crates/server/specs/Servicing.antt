@@ -23,7 +23,7 @@ use Rattle.server.specs.Reads.{ServedOffice}
 use Rattle.server.specs.Settings.{ServerSettingsEntry}
 use Rattle.server.specs.Exchanges.{ServesExchange, Exchange}
 
--- a client's request is complete: what the bytes ask doesn't depend on what follows them, or the connection sends no more
+-- a client's request is complete: what the bytes ask for doesn't depend on what follows them, or the connection sends no more
 abbrev pub IsComplete : HttpSettingsEntry → Option (List ℕ) → List ℕ → Type 0
 IsComplete settings held got = IsWhole settings got ⊎ IsAtEnd held
 

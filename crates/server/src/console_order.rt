@@ -79,7 +79,7 @@ fn printed_response(alloc: Global, status: u8, out: &[u8], err: &[u8]) -> Respon
     }
 }
 
-/// Carries out what an order asks, and returns the response with its output.
+/// Carries out an order, and returns the response with its output.
 fn follow_asked<A: ServedFile, S: Alter>(
     order: &OrderContext<'_, A>,
     office: &mut Office<S>,

@@ -13,14 +13,14 @@
 //!
 //! Whenever more of a client's request has arrived, [`wire::parse`] parses its head, using routes that are built once. From the
 //! result the server knows whether the request is complete, whose code it carries, whether it must wait, what it reads, and
-//! what to ask the office. Responses to reads are cached under what is asked, not under the bytes of the request, and a cached
-//! response is sent again until a keying or an order empties the cache. If the office has a gate, a request under a clerk's
-//! number requires that clerk's code, and a request for the console requires the office's. Once 6,000 wrong codes have been
-//! sent within a minute, a wrong code is answered with 429.
+//! what to ask the office. Responses to reads are cached under what is requested, not under the bytes of the request, and a
+//! cached response is sent again until a keying or an order empties the cache. If the office has a gate, a request under a
+//! clerk's number requires that clerk's code, and a request for the console requires the office's. Once 6,000 wrong codes have
+//! been sent within a minute, a wrong code is answered with 429.
 //!
-//! `specs/Exchanges.antt` defines what is recorded of the requests, and `specs/ServedOrders.antt` what an order asks and what
-//! it prints; `specs/ConsoleOrders.antt` does the same for an order from the console. `specs/Reads.antt` defines the cache and
-//! the rate limit, and `specs/Servicing.antt` what servicing a connection does. `specs/ServedConnections.antt` defines what
+//! `specs/Exchanges.antt` defines what is recorded of the requests, and `specs/ServedOrders.antt` what an order asks for and
+//! what it prints; `specs/ConsoleOrders.antt` does the same for an order from the console. `specs/Reads.antt` defines the cache
+//! and the rate limit, and `specs/Servicing.antt` what servicing a connection does. `specs/ServedConnections.antt` defines what
 //! happened to each connection, and `specs/Servers.antt` what is promised about all of them. `specs/Blind.antt` states that
 //! what a clerk is sent depends only on what that clerk sees.
 //!
@@ -29,7 +29,7 @@
 //! ```
 #![tactic(auto)]
 
-// orders: what they ask, and their responses
+// orders: what they ask for, and their responses
 mod console_order;
 mod frame_sink;
 mod order_arrival;

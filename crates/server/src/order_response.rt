@@ -50,7 +50,7 @@ impl<'b> Folder for AttachedFiles<'b> {
     }
 }
 
-/// An order being processed: what it asks, the files sent with it, and what it needs besides the office.
+/// An order being processed: what it asks for, the files sent with it, and what it needs besides the office.
 pub struct OrderContext<'t, A> {
     pub alloc: Global,
     pub served_file: &'t A,
@@ -137,7 +137,7 @@ fn copy_for_order<A: ServedFile, S: Alter, O: Sink, E: Sink>(
     }
 }
 
-/// Carries out what an order asks in an open office, and returns the status.
+/// Carries out an order in an open office, and returns the status.
 fn do_open<A: ServedFile, S: Alter, O: Sink, E: Sink>(
     order: &OrderContext<'_, A>,
     office: &mut Office<S>,
@@ -161,8 +161,8 @@ fn do_open<A: ServedFile, S: Alter, O: Sink, E: Sink>(
     }
 }
 
-/// Carries out what an order asks in the office, open or closed, and returns the status. A closed office reports that it is
-/// closed in place of anything it would do otherwise.
+/// Carries out an order in the office, open or closed, and returns the status. A closed office reports that it is closed in
+/// place of anything it would do otherwise.
 pub fn do_asked<A: ServedFile, S: Alter, O: Sink, E: Sink>(
     order: &OrderContext<'_, A>,
     office: &mut Office<S>,
@@ -185,9 +185,9 @@ pub fn do_asked<A: ServedFile, S: Alter, O: Sink, E: Sink>(
     do_open(order, office, out, err)
 }
 
-/// Carries out what an order asks, sends its output in frames on its stream, and returns the stream. What the stream doesn't
-/// accept now stays in the response, to be sent concurrently with others. If the allocation for the last frame fails, the
-/// response ends without it.
+/// Carries out an order, sends its output in frames on its stream, and returns the stream. What the stream doesn't accept now
+/// stays in the response, to be sent concurrently with others. If the allocation for the last frame fails, the response ends
+/// without it.
 fn respond_to_asked<L: Stream, A: ServedFile, S: Alter>(
     order: &OrderContext<'_, A>,
     stream: L,
@@ -203,7 +203,7 @@ fn respond_to_asked<L: Stream, A: ServedFile, S: Alter>(
     out.end(status, err.into_bytes().as_slice())
 }
 
-/// Returns what an order asks; or, if it asks for a job and the office's file is gone or replaced, that it isn't carried out.
+/// Returns what an order asks for; or, if it asks for a job and the office's file is gone or replaced, that it isn't carried out.
 pub fn unless_gone<'w, A: ServedFile>(asked: ServedOrder<'w>, served_file: &A) -> ServedOrder<'w>
     ensures { (words : List Text) → AsksSo (A.whole served_file.now) words asked.entry → AsksSo (A.whole served_file.now) words result }
 {
@@ -243,7 +243,7 @@ fn tell_refused<L: Stream, A: ServedFile, S: Alter>(
     respond_to_asked(&order, stream, office)
 }
 
-/// Responds to an order whose message was decoded: carries out what it asks, or prints why it isn't carried out.
+/// Responds to an order whose message was decoded: carries out the order, or prints why it isn't carried out.
 fn respond_to_message<L: Stream, A: ServedFile, S: Alter>(
     alloc: Global,
     server_settings: ServerSettings<'_, A>,

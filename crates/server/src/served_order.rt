@@ -68,8 +68,8 @@ pub fn is_for_file(handed: &OrderMessage<'_>, file: FileNumbers) -> bool
         && handed.inode == file.inode
 }
 
-/// Returns what an order for the served file asks. The orders `init`, `migrate` and `serve` are refused, because the office is
-/// being served.
+/// Returns what an order for the served file asks for. The orders `init`, `migrate` and `serve` are refused, because the office
+/// is being served.
 pub fn served_order_by<'w>(alloc: Global, words: &'w [&'w str]) -> ServedOrder<'w>
     ensures { (whole : Option Bool) → AsksSo whole (map (λ word. word.now) words.entry.now) result }
 {

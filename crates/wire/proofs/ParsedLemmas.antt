@@ -1,4 +1,4 @@
--- What a request lacks, what it asks, and under whose number, judged from its parsed head.
+-- What a request lacks, what it asks for, and under whose number, judged from its parsed head.
 use Rattle.std.proofs.Common.{◌≡◌, ◌∙◌, ◌<◌, ◌≤◌, ◌+◌, ◌-◌, ℕ, List, Option, None, Result, Ok, Err, [], ◌++◌, Some}
 use Rattle.std.proofs.Common.{inl, inr, append_assoc, ap, arith, drop, length, map, min, option_map, refl, subst, sym, take}
 use Rattle.std.proofs.Math.Seq.{drop-append_seam}
@@ -78,7 +78,7 @@ body_stays n behind more enough =
       | inr le ↦ rw (le-leb n (length (behind ++ more)) (omega (arith, le, length-append behind more)), le-leb n (length behind) le, take-append-le n behind more le) refl
     ]
 
--- what is asked of what a target names, if no bytes are lacking for it
+-- what is requested at a target, if no bytes are lacking for it
 asked_stays : (gate : Option GateEntry) (hall : Option PublicEntry) (t : Result Target RequestError) (size : Result ℕ RequestError) (behind more : List ℕ) → (MissesBytes t size behind → ⊥)
     → asked_of gate hall t size (behind ++ more) ≡ asked_of gate hall t size behind
 asked_stays gate hall (Ok (target.Keying clerk batch)) (Ok n) behind more enough = ap (λ b. asked_in clerk batch (option_and_then keying_of b)) (body_stays n behind more enough)
@@ -111,7 +111,7 @@ whole_behind settings got head behind begun enough more asked asks =
 
 -- ---- what is lacking
 
--- fewer bytes than are needed don't determine what is asked
+-- fewer bytes than are needed don't determine what is requested
 few_incomplete : (t : Result Target RequestError) (body : Result ℕ RequestError) (behind : List ℕ) → length behind < needed t body → MissesBytes t body behind
 few_incomplete (Ok (target.Keying clerk batch)) (Ok n) behind few = few
 few_incomplete (Ok (target.Keying clerk batch)) (Err why) behind few = absurd (omega (arith, few))
@@ -256,7 +256,7 @@ never_lasts got never more later = subst HasNoHead (sym (append_assoc got more l
 pub none_came : (got : List ℕ) → ((more : List ℕ) → HasNoHead (got ++ more)) → HasNoHead got
 none_came got never = subst HasNoHead (append-nil got) (never [])
 
--- ---- what is asked
+-- ---- what is requested
 
 pub asks_none : (settings : HttpSettingsEntry) (got : List ℕ) → HasNoHead got → Asks settings got (denied BadRequest)
 asks_none settings got none = inl (none, refl)
@@ -343,7 +343,7 @@ pub reads_none : (settings : HttpSettingsEntry) (got : List ℕ) (what : Resourc
 reads_none settings got what none (inl (also, is)) = cc is
 reads_none settings got what none (inr (head, behind, begun, is)) = none head behind begun
 
--- ---- under whose number it is asked
+-- ---- under whose number it is requested
 
 pub knocks_parsed : (settings : HttpSettingsEntry) (got : List ℕ) (head : Head) → IsHeadOf settings got head → IsAuthentication settings got (option_map authentication_entry head.authentication)
 knocks_parsed settings got head is = record {

@@ -47,7 +47,7 @@ wanted-there gate hall fields method path what is =
     ∙ ap (λ (there : Option Target). let_in (authentication_failure gate None fields) method (served_at gate hall there)) (public-named path what is)
     ∙ let-in gate hall fields method what
 
--- ---- what is asked at such a target
+-- ---- what is requested at such a target
 
 module _ (gate : Option GateEntry) (hall : Option PublicEntry) (what : PublicTarget) (size : Result ℕ RequestError) (behind : List ℕ) where
   abbrev asked-there : List ℕ → Option PublicEntry → HttpRequestEntry
@@ -65,7 +65,7 @@ module _ (gate : Option GateEntry) (hall : Option PublicEntry) (what : PublicTar
 
 -- ---- under which settings it is shown
 
--- the settings of what is shown in public, if something is asked of that
+-- the settings of what is shown in public, if something of that is requested
 abbrev shown_of : HttpRequestEntry → Option PublicEntry
 shown_of (denied why) = None
 shown_of (shown clerk show) = None

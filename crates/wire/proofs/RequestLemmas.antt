@@ -1,4 +1,4 @@
--- What a request asks, judged from what was read of it.
+-- What a request asks for, judged from what was read of it.
 use Rattle.std.proofs.Common.{◌≡◌, ◌∙◌, ◌≤◌, ◌-◌, subst, List, ◌++◌, Option, Some, None, Result, Ok, Err, drop, inl, inr, length, map, refl, sym, ap, take, arith, append_assoc, ℕ}
 use Rattle.std.specs.Prelude.{IfErr, IfOk, IfSome}
 use Rattle.std.specs.Io.KnownBytes.{Consumes}
@@ -23,7 +23,7 @@ use Rattle.wire.specs.declared.target.Target.{Target}
 use Rattle.wire.specs.declared.read_failure.ReadFailure.{ReadFailure}
 use Rattle.wire.specs.declared.read_failure.ReadFailure.TheVariants.{Broken, Memory}
 
--- ---- only one thing is asked
+-- ---- only one thing is requested
 
 pub AsksOneThing-all : (settings : HttpSettingsEntry) (bytes : List ℕ) → AsksOneThing settings bytes
 AsksOneThing-all settings bytes one two (inl (none, is)) (inl (none_too, is_too)) = is ∙ sym is_too
@@ -33,7 +33,7 @@ AsksOneThing-all settings bytes one two (inr (head, behind, begins, is)) (inr (o
     let (same_head, same_rest) = HasOneHead-all bytes head other behind others begins begins_too in
     is ∙ ap (λ h. asked_by settings h behind) same_head ∙ ap (asked_by settings other) same_rest ∙ sym is_too
 
--- ---- a page from elsewhere
+-- ---- a page from another site
 
 pub DeniesForeign-all : (settings : HttpSettingsEntry) (bytes : List ℕ) → DeniesForeign settings bytes
 DeniesForeign-all settings bytes head behind begins foreign asked asks =
@@ -64,7 +64,7 @@ begins bytes got left headers spans head is fits places e = record {
   few = omega (arith, sym (length-map (take spans.headers headers) (header_bytes got)) ∙ ap length is.fields ∙ length-map head.fields name_and_value, length-take spans.headers headers);
 }
 
--- what a head asks, given what is left after it
+-- what a head asks for, given what is left after it
 Asks-entry : (settings : HttpSettingsEntry) (old mid : Option (List ℕ)) (got : List ℕ) (headers : List HeaderSpan) (spans : RequestSpans) → IsRequestOf got headers spans → (asked : HttpRequestEntry)
     → length got ≤ 8192 → length headers ≡ 32 → Consumes old mid got → IfSome mid (λ left. asked ≡ asked_at settings got headers spans left) → IfSome old (λ bytes. Asks settings bytes asked)
 Asks-entry settings None mid got headers spans found asked fits places took is = tt
@@ -89,7 +89,7 @@ Asks-head settings None mid got headers spans found r fits places took is = tt
 Asks-head settings (Some bytes) mid got headers spans found (Err e) fits places took is = tt
 Asks-head settings (Some bytes) mid got headers spans found (Ok asked) fits places took is = Asks-entry settings (Some bytes) mid got headers spans found (http_request_entry asked) fits places took is
 
--- ---- what doesn't yet determine what is asked
+-- ---- what doesn't yet determine what is requested
 
 module _ (settings : HttpSettingsEntry) (got : List ℕ) (headers : List HeaderSpan) (spans : RequestSpans) where
   -- a head lacks bytes if the spans that were found for it do
@@ -100,7 +100,7 @@ module _ (settings : HttpSettingsEntry) (got : List ℕ) (headers : List HeaderS
       (subst (λ p. MissesBytes (wanted settings fields head.method p) (body_length fields) behind) there.path
       (subst (λ m. MissesBytes (wanted settings fields m (span_bytes got spans.path)) (body_length fields) behind) there.method completeness_of))
 
-  -- bytes that begin with what was read don't determine what is asked, if what was found in them lacks more
+  -- bytes that begin with what was read don't determine what is requested, if what was found in them lacks more
   pub IsIncomplete-found : (bytes left : List ℕ) → IsRequestOf got headers spans → length got ≤ 8192 → length headers ≡ 32 → bytes ≡ got ++ left
       → MissesFound settings got headers spans (drop spans.len got ++ left) → IsIncomplete settings bytes
   IsIncomplete-found bytes left (head, there) fits places e completeness_of =

@@ -1,4 +1,4 @@
--- The origin of a request: which headers show that it was sent by a page from elsewhere.
+-- The origin of a request: which headers show that it was sent by a page from another site.
 use Rattle.std.specs.Prelude.{◌&&◌, ◌||◌, Bool, List, None, Option, Some, bytes_eq, codes, false, if◌then◌else◌, nat_eq, not, option_map, ℕ}
 use Rattle.std.specs.List.{list_any}
 use Rattle.std.specs.Str.{str_eq_ignore_ascii_case}
@@ -10,7 +10,7 @@ use Rattle.wire.specs.Lengths.{NamedValue}
 abbrev pub origin_setting : Option Origin → Option (List ℕ)
 origin_setting origin = option_map origin_text origin
 
--- ---- headers of requests from pages elsewhere
+-- ---- headers of requests from pages on other sites
 
 -- a value is the origin in the settings
 abbrev pub is_set_origin : Option (List ℕ) → List ℕ → Bool
@@ -34,7 +34,7 @@ is_own_site value = bytes_eq value (codes "same-origin") || bytes_eq value (code
 abbrev pub is_own_host : Option (List ℕ) → List ℕ → Bool
 is_own_host given value = not (list_any (λ b. nat_eq b 46) value) || (is_with_port (codes "127.0.0.1") value || is_set_host given value)
 
--- a header shows that a page from elsewhere sent the request, or that it was addressed to a foreign host name
+-- a header shows that a page from another site sent the request, or that it was addressed to a foreign host name
 abbrev pub is_foreign_header : Option (List ℕ) → NamedValue → Bool
 is_foreign_header given field =
     if str_eq_ignore_ascii_case field.0 (codes "origin") then not (is_own_origin given field.1) else

@@ -15,7 +15,7 @@ use Rattle.wire.specs.declared.target.Target.{Target}
 use Rattle.wire.specs.declared.target.Target.TheVariants as target
 use Rattle.wire.specs.declared.target.OfficeTarget.TheVariants as office
 
--- how many bytes after a head are needed to determine what is asked: only a keying and an order need any
+-- how many bytes after a head are needed to determine what is requested: only a keying and an order need any
 abbrev pub needed : Result Target RequestError → Result ℕ RequestError → ℕ
 needed (Ok (target.Keying clerk batch)) (Ok n) = n
 needed (Ok (target.Keying clerk batch)) (Err why) = 0
@@ -39,7 +39,7 @@ read_in (Ok (target.Office place)) = None
 read_in (Ok (target.Public what)) = None
 read_in (Err why) = None
 
--- A parsed head says what these header fields, this method and this target ask, and its length is n.
+-- A parsed head says what these header fields, this method and this target ask for, and its length is n.
 pub record Says (settings : HttpSettingsEntry) (fields : List NamedValue) (method target : List ℕ) (n : ℕ) (head : Head) : Type 0 where
   pub wanted : head.wanted ≡ wanted settings fields method target
   pub authentication : option_map authentication_entry head.authentication ≡ authentication_at settings fields target

@@ -1,4 +1,4 @@
--- What a request asks, or why it is rejected before the office is asked, as determined by its head and the bytes that follow the head.
+-- What a request asks for, or why it is rejected before the office is asked, as determined by its head and the bytes that follow the head.
 use Rattle.std.specs.Prelude.{◌≡◌, ◌⊎◌, ◌+◌, ◌<◌, ◌++◌, ⊤, Bool, List, [], ◌∷◌, Option, Some, None, Result}
 use Rattle.std.specs.Prelude.{Ok, Err, bytes_eq, codes, drop, false, if◌then◌else◌, length, map, option_and_then, string_bytes, take, true, ℕ}
 use Rattle.std.specs.Io.KnownBytes.{Consumes}
@@ -41,8 +41,8 @@ abbrev pub show_entry : FixedPage → ShowEntry
 show_entry (Page its) = page (page_entry its)
 show_entry SignedOut = has_left
 
--- What is asked: nothing, because the request is rejected; to show something to a clerk, to the office or in public; to record a clerk's keying of a batch; to read; or
--- to carry out an order of the office.
+-- What a request asks the server to do: nothing, because the request is rejected; to show something to a clerk, to the office or in public; to record a clerk's keying
+-- of a batch; to read; or to carry out an order from the office.
 pub data HttpRequestEntry : Type 0 where
   denied : RequestError → HttpRequestEntry
   shown : ℕ → ShowEntry → HttpRequestEntry
@@ -52,7 +52,7 @@ pub data HttpRequestEntry : Type 0 where
   order : ConsoleOrderEntry → HttpRequestEntry
   public : PublicEntry → PublicTarget → HttpRequestEntry
 
--- what a request that was read asks
+-- what a request that was read asks for
 abbrev pub http_request_entry : HttpRequest → HttpRequestEntry
 http_request_entry (Denied why) = denied why
 http_request_entry (ClerkPage clerk show) = shown clerk (show_entry show)
@@ -103,7 +103,7 @@ abbrev pub ordered_with : Result ℕ RequestError → List ℕ → HttpRequestEn
 ordered_with (Ok n) behind = ordered_in (option_and_then order_of (body_in n behind))
 ordered_with (Err why) behind = denied why
 
--- what is asked for at a target, if the method is the right one
+-- what is requested at a target, if the method is the right one
 abbrev pub asked_for : List ℕ → Option Target → Result Target RequestError
 asked_for method None = Err NotFound
 asked_for method (Some there) = if bytes_eq method (verb_text (verb_of there)) then Ok there else Err (MethodNotAllowed (verb_of there))
@@ -113,11 +113,11 @@ abbrev pub let_in : Option RequestError → List ℕ → Option Target → Resul
 let_in (Some why) method there = Err why
 let_in None method there = asked_for method there
 
--- what is asked for once the gate has been passed: nothing if authentication failed, whatever the target names
+-- what is requested once the gate has been passed: nothing if authentication failed, whatever the target names
 abbrev pub wanted_after : Option GateEntry → Option PublicEntry → List NamedValue → List ℕ → List ℕ → Result Target RequestError
 wanted_after gate hall fields method target = let_in (authentication_failure gate (account_at gate target) fields) method (served_at gate hall (named_by target))
 
--- what is asked for by a request with these header fields: nothing if they are foreign
+-- what a request with these header fields asks for: nothing if they are foreign
 abbrev pub wanted_by : Bool → Option GateEntry → Option PublicEntry → List NamedValue → List ℕ → List ℕ → Result Target RequestError
 wanted_by true gate hall fields method target = Err Forbidden
 wanted_by false gate hall fields method target = wanted_after gate hall fields method target
@@ -140,7 +140,7 @@ abbrev pub public_at : Option PublicEntry → PublicTarget → HttpRequestEntry
 public_at None what = denied NotFound
 public_at (Some its) what = public its what
 
--- what is asked at a target; except for a keying and an order, neither the length of the body nor any byte after the head matters
+-- what is requested at a target; except for a keying and an order, neither the length of the body nor any byte after the head matters
 abbrev pub asked_of : Option GateEntry → Option PublicEntry → Result Target RequestError → Result ℕ RequestError → List ℕ → HttpRequestEntry
 asked_of gate hall (Ok (target.Keying clerk batch)) size behind = asked_with clerk batch size behind
 asked_of gate hall (Ok (target.Page clerk)) size behind = page_at gate clerk
@@ -152,7 +152,7 @@ asked_of gate hall (Ok (target.Office office.Orders)) size behind = ordered_with
 asked_of gate hall (Ok (target.Public what)) size behind = public_at hall what
 asked_of gate hall (Err why) size behind = denied why
 
--- what a head and the bytes that follow it ask, under these settings
+-- what a head and the bytes that follow it ask for, under these settings
 abbrev pub asked_by : HttpSettingsEntry → RequestHead → List ℕ → HttpRequestEntry
 asked_by settings head behind =
     asked_of settings.gate settings.public (wanted settings (map name_and_value head.fields) head.method head.target) (body_length (map name_and_value head.fields)) behind
@@ -163,22 +163,22 @@ asked_at settings got headers spans left =
     asked_of settings.gate settings.public (wanted settings (map (header_bytes got) (take spans.headers headers)) (span_bytes got spans.method) (span_bytes got spans.path))
     (body_length (map (header_bytes got) (take spans.headers headers))) (drop spans.len got ++ left)
 
--- what the bytes sent by a client ask
+-- what the bytes sent by a client ask for
 abbrev pub Asks : HttpSettingsEntry → List ℕ → HttpRequestEntry → Type 0
 Asks settings bytes asked =
     (HasNoHead bytes × (asked ≡ denied BadRequest)) ⊎ ((head : RequestHead) × (behind : List ℕ) × BeginsWith bytes head behind × (asked ≡ asked_by settings head behind))
 
--- the same bytes never ask two different things
+-- the same bytes never ask for two different things
 abbrev pub AsksOneThing : HttpSettingsEntry → List ℕ → Type 0
 AsksOneThing settings bytes = (one two : HttpRequestEntry) → Asks settings bytes one → Asks settings bytes two → one ≡ two
 
--- A request sent by a page from elsewhere, or addressed to a foreign host name, is rejected, whatever else it says.
+-- A request sent by a page from another site, or addressed to a foreign host name, is rejected, whatever else it says.
 abbrev pub DeniesForeign : HttpSettingsEntry → List ℕ → Type 0
 DeniesForeign settings bytes =
     (head : RequestHead) (behind : List ℕ) → BeginsWith bytes head behind → is_foreign settings.origin (map name_and_value head.fields) ≡ true
     → (asked : HttpRequestEntry) → Asks settings bytes asked → asked ≡ denied Forbidden
 
--- Any other request asks what its target names, whatever origin the settings have, unless authentication fails at the gate.
+-- Any other request asks for what its target names, whatever origin the settings have, unless authentication fails at the gate.
 abbrev pub DependsOnOwnBytes : HttpSettingsEntry → List ℕ → Type 0
 DependsOnOwnBytes settings bytes =
     (head : RequestHead) (behind : List ℕ) → BeginsWith bytes head behind → is_foreign settings.origin (map name_and_value head.fields) ≡ false
@@ -186,7 +186,7 @@ DependsOnOwnBytes settings bytes =
     → asked ≡ asked_of settings.gate settings.public (wanted_after settings.gate settings.public (map name_and_value head.fields) head.method head.target)
     (body_length (map name_and_value head.fields)) behind
 
--- the clerk under whose number something is asked: the page, a sign-out, a keying, the work, or the candidates of a batch
+-- the clerk under whose number something is requested: the page, a sign-out, a keying, the work, or the candidates of a batch
 abbrev pub clerk_asked : HttpRequestEntry → Option ℕ
 clerk_asked (denied why) = None
 clerk_asked (shown clerk show) = Some clerk
@@ -196,7 +196,7 @@ clerk_asked (console show) = None
 clerk_asked (order entry) = None
 clerk_asked (public its what) = None
 
--- the account whose code is needed for what is asked, if any
+-- the account whose code is needed for what is requested, if any
 abbrev pub account_asked : HttpRequestEntry → Option Account
 account_asked (denied why) = None
 account_asked (shown clerk show) = Some (Clerk clerk)
@@ -212,7 +212,7 @@ pub record HoldsCode (gate : GateEntry) (account : Account) (fields : List Named
   pub once : sent_codes fields ≡ value ∷ []
   pub is_its : has_code gate account value ≡ true
 
--- At a gate, only the holder of a clerk's code can ask for anything under that clerk's number, and only the holder of the office's code can ask for anything of the
+-- At a gate, only the holder of a clerk's code can ask for anything under that clerk's number, and only the holder of the office's code can ask for anything on the
 -- console. A request from anyone else is rejected.
 abbrev pub AsksByHolder : HttpSettingsEntry → List ℕ → Type 0
 AsksByHolder settings bytes =
@@ -226,7 +226,7 @@ abbrev pub MissesBody : Result ℕ RequestError → List ℕ → Type 0
 MissesBody (Ok n) behind = length behind < n
 MissesBody (Err why) behind = ⊥
 
--- what is asked for needs more than the bytes that follow the head: only a keying or an order does, until its body is complete
+-- what is requested needs more than the bytes that follow the head: only a keying or an order does, until its body is complete
 abbrev pub MissesBytes : Result Target RequestError → Result ℕ RequestError → List ℕ → Type 0
 MissesBytes (Ok (target.Keying clerk batch)) size behind = MissesBody size behind
 MissesBytes (Ok (target.Page clerk)) size behind = ⊥
@@ -252,7 +252,7 @@ MissesFound settings got headers spans behind =
 abbrev pub MissesAt : HttpSettingsEntry → List ℕ → List HeaderSpan → RequestSpans → List ℕ → Type 0
 MissesAt settings got headers spans more = MissesFound settings got headers spans (drop spans.len got ++ more)
 
--- What was read doesn't yet determine what is asked: it has no complete head yet, or it has the head of a keying or an order whose body is incomplete.
+-- What was read doesn't yet determine what is requested: it has no complete head yet, or it has the head of a keying or an order whose body is incomplete.
 abbrev pub IsIncomplete : HttpSettingsEntry → List ℕ → Type 0
 IsIncomplete settings got = IsHeadIncomplete got ⊎ ((head : RequestHead) × (behind : List ℕ) × BeginsWith got head behind × MissesBehind settings head behind)
 

@@ -131,7 +131,7 @@ pub record IsOutcome (s : OfficeState) (clerk batch : ℕ) (entry : KeyingEntry)
   pub is : IsHandedOn clerk batch entry request
   pub each : (other : Request) → IsHandedOn clerk batch entry other → outcome ≡ step_of s other
 
--- The response to what is asked at a state, and the state after it. Orders are carried out by the server, not here; here they get "not found".
+-- The response to the request at a state, and the state after it. Orders are carried out by the server, not here; here they get "not found".
 abbrev pub IsAnswer : OfficeState → HttpRequestEntry → OfficeState → ResponseEntry → Type 0
 IsAnswer s (denied why) next answer = (next ≡ s) × (answer ≡ denied_response why)
 IsAnswer s (shown clerk show) next answer = (next ≡ s) × (answer ≡ shown_response show)
@@ -144,7 +144,7 @@ IsAnswer s (keying clerk batch entry) next answer =
 
 -- ---- what each exit leaves
 
--- the office is open at the state after what was asked
+-- the office is open at the state after the request
 pub record IsAnswered (s : OfficeState) (asked : HttpRequestEntry) (answer : ResponseEntry) (closed : Bool) (st : State) : Type 0 where
   pub next : OfficeState
   pub is : IsAnswer s asked next answer
@@ -162,7 +162,7 @@ FaultLeaves s (reading what) f closed st = IsKeptOpen s f closed st ⊎ IsClosed
 FaultLeaves s (keying clerk batch entry) f closed st =
     (outcome : Outcome) × IsOutcome s clerk batch entry outcome × (IsKeptOpen s f closed st ⊎ IsClosedIn s outcome f closed st)
 
--- the response to what is asked, with the state that it leaves; or the fault of the office
+-- the response to the request, with the state that it leaves; or the fault of the office
 abbrev pub Leaves : OfficeState → HttpRequestEntry → ResponseEntry → Bool → State → Type 0
 Leaves s asked answer closed st =
     IsAnswered s asked answer closed st ⊎ ((f : Fault) × (answer ≡ fault_response (fault_number f)) × FaultLeaves s asked f closed st)
@@ -179,7 +179,7 @@ IsReadTold entry view (Err (Failed f)) response = IsTold (fault_response (fault_
 
 -- ---- the response, and what is sent to the office for it
 
--- The requests that are sent to the office for what is asked at a state, and the response. A clerk's keying is sent on, and the response is the office's answer to it.
+-- The requests that are sent to the office for what is requested at a state, and the response. A clerk's keying is sent on, and the response is the office's answer to it.
 abbrev pub TellsAsked : OfficeState → HttpRequestEntry → Response → List Request → Type 0
 TellsAsked s (denied why) response sent = IsTold (denied_response why) response × (sent ≡ [])
 TellsAsked s (shown clerk show) response sent = IsTold (shown_response show) response × (sent ≡ [])
@@ -194,7 +194,7 @@ TellsAsked s (keying clerk batch entry) response sent =
 abbrev pub TellsFault : Response → Type 0
 TellsFault response = IsTold (fault_response (fault_number Store)) response
 
--- The response answers what is asked. Or an allocation failed, and either the office was sent nothing, or what it was sent counts as never sent.
+-- The response is the one to the request. Or an allocation failed, and either the office was sent nothing, or what it was sent counts as never sent.
 abbrev pub TellsFor : HttpSettingsEntry → Option (List ℕ) → OfficeState → List Request → Response → Type 0
 TellsFor settings bytes s sent response = ((asked : HttpRequestEntry) × IfSome bytes (λ xs. Asks settings xs asked)
     × TellsAsked s asked response sent) ⊎ (IsWritten (fault_response 101) response × (sent ≡ []))
@@ -218,7 +218,7 @@ closed_response (public its what) = closed_public its what
 closed_response (reading what) = fault_response (fault_number Closed)
 closed_response (keying clerk batch entry) = fault_response (fault_number Closed)
 
--- The response to a rejected request, such as one from a page elsewhere, is the same at every state, and for a closed office too. It changes nothing.
+-- The response to a rejected request, such as one from a page on another site, is the same at every state, and for a closed office too. It changes nothing.
 abbrev pub IsDeniedAlike : RequestError → Type 0
 IsDeniedAlike why =
     (s t next : OfficeState) (answer : ResponseEntry) → IsAnswer s (denied why) next answer → (next ≡ s) × IsAnswer t (denied why) t answer × (answer ≡ closed_response (denied why))
@@ -234,7 +234,7 @@ abbrev pub IsConsoleAlike : ShowEntry → Type 0
 IsConsoleAlike show =
     (s t next : OfficeState) (answer : ResponseEntry) → IsAnswer s (console show) next answer → (next ≡ s) × IsAnswer t (console show) t answer × (answer ≡ closed_response (console show))
 
--- this response is ready to be written, and if the client's bytes are known, it answers what they ask
+-- this response is ready to be written, and if the client's bytes are known, it answers what they ask for
 pub record TellsClosed (settings : HttpSettingsEntry) (bytes : Option (List ℕ)) (response : Response) : Type 0 where
   pub asked : HttpRequestEntry
   pub asks : IfSome bytes (λ xs. Asks settings xs asked)
@@ -246,7 +246,7 @@ ReadiesClosed settings bytes response = TellsClosed settings bytes response ⊎ 
 
 -- ---- one connection
 
--- the response to what a client asks is ready, with the state that it leaves; if the client's bytes are known, they ask exactly that
+-- the response to a client's request is ready, with the state that it leaves; if the client's bytes are known, they ask for exactly that
 pub record ReadiesAsked (settings : HttpSettingsEntry) (bytes : Option (List ℕ)) (s : OfficeState) (response : Response) (closed : Bool) (st : State) : Type 0 where
   pub asked : HttpRequestEntry
   pub asks : IfSome bytes (λ xs. Asks settings xs asked)

@@ -1,4 +1,4 @@
-//! The origin of a request. A page from elsewhere can't ask for anything.
+//! The origin of a request. A page from another site can't ask for anything.
 
 ghost use Rattle.std.specs.Prelude.{◌≡◌, false, length, map};
 ghost use Rattle.std.specs.List.{All};
@@ -52,7 +52,7 @@ fn is_own_host(given: Option<Origin<'_>>, value: &[u8]) -> bool
     !value.contains(&b'.') || is_with_port(b"127.0.0.1", value) || is_set_host(given, value)
 }
 
-/// Returns whether a header shows that a page from elsewhere sent the request, or that it was addressed to a foreign host name.
+/// Returns whether a header shows that a page from another site sent the request, or that it was addressed to a foreign host name.
 fn is_foreign_header(given: Option<Origin<'_>>, name: &[u8], value: &[u8]) -> bool
     ensures { result ≡ is_foreign_header (origin_setting given.entry) (name.now, value.now) }
 {

@@ -28,9 +28,9 @@ use std::alloc::{AllocError, Global};
 /// A parsed head.
 #[derive(Clone, Copy)]
 pub struct Head {
-    /// What is asked for, or why the request is rejected.
+    /// What is requested, or why the request is rejected.
     pub(crate) wanted: Result<Target, RequestError>,
-    /// The authentication; `None` if the request needs no code or comes from elsewhere.
+    /// The authentication; `None` if the request needs no code or comes from another site.
     pub(crate) authentication: Option<Authentication>,
     /// The length of the body in bytes, or why it isn't accepted.
     pub(crate) body: Result<usize, RequestError>,
@@ -78,7 +78,7 @@ fn keying_in<'a>(
     }
 }
 
-/// Parses an order of the office, given the length of its body and the bytes that follow the head.
+/// Parses an order from the office, given the length of its body and the bytes that follow the head.
 fn order_in<'a>(
     alloc: Global,
     body: Result<usize, RequestError>,
@@ -138,7 +138,7 @@ impl Head {
         }
     }
 
-    /// Returns what this head and the bytes that follow it ask. The only error is a failed allocation.
+    /// Returns what this head and the bytes that follow it ask for. The only error is a failed allocation.
     pub(crate) fn asked_with<'a>(
         &self,
         alloc: Global,
@@ -174,8 +174,8 @@ impl Head {
         }
     }
 
-    /// Returns how many bytes after the head are needed to know what is asked: the length of the body for a keying or an order,
-    /// otherwise 0.
+    /// Returns how many bytes after the head are needed to know what is requested: the length of the body for a keying or an
+    /// order, otherwise 0.
     fn needed(&self) -> usize
         ensures { result ≡ needed self.now.wanted self.now.body }
     {
@@ -211,7 +211,7 @@ pub fn parse(settings: HttpSettings<'_>, routes: &Routes, got: &[u8]) -> Parsed
 impl Parsed {
     /// Returns whether the request is complete, given that `come` bytes of it were received.
     ///
-    /// What a complete request asks doesn't depend on the bytes that follow it.
+    /// What a complete request asks for doesn't depend on the bytes that follow it.
     pub fn completeness_of(&self, come: usize) -> Completeness
         ensures { (its : HttpSettingsEntry) (got : List ℕ) → length got ≡ come → IsParsed its got self.now → IsCompletenessOf its got result }
     {
@@ -230,7 +230,7 @@ impl Parsed {
     }
 
     /// Returns the authentication of the request: the account whose code it needs, and whether the code it carries is wrong.
-    /// `None` if it needs no code, comes from elsewhere, or has no complete head.
+    /// `None` if it needs no code, comes from another site, or has no complete head.
     pub fn authentication(&self) -> Option<Authentication>
         ensures { (its : HttpSettingsEntry) (got : List ℕ) → IsParsed its got self.now → IsAuthentication its got (option_map authentication_entry result) }
     {
@@ -253,7 +253,7 @@ impl Parsed {
         }
     }
 
-    /// Returns what the request asks, given the bytes that were parsed. The only error is a failed allocation.
+    /// Returns what the request asks for, given the bytes that were parsed. The only error is a failed allocation.
     pub fn asked<'a>(
         &self,
         alloc: Global,

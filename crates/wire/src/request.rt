@@ -1,4 +1,4 @@
-//! What a request asks.
+//! What a request asks for.
 
 ghost use Rattle.std.specs.Prelude.{◌≡◌, ◌≢◌, ◌-◌, ◌^◌, ◌<◌, ◌++◌, IfErr, IfOk, IfSome, List, Ok, OnOk, option_map, ℕ};
 ghost use Rattle.wire.specs.Requests.{Asks, AsksByHolder, AsksOneThing, ShowEntry, DeniesForeign, FailsAfter, IsUnread, IsIncomplete};
@@ -34,7 +34,7 @@ pub struct Keying {
     pub papers: Vec<String>,
 }
 
-/// What a request asks.
+/// What a request asks the server to do.
 #[derive(Drop)]
 pub enum HttpRequest<'a> {
     /// Nothing. The request is rejected, and the office isn't asked.
@@ -47,7 +47,7 @@ pub enum HttpRequest<'a> {
     Resource(Resource),
     /// To show the office its console, or that it is signed out.
     ConsolePage(FixedPage<'a>),
-    /// To carry out an order of the office.
+    /// To carry out an order from the office.
     Order(ConsoleOrder),
     /// To show something in public.
     Public(Public<'a>, PublicTarget),
@@ -164,7 +164,7 @@ pub(crate) fn served_at(
     Some(there)
 }
 
-/// Returns what is asked for, if the method is the one that the target allows; otherwise why the request is rejected.
+/// Returns what is requested, if the method is the one that the target allows; otherwise why the request is rejected.
 pub(crate) fn asked_for(method: &[u8], there: Option<Target>) -> Result<Target, RequestError>
     ensures { result ≡ asked_for method.now there }
 {
@@ -209,7 +209,7 @@ pub(crate) fn public_at<'a>(public: Option<Public<'a>>, what: PublicTarget) -> H
     }
 }
 
-/// Reads the rest of a request, given its parsed head and the bytes after it, and returns what the request asks.
+/// Reads the rest of a request, given its parsed head and the bytes after it, and returns what the request asks for.
 fn read_body_after<'a, R: Source>(
     alloc: Global,
     settings: HttpSettings<'a>,
@@ -238,7 +238,7 @@ fn read_body_after<'a, R: Source>(
     }
 }
 
-/// Reads a request and returns what it asks.
+/// Reads a request and returns what it asks for.
 fn read_from_head<'a, R: Source>(
     alloc: Global,
     settings: HttpSettings<'a>,
@@ -261,23 +261,23 @@ fn read_from_head<'a, R: Source>(
     read_body_after(alloc, settings, reader, &head, &read[front.spans.len..])
 }
 
-/// Reads a request and returns what it asks under the given settings: the origin of pages that come through a proxy, the gate,
-/// and what is shown in public, if any.
+/// Reads a request and returns what it asks for under the given settings: the origin of pages that come through a proxy, the
+/// gate, and what is shown in public, if any.
 ///
-/// A request with a header which shows that a page from elsewhere sent it, or that it was addressed to a foreign host name, is
-/// `Forbidden`, whatever it asks. At a gate, a request whose target begins with a clerk's number, such as `/clerks/4/`, is
-/// accepted only with that clerk's code. A request whose target begins with `/office/` is accepted only with the office's code,
-/// if the office has one. Otherwise it is `Unauthorized` or `WrongCode`, whatever it asks. So only the holder of a clerk's code
-/// can ask for anything under that clerk's number, and only the holder of the office's code can ask for anything of the
-/// console. No other request is checked in this way. The response to a rejected request is the same at every state of the
-/// office, and so are those to a `ClerkPage` and a `ConsolePage`. What is shown in public needs no code, and is served only if
-/// the settings have it.
+/// A request with a header which shows that a page from another site sent it, or that it was addressed to a foreign host name,
+/// is `Forbidden`, whatever it asks for. At a gate, a request whose target begins with a clerk's number, such as `/clerks/4/`,
+/// is accepted only with that clerk's code. A request whose target begins with `/office/` is accepted only with the office's
+/// code, if the office has one. Otherwise it is `Unauthorized` or `WrongCode`, whatever it asks for. So only the holder of a
+/// clerk's code can ask for anything under that clerk's number, and only the holder of the office's code can ask for anything
+/// on the console. No other request is checked in this way. The response to a rejected request is the same at every state of
+/// the office, and so are those to a `ClerkPage` and a `ConsolePage`. What is shown in public needs no code, and is served only
+/// if the settings have it.
 ///
-/// `Broken` is returned only if the source fails, while what was read doesn't yet determine what is asked; the source's failure
-/// count is then one higher. Once it is known what is asked, nothing more is read, because the client may be waiting for its
+/// `Broken` is returned only if the source fails, while what was read doesn't yet determine what is requested; the source's
+/// failure count is then one higher. Once the request is known, nothing more is read, because the client may be waiting for its
 /// response. Some of the bytes that follow the request may have been read.
 ///
-/// What is asked for depends only on the target, which names exactly the thing whose path it is. That path is one of the eight
+/// What is requested depends only on the target, which names exactly the thing whose path it is. That path is one of the eight
 /// routes of this crate, with numbers of 1 to 5 digits without leading zeros; or `/office/`, `/office/leave`, `/office/orders`
 /// or the path of a read of the console; or `/`, `/screen`, `/screen/wards` or the path of a ward's page. Any other target
 /// names nothing.

@@ -14,7 +14,7 @@ pub enum Verb {
 pub enum RequestError {
     /// Its head can't be parsed, the length of its body isn't known, or the body isn't a keying or an order.
     BadRequest,
-    /// A page from elsewhere sent it, or it was addressed to a foreign host name.
+    /// A page from another site sent it, or it was addressed to a foreign host name.
     Forbidden,
     /// Its target names nothing that is served.
     NotFound,

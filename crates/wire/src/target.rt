@@ -52,7 +52,7 @@ pub(crate) enum Target {
     Leave { clerk: u32 },
     /// A resource that can be read.
     Resource(Resource),
-    /// Something of the officer's console.
+    /// A part of the officer's console.
     Office(OfficeTarget),
     /// Something that is shown in public.
     Public(PublicTarget),
