@@ -92,7 +92,7 @@ module _ {L : Type 0} (stream : Stream L) where
     unheard = Keeps-trans (stream.held old) (stream.held mid) (stream.held new) first.unheard next.unheard;
   }
 
-  -- some of the remaining bytes, this many, were sent next
+  -- this many of the remaining bytes were sent next
   pub delivers_next : (first mid new : L) (answer : List ℕ) (before sent n : ℕ) (bytes : List ℕ) → Delivers stream first mid answer before sent → bytes ≡ drop sent answer → n ≤ length bytes
       → Grows (stream.taken mid) (stream.taken new) (take n bytes) → Keeps (stream.held mid) (stream.held new) → Delivers stream first new answer before (sent + n)
   delivers_next first mid new answer before sent n bytes so_far is within took unheard =

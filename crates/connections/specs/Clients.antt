@@ -61,7 +61,7 @@ pub record IsReceived {L : Type 0} (stream : LineEntry L) (start now : L) (got :
   pub gave : Consumes (stream.held start) (stream.held now) got
   pub untold : HasTaken (stream.taken now) []
 
--- The first bytes of the response, this many, were sent, and nothing else.
+-- A prefix of the response, of this length, was sent, and nothing else.
 pub record IsSent {L : Type 0} (stream : LineEntry L) (now : L) (answer : List ℕ) (sent : ℕ) : Type 0 where
   pub within : sent ≤ length answer
   pub took : HasTaken (stream.taken now) (take sent answer)

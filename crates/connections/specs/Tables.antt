@@ -66,7 +66,7 @@ count_at Orders = 0
 abbrev pub clients_among : {L : Type 0} → List (Accepted L) → ℕ
 clients_among all_accepted = sum_by (λ accepted. count_at accepted.listener) all_accepted
 
--- nothing has been sent yet on an accepted connection, as far as it is known
+-- nothing has been sent yet on an accepted connection, as far as is known
 abbrev pub IsUnsent : {L : Type 0} → (L → Option (List ℕ)) → AcceptOutcome L → Type 0
 IsUnsent taken (One accepted) = HasTaken (taken accepted.stream) []
 IsUnsent taken Nobody = ⊤

@@ -54,7 +54,7 @@ HadResponses gated gate (turn ∷ []) old new = (turn.number ≡ old.number) × 
 HadResponses gated gate (turn ∷ other ∷ more) old new = ⊥
 
 -- The connection is back in its place. Its time limit is unchanged if its request wasn't processed or the clock failed afterwards; otherwise it is a new one. Or the
--- connection was closed, for a reason that is true.
+-- connection was closed, for a reason that applies.
 abbrev pub EndsService : {L : Type 0} → Stream L → ServiceEnd L → List ResponseAt → List (Client L) → ℕ → Client L → Client L → List (Client L) → Type 0
 EndsService stream waits turns clients place old new later = (turns ≡ []) × (new.since ≡ old.since) × (later ≡ set clients place new)
 EndsService stream (anew now) turns clients place old new later = ((turn : ResponseAt) × (turns ≡ turn ∷ [])) × (new.since ≡ now) × (later ≡ set clients place new)
@@ -81,7 +81,7 @@ with_gate None network = network
 with_gate (Some now) network = with_moment network now
 
 -- The outcome after a connection was read from or written to. It stays open: with the same time limit if its request wasn't processed, otherwise with one that starts
--- at the time that the clock then shows. Or it is closed, for a reason that is true. Or the clock failed.
+-- at the time that the clock then shows. Or it is closed, for a reason that applies. Or the clock failed.
 abbrev pub IsServiceOutcome : {L : Type 0} → Stream L → List ResponseAt → Client L → Client L → Result (Option CloseReason) Broken → NetworkEntry L → NetworkEntry L → Type 0
 IsServiceOutcome stream turns old new (Ok None) before later =
     ((turns ≡ []) × (new.since ≡ old.since) × (later ≡ before)) ⊎ (((turn : ResponseAt) × (turns ≡ turn ∷ [])) × (later ≡ with_moment before new.since))

@@ -25,10 +25,10 @@ pub trait Stream {
     /// The bytes accepted so far, as far as they are known.
     ghost taken: { Self → Option (List ℕ) };
 
-    /// The number of calls that failed so far, as far as it is known.
+    /// The number of calls that failed so far, as far as is known.
     ghost failed: { Self → Option ℕ };
 
-    /// The number of calls that had nothing to read, or could write nothing, as far as it is known.
+    /// The number of calls that had nothing to read, or could write nothing, as far as is known.
     ghost idle: { Self → Option ℕ };
 
     /// Reads what has arrived to the start of the buffer, as far as it fits.

@@ -14,7 +14,7 @@ pub record CodesEntry : Type 0 where
 abbrev pub codes_entry : Codes → CodesEntry
 codes_entry held = record { holders = holders_of held; office = office_of held }
 
--- the codes in the file at each path, or why it has none, as far as this is known
+-- the codes in the file at each path, or why it has none, as far as is known
 abbrev pub CodeFiles : Type 0
 CodeFiles = List ℕ → Option (Result CodesEntry CodesFault)
 

@@ -19,7 +19,6 @@ made_page true count = codes_and_office_made_page count
 
 -- What the order for new codes prints: that they were made for all the clerks that it names, and whether one was made for the office; or why there are none. If the
 -- order names no clerks, that is the reason.
--- clerks, that is why.
 abbrev pub IsPageOfNewCodes : Option ClerksEntry → Bool → Page → Type 0
 IsPageOfNewCodes None with_office page = page ≡ codes_page NoClerks
 IsPageOfNewCodes (Some clerks) with_office page = (page ≡ made_page with_office (clerks.last + 1 - clerks.first)) ⊎ ((why : CodesError) × (page ≡ untaken why))

@@ -28,7 +28,7 @@ pub trait Host {
 
     type Side: ServedFile;
 
-    /// The network on each port, before it is opened and after it is closed, as far as it is known.
+    /// The network on each port, before it is opened and after it is closed, as far as is known.
     ghost known: { Self → ℕ → NetworkEntry Self.Sockets.Stream };
 
     /// The codes in the file at each path, as far as they are known.

@@ -195,7 +195,7 @@ fn dispatch_order<H: Host, S: Alter, O: Sink, E: Sink>(
 }
 
 /// Prints the journal of the office after replaying it in an empty office in memory. Only reads the office. Nothing is assumed
-/// about that memory: if the status is 0, replaying what was printed makes exactly this office.
+/// about that memory: if the status is 0, replaying what was printed produces exactly this office.
 fn journal<S: Alter, O: Sink, E: Sink>(
     rt: &HostRuntime,
     mut conn: Connection<S>,
@@ -240,7 +240,7 @@ fn close<D: Disk + Drop>(conn: Connection<FileStore<D>>) -> Option<Files<D>>
     }
 }
 
-/// Performs what the words, starting with DB, ask for, and returns the status.
+/// Does what the words, starting with DB, ask for, and returns the status.
 fn follow_words<O: Sink, E: Sink>(rt: &HostRuntime, words: &[&str], out: &mut O, err: &mut E) -> u8
     requires out { O.failed out.old < 2 ^ 64 - 1 }
     requires err { E.failed err.old < 2 ^ 64 - 1 }
@@ -288,8 +288,8 @@ fn tell_help_of<O: Sink, E: Sink>(rt: &HostRuntime, name: &str, out: &mut O, err
     }
 }
 
-/// Performs what the program's words ask for, and returns the status. Help (including the help of a single order) and the
-/// version are also printed without a database.
+/// Does what the program's words ask for, and returns the status. Help (including the help of a single order) and the version
+/// are also printed without a database.
 fn run<O: Sink, E: Sink>(rt: &HostRuntime, out: &mut O, err: &mut E) -> u8
     requires out { O.failed out.old < 2 ^ 64 - 1 }
     requires err { E.failed err.old < 2 ^ 64 - 1 }

@@ -43,7 +43,7 @@ pub fn warn_waited(rt: &HostRuntime, path: &str, holder: LockHolder) {
     let _ = writeln!(stderr, "waited ten seconds for {path}: {why}");
 }
 
-/// Prints that the log of a database belongs to a user who may not write the database.
+/// Prints that the log of a database belongs to a user who may not write to the database.
 pub fn warn_foreign_log(rt: &HostRuntime, path: &str) {
     let mut stderr = rt.stderr();
     let _ = writeln!(

@@ -21,7 +21,7 @@ use store::Fault;
 use store::fault::fault_of;
 use streams::Sink;
 
-/// The maximum number of pauses between the attempts of an order whose file is locked. They add up to ten seconds.
+/// The maximum number of pauses between attempts at an order whose file is locked. They add up to ten seconds.
 const PAUSES: u32 = 1000;
 
 /// The duration of a pause, in milliseconds.

@@ -1,4 +1,4 @@
-//! An output that a person may read on a terminal, to which control characters aren't written unchanged.
+//! An output that a person may read on a terminal, where control characters are masked.
 //!
 //! The names of wards and candidates may come from anyone. They contain no ASCII control characters, but they may contain
 //! others, such as U+009B, which can make a terminal move or rename things, and characters that change the direction of text.

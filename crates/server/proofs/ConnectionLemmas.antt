@@ -353,7 +353,7 @@ module _ {L : Type 0} (settings : ServerSettingsEntry) (stream : Stream L) where
 
   -- ---- a connection was closed
 
-  -- the reason for which a client may be closed is true of it
+  -- the reason for which a client may be closed applies to it
   pub why_holds : (exchanges : List Exchange) (connection : ServedConnection L) (client : Client L) (why : CloseReason) → IsOpenConnection stream exchanges connection client
       → MayBeClosed stream why client → IsWhy stream why client.stream (exchanges_of client.number exchanges)
   why_holds exchanges connection client Broken stood may = may

@@ -1,4 +1,4 @@
--- What a clerk is sent depends only on what that clerk may see, apart from faults and the responses to wait (429) and that the file is gone (113).
+-- What a clerk is sent depends only on what that clerk may see, apart from faults and from the responses that the client must wait (429) and that the file is gone (113).
 use Rattle.std.specs.Prelude.{◌≡◌, ◌⊎◌, ⊤, Bool, false, true, List, [], ◌∷◌, Option, Result, Some, map, ℕ}
 use Rattle.sqlite.specs.Held.{Held}
 use Rattle.sqlite.specs.State.{HasCleanDisk, State}
@@ -29,8 +29,8 @@ use Rattle.server.specs.declared.serve_error.ServeError.{ServeError}
 
 -- ---- one request, along with a clerk's view of the office
 
--- These bytes ask for something under a clerk's number: to record a keying; for the clerk's work, the candidates of a batch, or what the clerk keyed for it earlier;
--- for the clerk's page; or to sign out.
+-- These bytes ask for something under a clerk's number: recording a keying, the clerk's work, the candidates of a batch, what the clerk keyed for it earlier, the
+-- clerk's page, or signing out.
 pub record IsUnder (settings : HttpSettingsEntry) (clerk : ℕ) (bytes : List ℕ) : Type 0 where
   pub asked : HttpRequestEntry
   pub asks : Asks settings bytes asked
@@ -109,7 +109,7 @@ ServersAnswerAsSeen {L} {S} stream state_of =
 
 -- ---- two services that look alike to a clerk
 
--- the exchanges under a clerk's number, in order, out of a list of exchanges
+-- the exchanges from a list that are under a clerk's number, in order
 abbrev pub AreOwn : HttpSettingsEntry → ℕ → List Exchange → List Exchange → Type 0
 AreOwn settings clerk [] own = own ≡ []
 AreOwn settings clerk (exchange ∷ exchanges) own =

@@ -40,7 +40,7 @@ pub record Exchange : Type 0 where
 abbrev pub EndsSo : Exchange → (Option (List ℕ) → Option (List ℕ) → Served → Type 0) → Type 0
 EndsSo exchange IsEnd = EndsIn exchange.answer IsEnd
 
--- The office answered what was requested. If it was open, these bytes are the response, with the state that it left; if it was closed, they say so.
+-- The office answered a request. If it was open, these bytes are the response, with the state that it left; if it was closed, they say so.
 pub record HasAnswered {S : Type 0} (state_of : Held S → State) (old : OfficeValue S) (asked : HttpRequestEntry) (answer : List ℕ) (new : OfficeValue S) : Type 0 where
   pub serves : WhenOpenAt state_of old new (λ s. EndsIn answer (IsServed (λ response. Readies s asked response new.closed (state_of new.held))))
   pub turned_away : old.closed ≡ true → EndsIn answer (IsServed (IsTold (closed_response asked))) × (new ≡ old)
@@ -67,8 +67,8 @@ KeepsReads settings state_of old got new =
     ⊎ (((asked : HttpRequestEntry) × Asks settings got asked × ChangesNothing asked)
     × WhenOpenAt state_of old.office new.office (λ s. AreReadAt s old.kept.reads → AreReadAt s new.kept.reads × IsReadAt s new.office.closed (state_of new.office.held)))
 
--- A client was served, by the office or from the cache. If the office was open and the cache was right, the response is the one to the client's request, with the state
--- that it left. If the office was closed, the response says so.
+-- A client was served, by the office or from the cache. If the office was open and the cache was right, the response answers the client's request, with the state that
+-- it left. If the office was closed, the response says so.
 pub record ServesClient {S : Type 0} (settings : HttpSettingsEntry) (state_of : Held S → State) (old : ServedOffice S) (exchange : Exchange) (new : ServedOffice S) : Type 0 where
   pub serves : WhenOpenAt state_of old.office new.office
       (λ s. AreReadAt s old.kept.reads → EndsSo exchange (IsServed (λ response. ReadiesFor settings (Some exchange.got) s response new.office.closed (state_of new.office.held))))
@@ -95,7 +95,7 @@ pub record IsWithoutFile {S : Type 0} (settings : ServerSettingsEntry) (old : Se
   pub unknown : settings.whole ≡ Some true → ⊥
   pub reads_none : old.office.closed ≡ false → (what : Resource) → Asks settings.clients exchange.got (reading what) → ⊥
 
--- a client's code is wrong, and the rate limit is reached: the response is to wait, and nothing changes
+-- a client's code is wrong, and the rate limit is reached: the response is that the client must wait, and nothing changes
 pub record IsRateLimited {S : Type 0} (settings : HttpSettingsEntry) (old : ServedOffice S) (exchange : Exchange) (new : ServedOffice S) : Type 0 where
   pub authentication : Option AuthenticationEntry
   pub is : IsAuthentication settings exchange.got authentication

@@ -6,7 +6,7 @@ use Rattle.connections.specs.declared.client.PendingResponse.{PendingResponse}
 use Rattle.order_protocol.specs.Frames.{AreWhole, IsOver, DecoderState, at_kind, error_output_of, decode, in_bytes, in_length, nothing_decoded, output_of}
 use Rattle.server.specs.declared.frame_sink.FrameSink.{FrameSink}
 
--- The response consists of complete frames, none of them of the error output yet. The stream accepted its first bytes, this many, and nothing else.
+-- The response consists of complete frames, none of them of the error output yet. The stream accepted a prefix of it, of this length, and nothing else.
 pub record IsGoingOut {L : Type 0} (stream : Stream L) (now : L) (answer : PendingResponse) : Type 0 where
   pub whole : AreWhole answer.bytes.items
   pub quiet : error_output_of answer.bytes.items ≡ []
@@ -21,7 +21,7 @@ pub record IsEnded {L : Type 0} (stream : Stream L) (said : List ℕ) (status : 
 
 -- ---- the same, as a test
 
--- the next byte is that of the kind of a frame
+-- the next byte is the kind byte of a frame
 abbrev pub is_at_kind : DecoderState → Bool
 is_at_kind at_kind = true
 is_at_kind (in_length kind number left) = false

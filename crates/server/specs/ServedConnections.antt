@@ -54,7 +54,7 @@ IsWhy stream TimedOut last exchanges = ⊤
 IsWhy stream Evicted last exchanges = ⊤
 IsWhy stream Closing last exchanges = ⊤
 
--- a connection was handed back under its number, with its stream at the end, and with a reason that is true
+-- a connection was handed back under its number, with its stream at the end, and with a reason that applies
 pub record WasClosed {L : Type 0} (stream : Stream L) (gone : List (Removed L)) (exchanges : List Exchange) (number : ℕ) (connection : ServedConnection L) : Type 0 where
   pub why : CloseReason
   pub back : Contains gone (record { number = number; stream = connection.last; why = why })
@@ -80,7 +80,7 @@ pub record IsOpenConnection {L : Type 0} (stream : Stream L) (exchanges : List E
   pub own : IsOf stream connection.came.stream client
   pub belongs : HasExchangeFor (answer_of client) (exchanges_of client.number exchanges)
 
--- All connections that were accepted, this many, and those of them that are open, each under its own number. Each of the others was handed back, exactly once.
+-- All connections that were accepted, with their number, and those of them that are open, each under its own number. Each of the others was handed back, exactly once.
 pub record AreOpen {L : Type 0} (settings : ServerSettingsEntry) (stream : Stream L) (all_connections : List (ServedConnection L)) (exchanges : List Exchange) (gone : List (Removed L)) (came : ℕ)
     (clients : List (Client L)) : Type 0 where
   pub count : length all_connections ≡ came

@@ -174,7 +174,7 @@ pub record FollowsOrder {S : Type 0} (settings : ServerSettingsEntry) (state_of 
 
 -- ---- its output at a state
 
--- the first requests, this many, were answered, and the next one, if any, was the last one sent
+-- the first n of the requests that were sent were answered, and the next one, if any, was the last one sent
 abbrev pub AreAnswered : List Request → ℕ → List Request → List Request → Type 0
 AreAnswered requests answered sent last = (sent ≡ take answered requests) × (last ≡ take 1 (drop answered requests))
 

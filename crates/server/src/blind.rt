@@ -13,7 +13,6 @@ use sqlite::Alter;
 /// sees: the wards and their phases, the candidates, the batches, and the clerk's own keyings and receipts. Nothing that
 /// another clerk sends changes it. An order may, because orders come from the office; no request under a clerk's number is an
 /// order.
-/// clerk sends changes it. An order may, since it is the office's; no request under a clerk's number is an order.
 /// So consider two services whose offices look alike to a clerk, and that receive no orders, neither handed over nor from the
 /// console. If both receive the same bytes under the clerk's number, in the same order, both send the clerk the same responses,
 /// whatever other clerks keyed.

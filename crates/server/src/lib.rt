@@ -13,8 +13,8 @@
 //!
 //! Whenever more of a client's request has arrived, [`wire::parse`] parses its head, using routes that are built once. From the
 //! result the server knows whether the request is complete, whose code it carries, whether it must wait, what it reads, and
-//! what to ask the office. Responses to reads are cached under what is requested, not under the bytes of the request, and a
-//! cached response is sent again until a keying or an order empties the cache. If the office has a gate, a request under a
+//! what to ask the office. The cache of responses to reads is keyed by what is requested, not by the bytes of the request, and
+//! a cached response is sent again until a keying or an order empties the cache. If the office has a gate, a request under a
 //! clerk's number requires that clerk's code, and a request for the console requires the office's. Once 6,000 wrong codes have
 //! been sent within a minute, a wrong code is answered with 429.
 //!

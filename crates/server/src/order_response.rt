@@ -161,8 +161,8 @@ fn do_open<A: ServedFile, S: Alter, O: Sink, E: Sink>(
     }
 }
 
-/// Carries out an order in the office, open or closed, and returns the status. A closed office reports that it is closed in
-/// place of anything it would do otherwise.
+/// Carries out an order in the office, open or closed, and returns the status. A closed office reports that it is closed
+/// instead of doing anything.
 pub fn do_asked<A: ServedFile, S: Alter, O: Sink, E: Sink>(
     order: &OrderContext<'_, A>,
     office: &mut Office<S>,

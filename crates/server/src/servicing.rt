@@ -293,9 +293,9 @@ struct ReceivedRequest<'a> {
 }
 
 /// Returns the response to a client; none of it has been sent yet. If the client's code is wrong and the rate limit is reached,
-/// the response is to wait. If the file of the office is gone or replaced, the response says so, except to a read of an open
-/// office. In both cases nothing else is done. Otherwise the request is processed and, if its code is wrong, the code is
-/// counted.
+/// the response is that the client must wait. If the file of the office is gone or replaced, the response says so, except to a
+/// read of an open office. In both cases nothing else is done. Otherwise the request is processed and, if its code is wrong,
+/// the code is counted.
 fn answer_client<A: ServedFile, S: Alter>(
     server_settings: ServerSettings<'_, A>,
     due: ReceivedRequest<'_>,
@@ -437,8 +437,8 @@ fn service_order<L: Stream, A: ServedFile, S: Alter>(
 /// more of its request, processes the request once it is complete, and sends more of its response. Returns the connection and
 /// the outcome.
 ///
-/// The bytes received are the connection's own, from the first one on, and the response is the response to exactly these. No
-/// other connection is touched.
+/// The bytes received are the connection's own, from the first one on, and the response answers exactly these. No other
+/// connection is touched.
 pub fn service<L: Stream, A: ServedFile, S: Alter>(
     server_settings: ServerSettings<'_, A>,
     now: u64,

@@ -153,8 +153,8 @@ fn service_ready<D: Network, A: ServedFile, S: Alter>(
 }
 
 /// Accepts the next pending connection if there is room, or if room can be made. It may be an order; or a client, unless the
-/// maximum number of clients has been accepted. If none was accepted, returns the maximum duration of the next wait, in
-/// milliseconds.
+/// maximum number of clients has been accepted. If no connection was accepted, returns the maximum duration of the next wait,
+/// in milliseconds.
 fn accept_one<D: Network>(
     alloc: Global,
     network: &mut D,
@@ -233,7 +233,7 @@ fn pause<L>(table: &ConnectionTable<L>, look: u64, now: u64) -> Duration
     }
 }
 
-/// The settings of a server, and the most clients to accept.
+/// The settings of a server, and the maximum number of clients to accept.
 struct RoundSettings<'a, A> {
     server_settings: ServerSettings<'a, A>,
     most: u64,
@@ -334,8 +334,8 @@ fn serve_rounds<D: Network, A: ServedFile, S: Alter>(
 /// accepted or its request was processed. It is closed to make room only while the table is full, or if the system has no room
 /// for another. Connections still open when serving ends are closed last; after an end without a failure, none is open.
 ///
-/// What is sent under a clerk's number is determined by what that clerk sees of the office, apart from faults, and apart from
-/// the responses to wait and that the file is gone.
+/// What is sent under a clerk's number is determined by what that clerk sees of the office, apart from faults and from the
+/// responses that the client must wait and that the file is gone.
 ///
 /// The error says why serving ended early: the network or its clock failed, the table couldn't be allocated, or the number of
 /// rounds reached its maximum. What was answered before remains valid. The connections that are open at that time are closed.

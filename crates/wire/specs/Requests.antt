@@ -221,7 +221,7 @@ AsksByHolder settings bytes =
 
 -- ---- incomplete requests
 
--- fewer bytes follow the head than the body is long
+-- the bytes that follow the head are fewer than the length of the body
 abbrev pub MissesBody : Result ℕ RequestError → List ℕ → Type 0
 MissesBody (Ok n) behind = length behind < n
 MissesBody (Err why) behind = ⊥

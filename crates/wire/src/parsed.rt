@@ -191,7 +191,7 @@ impl Head {
 
 /// Parses the head of a request, given the bytes received so far. Allocates nothing.
 ///
-/// Once the bytes are as many as a head may have, further bytes don't change the result.
+/// Once there are as many bytes as a head may have, further bytes don't change the result.
 pub fn parse(settings: HttpSettings<'_>, routes: &Routes, got: &[u8]) -> Parsed
     ensures is { IsParsed (settings_entry settings.entry) got.now result }
     ensures lasts { MAX_HEAD_BYTES ≤ length got.now → (more : List ℕ) → IsParsed (settings_entry settings.entry) (got.now ++ more) result }

@@ -37,14 +37,14 @@ pub(crate) enum OfficeTarget {
     ConsolePage,
     /// Signing the office out.
     Leave,
-    /// The orders: the target to which they are sent.
+    /// The orders, to be submitted.
     Orders,
 }
 
 /// What a target names.
 #[derive(Clone, Copy)]
 pub(crate) enum Target {
-    /// A clerk's keying of a batch: the target to which it is sent.
+    /// A clerk's keying of a batch, to be submitted.
     Keying { clerk: u32, batch: u32 },
     /// The page on which a clerk keys.
     Page { clerk: u32 },

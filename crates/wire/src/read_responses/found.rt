@@ -32,7 +32,7 @@ pub(crate) struct WardPapers {
     pub doubtful: DoubtfulPapers,
 }
 
-/// Everything read about one ward.
+/// Everything that is read about one ward.
 #[derive(Drop)]
 pub(crate) struct WardRead {
     pub progress: WardProgress,
