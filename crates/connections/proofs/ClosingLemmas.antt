@@ -79,7 +79,7 @@ let_go_full {L} now false before later old new full goes = let_go_maybe (IsEvict
 
 -- ---- which connections are gone
 
--- a connection closed in this way was removed from its place, for a reason that asserts nothing about it
+-- a connection closed in this way was removed from its place, for a reason that implies nothing about it
 pub record Out {L : Type 0} (old : List (Client L)) (removed : Removed L) (new : List (Client L)) : Type 0 where
   pub why : CloseReason
   pub place : ℕ

@@ -1,4 +1,4 @@
--- From one situation of the table to another, step by step.
+-- The table of connections, from one state to another, step by step.
 use Rattle.std.proofs.Common.{◌≡◌, ◌<◌, ◌-◌, ◌∙◌, ◌∷◌, ◌++◌, Bool, false, true, ℕ, List, [], None, Option}
 use Rattle.std.proofs.Common.{Some, ap, append-nil, get_or, inl, inr, length, map, option_map, refl, remove, set, subst, sym}
 use Rattle.std.specs.Prelude.{Err, Ok}
@@ -20,7 +20,7 @@ use Rattle.connections.specs.declared.removed.CloseReason.{CloseReason}
 use Rattle.connections.specs.declared.connection_table.ConnectionTable.{ConnectionTable}
 use Rattle.connections.proofs.ClosingLemmas.{folds_then, more_then, none_more}
 
--- what happened on a network on which a connection was reported, and the clock may have shown a time at the gate, and what happened next
+-- the events on a network: a connection was reported as ready, the clock may have shown a time at the gate, and then these followed
 at_gate : {L : Type 0} (gate : Option ℕ) (before : NetworkEntry L) (number : ℕ) (rest : List (Event L))
     → option_map (λ (es : List (Event L)). es ++ rest) (with_gate gate (after_ready (Some number) before)).events ≡ option_map
     (λ (es : List (Event L)). es ++ (named number ∷ (gate_events gate ++ rest))) before.events

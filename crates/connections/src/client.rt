@@ -114,8 +114,8 @@ fn receive_once<L: Stream>(stream: &mut L, got: &mut Vec<u8>) -> Result<Received
     }
 }
 
-/// Receives the bytes that have arrived, until there are `wanted` bytes in all or no more have arrived. May receive up to
-/// `CHUNK - 1` bytes more than that, but no more, so that a client that keeps sending doesn't delay the others.
+/// Receives the bytes that have arrived, until there are `wanted` bytes in all or no more have arrived. Receives fewer than
+/// `CHUNK` bytes more than that, so that a client that keeps sending doesn't delay the others.
 fn receive_up_to<L: Stream>(
     stream: &mut L,
     got: &mut Vec<u8>,

@@ -59,7 +59,7 @@ pub only_read : (s : OfficeState) (asked : HttpRequestEntry) (response : _) (clo
 only_read s asked response closed st still (entry, tells, inl answered) = inl (answered_still s asked entry closed st still answered)
 only_read s asked response closed st still (entry, tells, inr (fault, told, more)) = failed_still s asked fault closed st still more
 
--- a response that doesn't report a fault is the one to the read
+-- a response that doesn't report a fault is the response to the read
 no_fault : (s : OfficeState) (what : Resource) (status : ℕ) (old new : Option (List ℕ)) (response : _) (closed : Bool) (st : State) → Readies s (reading what) response closed st
     → IsPut old new response (Answered status) → (status ≡ 503 → ⊥) → IsTold (reading_response s what) response
 no_fault s what status old new response closed st (entry, tells, inl answered) put other = subst (λ (e : ResponseEntry). IsTold e response) answered.is.1 tells
@@ -98,7 +98,7 @@ module _ {S : Type 0} (state_of : Held S → State) (old new : OfficeValue S) (a
   read_told s what ReadFailed other same it = absurd other
   read_told s what WriteFailed other same it = absurd other
 
-  -- the response that was sent is the one to the read
+  -- the response that was sent is the response to the read
   pub call_read : IsNoFault served → (HasCleanDisk (state_of new.held) → old.closed ≡ false → (s : OfficeState) → IsAt s (state_of old.held)
       → IsServed (λ response. Readies s asked response new.closed (state_of new.held)) (Some before) (Some after) served)
       → WhenOpenAt state_of old new (λ s. (what : Resource) → asked ≡ reading what → IsRead s what answer)

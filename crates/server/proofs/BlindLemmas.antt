@@ -48,7 +48,7 @@ under_no_order settings clerk bytes under entry asks =
 
 -- ---- how a request changes a view
 
--- the reply of an outcome doesn't depend on the state that the outcome changes
+-- the reply in an outcome doesn't depend on the state that the outcome changes
 told_anywhere : (s t : OfficeState) (ruling : Ruling) → told_of (outcome_at s ruling) ≡ told_of (outcome_at t ruling)
 told_anywhere s t (accepts change reply) = refl
 told_anywhere s t (keeps reply) = refl

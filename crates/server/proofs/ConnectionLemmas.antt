@@ -49,7 +49,7 @@ first_under number exchanges exchange none is =
 module _ {L : Type 0} (settings : ServerSettingsEntry) (stream : Stream L) where
   -- ---- one connection
 
-  -- what happened to it so far, given what was received from it and its response
+  -- what has happened to it so far, given its response and what was received from it
   pub went_so : (came : Accepted L) (now : L) (got : List ℕ) (answer : Option PendingResponse) (belongs : List Exchange) → IsServedSo stream came.stream now got answer
       → HasExchangeFor (option_map (λ (a : PendingResponse). a.bytes.items) answer) belongs
       → ((exchange : Exchange) → belongs ≡ exchange ∷ [] → IsGathered settings stream came exchange) → HadExchange settings stream (record { came = came; last = now }) belongs

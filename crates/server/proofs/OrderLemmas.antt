@@ -133,7 +133,7 @@ words_read h = names h.words.items
 pub other_file : (file : FileNumbers) (got : List ℕ) (h : OrderMessageEntry) → IsMessage got h → (IsForFile file h → ⊥) → IsUnread file got (asked.Refused (Office Store))
 other_file file got h message other = inr (refl, λ o is for_file text. other (subst (λ (x : OrderMessageEntry). IsForFile file x) (same_order got o h is message) for_file))
 
--- its words aren't valid text
+-- its words aren't valid UTF-8
 pub no_text : (file : FileNumbers) (got : List ℕ) (h : OrderMessage) → IsMessage got (order_message_entry h) → (list_all is_utf8 (map (λ (p : MessagePart). p.name.now) h.words.items) ≡ true → ⊥)
     → IsUnread file got (asked.Refused (Office Store))
 no_text file got h message bad = inr (
@@ -142,7 +142,7 @@ no_text file got h message bad = inr (
       bad (ap (list_all is_utf8) (sym (words_read h)) ∙ subst (λ (x : OrderMessageEntry). list_all is_utf8 (words_in x) ≡ true) (same_order got o (order_message_entry h) is message) text),
 )
 
--- its words weren't decoded: an allocation failed, or they aren't valid text
+-- its words weren't decoded: an allocation failed, or they aren't valid UTF-8
 pub words_unread : (file : FileNumbers) (got : List ℕ) (h : OrderMessage) (words : List MessagePart) (fault : Fault) → IsMessage got (order_message_entry h) → words ≡ h.words.items
     → (fault ≡ Memory) ⊎ ((fault ≡ Store) × (list_all is_utf8 (map (λ (p : MessagePart). p.name.now) words) ≡ true → ⊥)) → IsUnread file got (asked.Refused (Office fault))
 words_unread file got h words fault message same (inl wanting) = inl (ap (λ (f : Fault). asked.Refused (Office f)) wanting)

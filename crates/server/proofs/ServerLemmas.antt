@@ -1,4 +1,4 @@
--- From one time in a server's run to a later one.
+-- The server, from one time to a later one.
 use Rattle.std.proofs.Common.{◌≡◌, ◌≤◌, ◌<◌, ◌+◌, ◌-◌, ◌^◌, ◌∙◌, ◌⊎◌, ◌∷◌, ◌++◌, ℕ, add-zero, true, List, [], None, Option, Some, ap}
 use Rattle.std.proofs.Common.{append-nil, append_assoc, arith, get_or, inl, inr, insert, length, length-set, map, option_map, refl, remove, set, subst, suc, sym, zero}
 use Rattle.std.specs.Prelude.{Bool, Err, IfOk, IfSome, Ok, OnOk, Result, is_some, unwrap_or}
@@ -241,7 +241,7 @@ module _ {L : Type 0} (settings : ServerSettingsEntry) (stream : Stream L) where
   pub goes_failure : (before later : NetworkEntry L) (table : ConnectionTable L) → later ≡ with_failure before → GoesOn settings stream [] before later table table
   goes_failure before later table is = goes_none before later table (ap (λ (d : NetworkEntry L). d.came) is, ap (λ (d : NetworkEntry L). d.left) is)
 
-  -- a connection was closed that may be closed, for its reason
+  -- a connection was closed, for a reason for which it may be closed
   pub goes_less : (before later : NetworkEntry L) (old new : ConnectionTable L) (place : ℕ) (client : Client L) (why : CloseReason)
       → later ≡ with_removed before (removed_of client why) → place < length old.clients.items
       → ((d : Client L) → client ≡ get_or old.clients.items place d) → MayBeClosed stream why client → new.clients.items ≡ remove old.clients.items place

@@ -181,8 +181,8 @@ fn written(alloc: Global, response: &Response) -> PendingResponse
     }
 }
 
-/// Returns the response to a client that isn't kept waiting, given the bytes received from it; none of the response has been
-/// sent yet. The cache is emptied before a keying or an order, and if an allocation for the request fails.
+/// Returns the response to a client that is admitted, given the bytes received from it; none of the response has been sent yet.
+/// The cache is emptied before a keying or an order, and if an allocation for the request fails.
 fn answer_request<A: ServedFile, S: Alter>(
     server_settings: ServerSettings<'_, A>,
     parsed: Parsed,

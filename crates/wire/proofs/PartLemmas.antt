@@ -92,7 +92,7 @@ digit-part (d ∷ ds) digits =
     let later = digit-part ds parts.1 in
     ((not_slash, later.0), rw low later.1)
 
--- a part of a path that is a number
+-- a part of a path that denotes a number
 pub record IsNumeric (part : List ℕ) : Type 0 where
   pub some : 0 < length part
   pub whole : HasNoSlash part
@@ -173,7 +173,7 @@ one-part word end path bytes ends fits =
     let last = behind-all end param.rest ends param.goes_on in
     record { part = param.part; whole = param.whole; is = first_word.1 ∙ ap (λ r. word ++ r) (param.is ∙ ap (λ e. param.part ++ e) last) }
 
--- a path with two
+-- a path with two parameters
 pub record HasTwoParts (word middle end path : List ℕ) : Type 0 where
   pub one : List ℕ
   pub two : List ℕ

@@ -61,7 +61,7 @@ behind all so_far value first (there, is) = (
     same [] = refl
     same (x ∷ xs) = ap (λ t. x ∷ t) (same xs)
 
--- one of the values after those is not a string
+-- one of the values after those isn't a string
 pub texts_in-stop : (all so_far : List Value) (texts : List (List ℕ)) (value : Value) → ReadsOn (map view so_far) texts → map (λ (x : Value). x) so_far ≡ take (length so_far) all
     → (length so_far < length all) × (value ≡ get_or all (length so_far) value) → as_str (view value) ≡ None → None ≡ texts_in (items_view all)
 texts_in-stop all so_far texts value reads first there is =
