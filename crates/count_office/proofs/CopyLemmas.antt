@@ -25,7 +25,7 @@ copy_told : (s : OfficeState) (page : Page) (left : CopyState) (old new blank fu
 copy_told s page left old new blank full (inl made) = inl made.0
 copy_told s page left old new blank full (inr (failure, is, ends, leaves)) = inr (inr (failure, is))
 
--- the same, if the status is 0, followed by the failure that the log couldn't be copied into the database file
+-- the same, if the status is 0, followed by the failure saying that the log couldn't be copied into the database file
 copy_unclosed : (s : OfficeState) (page : Page) (left : CopyState) (old new blank full : State) → page.status ≡ 0 → IsCopiedOpen s page left old new blank full
     → IsCopyTold s (below page (failed CopyFailed))
 copy_unclosed s page left old new blank full zero (inl made) = inr (inl (ap (λ (p : Page). below p (failed CopyFailed)) made.0))

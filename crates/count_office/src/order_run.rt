@@ -81,7 +81,7 @@ fn open_and_perform<O: Sink, E: Sink>(
     }
 }
 
-/// Prints fault 102, followed by a line that the log of a database belongs to another user.
+/// Prints fault 102, followed by a line saying that the log of a database belongs to another user.
 fn refuse_log<E: Sink>(rt: &HostRuntime, path: &str, err: &mut E) -> u8
     requires { E.failed err.old < 2 ^ 64 - 1 }
 {

@@ -1,4 +1,4 @@
--- What a clerk is sent depends only on what that clerk may see, apart from faults and from the responses that the client must wait (429) and that the file is gone (113).
+-- What a clerk is sent depends only on what that clerk may see, apart from faults and from the responses saying that the client must wait (429) or that the file is gone (113).
 use Rattle.std.specs.Prelude.{◌≡◌, ◌⊎◌, ⊤, Bool, false, true, List, [], ◌∷◌, Option, Result, Some, map, ℕ}
 use Rattle.sqlite.specs.Held.{Held}
 use Rattle.sqlite.specs.State.{HasCleanDisk, State}
@@ -80,7 +80,7 @@ IsStoppedBySeen Clients state_of settings clerk view exchange =
 IsStoppedBySeen Orders state_of settings clerk view exchange = (next : OfficeState) × IsFollowedBySeen state_of settings clerk view exchange next
 
 -- All requests are processed in turn, and the clerk's view determines the responses to the clerk. The view is changed by the clerk's own requests and by orders, but by
--- nothing that another clerk sends. Or a fault closed the office during one of the requests, and every later one gets the response that the office is closed.
+-- nothing that another clerk sends. Or a fault closed the office during one of the requests, and every later one gets the response saying that the office is closed.
 abbrev pub AnswersAsSeen : {S : Type 0} → (Held S → State) → ServerSettingsEntry → ℕ → OfficeState → List Exchange → Type 0
 AnswersAsSeen state_of settings clerk view [] = ⊤
 AnswersAsSeen state_of settings clerk view (exchange ∷ exchanges) =

@@ -36,7 +36,7 @@ pub record Exchange : Type 0 where
 
 -- ---- one request, in an office with its file, and with the origin of a proxy or none
 
--- a response was written, from its first byte on, and the writing ended like this
+-- a response was written, from its first byte on, with this outcome
 abbrev pub EndsSo : Exchange → (Option (List ℕ) → Option (List ℕ) → Served → Type 0) → Type 0
 EndsSo exchange IsEnd = EndsIn exchange.answer IsEnd
 
@@ -76,11 +76,11 @@ pub record ServesClient {S : Type 0} (settings : HttpSettingsEntry) (state_of : 
   pub turned_away : old.office.closed ≡ true → EndsSo exchange (IsServed (ReadiesClosed settings (Some exchange.got))) × (new.office ≡ old.office)
   pub clean : HasCleanDisk (state_of new.office.held) → HasCleanDisk (state_of old.office.held)
 
--- the response is that the client must wait
+-- the response says that the client must wait
 abbrev pub IsWaitResponse : Exchange → Type 0
 IsWaitResponse exchange = EndsSo exchange (IsServed (IsWritten waits_response))
 
--- the response is that the file of the office is gone or replaced
+-- the response says that the file of the office is gone or replaced
 abbrev pub IsGoneResponse : Exchange → Type 0
 IsGoneResponse exchange = EndsSo exchange (IsServed (IsWritten (fault_response 113)))
 
@@ -95,7 +95,7 @@ pub record IsWithoutFile {S : Type 0} (settings : ServerSettingsEntry) (old : Se
   pub unknown : settings.whole ≡ Some true → ⊥
   pub reads_none : old.office.closed ≡ false → (what : Resource) → Asks settings.clients exchange.got (reading what) → ⊥
 
--- a client's code is wrong, and the rate limit is reached: the response is that the client must wait, and nothing changes
+-- a client's code is wrong, and the rate limit is reached: the response says that the client must wait, and nothing changes
 pub record IsRateLimited {S : Type 0} (settings : HttpSettingsEntry) (old : ServedOffice S) (exchange : Exchange) (new : ServedOffice S) : Type 0 where
   pub authentication : Option AuthenticationEntry
   pub is : IsAuthentication settings exchange.got authentication
@@ -140,8 +140,8 @@ IsLastFor settings bytes last =
     (last ≡ [])
     ⊎ ((clerk batch : ℕ) × (entry : KeyingEntry) × (request : Request) × Asks settings bytes (keying clerk batch entry) × IsHandedOn clerk batch entry request × (last ≡ request ∷ []))
 
--- A client that asks a closed office for anything gets the response that it is closed, or it is turned away. For an order from the console, the response is what a closed
--- office prints.
+-- A client that asks a closed office for anything gets the response saying that it is closed, or it is turned away. For an order from the console, the response is what
+-- a closed office prints.
 abbrev pub GetsClosedResponse : Listener → ServerSettingsEntry → Exchange → Type 0
 GetsClosedResponse Clients settings exchange =
     (IsRejected settings exchange ⊎ (AsksNoOrder settings.clients exchange.got × EndsSo exchange (IsServed (ReadiesClosed settings.clients (Some exchange.got)))))
@@ -182,7 +182,7 @@ IsStoppedAt Clients state_of settings s exchange answered last =
 IsStoppedAt Orders state_of settings s exchange answered last = OrderPrints state_of settings s exchange.got exchange.answer answered last
 
 -- All requests are processed in turn, each as the office's machine says for the state at which it is processed, and these commands were answered for them. Or a fault
--- closed the office during one of them, and every later one gets the response that the office is closed.
+-- closed the office during one of them, and every later one gets the response saying that the office is closed.
 abbrev pub AnswersInTurn : {S : Type 0} → (Held S → State) → ServerSettingsEntry → OfficeState → List Exchange → List Request → List Request → Type 0
 AnswersInTurn state_of settings s [] answered last = (answered ≡ []) × (last ≡ [])
 AnswersInTurn state_of settings s (exchange ∷ exchanges) answered last =

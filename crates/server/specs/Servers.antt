@@ -89,7 +89,7 @@ pub record ClosesConnections {L : Type 0} (gated : Bool) (stream : Stream L) (tu
   pub each : FoldsTo IsClosed rest closed []
   pub none : OnOk result (rest ≡ [])
 
--- calls of the network, none of which failed, except possibly the last one; and no wait succeeded
+-- calls of the network, of which at most the last one failed; and no wait succeeded
 abbrev pub IsCalled : {A L : Type 0} → Result A Broken → NetworkEntry L → NetworkEntry L → Type 0
 IsCalled result before later = (later.failed ≡ failed_after result before.failed) × (later.waits ≡ before.waits)
 

@@ -17,8 +17,8 @@ use sqlite::Alter;
 /// console. If both receive the same bytes under the clerk's number, in the same order, both send the clerk the same responses,
 /// whatever other clerks keyed.
 ///
-/// The law doesn't cover faults, nor the responses that the client must wait (429) or that the file is gone (113). It says
-/// nothing about how long a response takes, nor about public reads: stage sheets and declarations.
+/// The law doesn't cover faults, nor the responses saying that the client must wait (429) or that the file is gone (113). It
+/// says nothing about how long a response takes, nor about public reads: stage sheets and declarations.
 pub fn clerks_are_answered_as_seen<S: Alter>()
     ensures own { ClerksAreAnsweredAsSeen (state S.Store) }
     ensures kept { KeptAreAnsweredAsSeen (state S.Store) }

@@ -66,7 +66,7 @@ fn read_order<'a>(alloc: Global, order: &'a ConsoleOrder) -> Result<ReadOrder<'a
 }
 
 /// Returns the response with what an order printed on its two outputs and with its status. If either output isn't UTF-8,
-/// returns the response that the output failed (107).
+/// returns the response saying that the output failed (107).
 fn printed_response(alloc: Global, status: u8, out: &[u8], err: &[u8]) -> Response
     ensures { IsTold (printed_response status out.now err.now) result }
 {

@@ -292,8 +292,8 @@ fn respond_to_message<L: Stream, A: ServedFile, S: Alter>(
 /// returns the stream.
 ///
 /// The response is fault 102, as for a file held by another program, if the bytes aren't a message, or if the order comes from
-/// another version of the program or is for another file. For `init`, `migrate` and `serve`, the response is that the office is
-/// being served (111).
+/// another version of the program or is for another file. For `init`, `migrate` and `serve`, the response says that the office
+/// is being served (111).
 pub fn answer_order<L: Stream, A: ServedFile, S: Alter>(
     alloc: Global,
     server_settings: ServerSettings<'_, A>,

@@ -293,8 +293,8 @@ struct ReceivedRequest<'a> {
 }
 
 /// Returns the response to a client; none of it has been sent yet. If the client's code is wrong and the rate limit is reached,
-/// the response is that the client must wait. If the file of the office is gone or replaced, the response says so, except to a
-/// read of an open office. In both cases nothing else is done. Otherwise the request is processed and, if its code is wrong,
+/// the response says that the client must wait. If the file of the office is gone or replaced, the response says so, except to
+/// a read of an open office. In both cases nothing else is done. Otherwise the request is processed and, if its code is wrong,
 /// the code is counted.
 fn answer_client<A: ServedFile, S: Alter>(
     server_settings: ServerSettings<'_, A>,

@@ -335,7 +335,7 @@ fn serve_rounds<D: Network, A: ServedFile, S: Alter>(
 /// for another. Connections still open when serving ends are closed last; after an end without a failure, none is open.
 ///
 /// What is sent under a clerk's number is determined by what that clerk sees of the office, apart from faults and from the
-/// responses that the client must wait and that the file is gone.
+/// responses saying that the client must wait or that the file is gone.
 ///
 /// The error says why serving ended early: the network or its clock failed, the table couldn't be allocated, or the number of
 /// rounds reached its maximum. What was answered before remains valid. The connections that are open at that time are closed.

@@ -1,4 +1,4 @@
--- A target names exactly the thing whose path it is.
+-- A target names exactly what it is the path of.
 use Rattle.std.proofs.Common.{◌≡◌, ◌∙◌, ◌-◌, ◌+◌, ℕ, Bool, true, false, List, [], ◌∷◌, ◌++◌, Option, Some, None, append_assoc, codes, drop, length, ltb, refl, subst, sym, ap, arith}
 use Rattle.std.specs.Prelude.{IfSome, bytes_eq, if◌then◌else◌, option_and_then, option_map}
 use Rattle.std.specs.Char.{is_ascii}

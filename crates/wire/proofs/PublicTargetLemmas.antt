@@ -1,4 +1,4 @@
--- A target of something that is shown in public names exactly the thing whose path it is.
+-- A target of something that is shown in public names exactly what it is the path of.
 use Rattle.std.proofs.Common.{◌≡◌, ◌∙◌, ◌-◌, ◌++◌, ℕ, Bool, true, false, List, Option, Some, None, ap, arith, codes, drop, length, refl, subst, sym, take}
 use Rattle.std.specs.Prelude.{bytes_eq, if◌then◌else◌, nat_eq, option_map}
 use Rattle.std.specs.Char.{is_ascii_digit}

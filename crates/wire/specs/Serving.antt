@@ -208,7 +208,7 @@ closed_public its public_target.Screen = shown_response (page its.screen)
 closed_public its public_target.Wards = fault_response (fault_number Closed)
 closed_public its (public_target.Page ward) = fault_response (fault_number Closed)
 
--- The response of a closed office. A rejected request is rejected, what is shown at any state is shown, and everything else gets the fault that the office is closed.
+-- The response of a closed office. A rejected request is rejected, what is shown at any state is shown, and everything else gets the fault for a closed office.
 abbrev pub closed_response : HttpRequestEntry → ResponseEntry
 closed_response (denied why) = denied_response why
 closed_response (shown clerk show) = shown_response show

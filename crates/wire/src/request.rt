@@ -277,7 +277,7 @@ fn read_from_head<'a, R: Source>(
 /// failure count is then one higher. Once the request is known, nothing more is read, because the client may be waiting for its
 /// response. Some of the bytes that follow the request may have been read.
 ///
-/// What is requested depends only on the target, which names exactly the thing whose path it is. That path is one of the eight
+/// What is requested depends only on the target, which names exactly what it is the path of. That path is one of the eight
 /// routes of this crate, with numbers of 1 to 5 digits without leading zeros; or `/office/`, `/office/leave`, `/office/orders`
 /// or the path of a read of the console; or `/`, `/screen`, `/screen/wards` or the path of a ward's page. Any other target
 /// names nothing.

@@ -61,7 +61,7 @@ pub fn write_wait_response<W: Sink>(writer: &mut W) -> Served
     write_response(writer, &Response::waits())
 }
 
-/// Writes the response that the file of the office is gone or replaced (113).
+/// Writes the response saying that the file of the office is gone or replaced (113).
 ///
 /// Returns `WriteFailed` only if the writer failed; the writer's failure count is then one higher, and a prefix of the response
 /// was written.
@@ -74,7 +74,7 @@ pub fn write_gone_response<W: Sink>(writer: &mut W) -> Served
     write_response(writer, &Response::gone())
 }
 
-/// Writes the response that an allocation failed (101).
+/// Writes the response saying that an allocation failed (101).
 ///
 /// Returns `WriteFailed` only if the writer failed; the writer's failure count is then one higher, and a prefix of the response
 /// was written.
@@ -123,7 +123,7 @@ pub fn respond<W: Sink, S: Alter>(
 /// failure count is then one higher. There is no response to a failed read: nothing was written, and the office is as it was.
 /// `WriteFailed` is returned only if the writer failed; its failure count is then one higher, and the reader's is unchanged. A
 /// prefix of the response was written, the write isn't repeated, and the office's answer remains valid. A closed office answers
-/// anything it is asked with the fault that it is closed, 104 (503), and stays as it is. The response to a rejected request,
+/// anything it is asked with the fault for a closed office, 104 (503), and stays as it is. The response to a rejected request,
 /// such as one from a page on another site, is the same at every state, and so is a page that is shown.
 pub fn serve_one<R: Source, W: Sink, S: Alter>(
     alloc: Global,

@@ -85,7 +85,7 @@ fn ward_in(wards: &[WardOverview], number: u32) -> Option<&WardOverview>
     None
 }
 
-/// Returns the response that the ward doesn't exist.
+/// Returns the response saying that the ward doesn't exist.
 fn no_such_ward(alloc: Global) -> Response
     ensures { IsTold (refused_for Reason.NoSuchWard) result }
 {
