@@ -1,4 +1,4 @@
-//! A connection that was removed from the table, to be closed.
+//! A connection that was removed from the table in order to be closed.
 
 use crate::client::ReceiveError;
 use std::alloc::AllocError;
@@ -10,17 +10,18 @@ pub enum CloseReason {
     Done,
     /// Its stream failed.
     Broken,
-    /// Its request can't be read to its end, or an allocation failed.
+    /// Its request can't be read to the end, or an allocation failed.
     Unreadable,
-    /// Its time limit is over.
+    /// Its time limit has expired.
     TimedOut,
-    /// It makes room for another.
+    /// It is closed to make room for another.
     Evicted,
     /// Serving ends.
     Closing,
 }
 
-/// A connection that was removed from the table: its number in the order of acceptance, its stream, and why it is closed.
+/// A connection that was removed from the table: its number in the order of acceptance, its stream, and the reason for closing
+/// it.
 #[derive(Drop)]
 pub struct Removed<L> {
     pub number: u64,

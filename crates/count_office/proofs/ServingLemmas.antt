@@ -1,4 +1,4 @@
--- The outcome of the order to serve, once its office was opened.
+-- The outcome of the order to serve, after its office was opened.
 use Rattle.std.proofs.Common.{◌≡◌, ◌∙◌, ◌⊎◌, ap, inl, inr, refl, subst, sym, ℕ, List}
 use Rattle.std.specs.Prelude.{Bool, IfSome, Option, Result, option_map}
 use Rattle.sqlite.specs.Held.{Held}

@@ -42,7 +42,7 @@ use Rattle.count_office.specs.declared.serving.ServeSettings.{ServeSettings}
 
 -- ---- the settings of the office
 
--- a gate of codes, of the page on which clerks key, and of the console
+-- a gate with these codes, with the page on which clerks key, and with the console
 abbrev pub gate_with : Codes → PageEntry → PageEntry → GateEntry
 gate_with own page console = record { holders = holders_of own; page = page; office = office_of own; console = console }
 
@@ -56,13 +56,13 @@ gate_at gate_files =
     gate_with gate_files.codes (page_with (string_bytes gate_files.page) (string_bytes gate_files.policy))
     (page_with (string_bytes gate_files.console) (string_bytes gate_files.console_policy))
 
--- The gate: none if no file of codes is named; else the codes that were read at its path, with the page on which clerks key, and the officer's console.
+-- The gate: none if no file of codes is named; otherwise the codes that were read at its path, the page on which clerks key, and the officer's console.
 abbrev pub IsGateFor : CodeFiles → Option (List ℕ) → Option GateEntry → Type 0
 IsGateFor codes_at None gate = gate ≡ None
 IsGateFor codes_at (Some path) gate = (own : Codes) × IsReadAs (codes_at path) (Ok own)
     × (gate ≡ Some (gate_with own (page_with page_text policy_text) (page_with console_text console_policy)))
 
--- why there is no gate although a file is named: its codes couldn't be read
+-- why there is no gate even though a file is named: its codes couldn't be read
 abbrev pub IsUngated : CodeFiles → Option (List ℕ) → CodesError → Type 0
 IsUngated codes_at None why = ⊥
 IsUngated codes_at (Some path) why = IsReadAs (codes_at path) (Err why)
@@ -75,15 +75,15 @@ path_in serving = option_map (λ path. path.now) serving.codes
 abbrev pub public_with : List ℕ → PublicEntry
 public_with title = record { title = title; screen = page_with screen_text screen_policy }
 
--- what is shown of these texts
+-- what is shown in public, given these texts
 abbrev pub public_at : PublicTexts → PublicEntry
 public_at texts = record { title = texts.title.now; screen = page_with (string_bytes texts.screen) (string_bytes texts.policy) }
 
--- what is shown in public for the order to serve: nothing without a title
+-- what the order to serve shows in public: nothing without a title
 abbrev pub public_in : Serving → Option PublicEntry
 public_in serving = option_map (λ title. public_with title.now) serving.public
 
--- the settings with an origin, a gate, what is shown in public, a file, and whether that file is known to be whole throughout
+-- the settings, given an origin, a gate, what is shown in public, a file, and whether that file is permanently known to be whole
 abbrev pub settings_with : Option (List ℕ) → Option GateEntry → Option PublicEntry → FileNumbers → Option Bool → ServerSettingsEntry
 settings_with origin gate public file whole = record { clients = record { origin = origin; gate = gate; public = public }; file = file; whole = whole }
 
@@ -109,7 +109,7 @@ pub record ServesAtNetwork {L S : Type 0} (settings : ServerSettingsEntry) (stre
   pub closed : old.closed ≡ true → new ≡ old
   pub clean : HasCleanDisk (state_of new.held) → HasCleanDisk (state_of old.held)
 
--- the failure that is printed for a result
+-- the failure to print for a result
 abbrev pub failure_by : ServeError → Failure
 failure_by ended.Memory = Office fault.Memory
 failure_by ended.Network = Output
@@ -123,8 +123,8 @@ outcome_by (Err why) = Err (failure_by why)
 abbrev pub IsElsewhereSame : {L : Type 0} → ℕ → (ℕ → NetworkEntry L) → (ℕ → NetworkEntry L) → Type 0
 IsElsewhereSame port before later = (other : ℕ) → other ≢ port → later other ≡ before other
 
--- The network on a port couldn't be opened, or an allocation failed: no connection was accepted, and the office is as it was. Or it was served there, with these settings,
--- and on no other port.
+-- The network on a port couldn't be opened, or an allocation failed: no connection was accepted, and the office is as it was. Or the office was served on that port,
+-- with these settings, and on no other port.
 abbrev pub MayServe : {L S : Type 0} → (ServerSettingsEntry → Type 0) → Stream L → (Held S → State) → ℕ → (ℕ → NetworkEntry L) → (ℕ → NetworkEntry L) → Option ℕ
     → OfficeValue S → OfficeValue S → Result (Unit {0}) Failure → Type 0
 MayServe AreSettings stream state_of port before later most old new outcome =
@@ -134,17 +134,17 @@ MayServe AreSettings stream state_of port before later most old new outcome =
 
 -- ---- the order to serve
 
--- why codes are refused, or not made
+-- why codes are refused or weren't made
 abbrev pub untaken : CodesError → Page
 untaken read_error.Memory = failed (Office fault.Memory)
 untaken (read_error.Fault why) = codes_page why
 
--- what is printed for an outcome on the error output, and the status: nothing and 0, or the failure and 3
+-- what is printed on the error output for an outcome, and the status: nothing and 0, or the failure and 3
 abbrev pub TellsOutcome : (List ℕ → ℕ → ℕ → Type 0) → Type 0 → ℕ → Result (Unit {0}) Failure → Type 0
 TellsOutcome Tells Quiet status (Ok end) = Quiet × (status ≡ 0)
 TellsOutcome Tells Quiet status (Err failure) = Tells (failed failure).err 3 status
 
--- The codes couldn't be read: no connection was accepted, and the one to the database is as it was.
+-- The codes couldn't be read: no connection was accepted, and the connection to the database is unchanged.
 pub record IsUnread {L S : Type 0} (Tells : List ℕ → ℕ → ℕ → Type 0) (status : ℕ) (serving : Serving) (codes_at : CodeFiles) (before later : ℕ → NetworkEntry L) (old new : Held S) : Type 0 where
   pub why : CodesError
   pub unread : IsUngated codes_at (path_in serving) why
@@ -152,7 +152,7 @@ pub record IsUnread {L S : Type 0} (Tells : List ℕ → ℕ → ℕ → Type 0)
   pub nobody : later ≡ before
   pub same : new ≡ old
 
--- The office couldn't be opened: no connection was accepted, and the database is as it was. The fault is one for which an opening fails there.
+-- The office couldn't be opened: no connection was accepted, and the database is unchanged. The fault is one with which opening can fail at that state.
 pub record IsUnopened {L S : Type 0} (Tells : List ℕ → ℕ → ℕ → Type 0) (status : ℕ) (state_of : Held S → State) (before later : ℕ → NetworkEntry L) (old new : Held S) : Type 0 where
   pub why : Fault
   pub told : Tells (failed (Office why)).err 3 status
@@ -167,7 +167,7 @@ pub record IsOpenedFrom {S : Type 0} (state_of : Held S → State) (conn : Held 
   pub reads : OnlyReads (state_of conn) (state_of office.held)
   pub at : HasCleanDisk (state_of office.held) → (db : Database) → RestsAt db (state_of conn) → (s : OfficeState) → IsLeftAt s db → IsOpenAt s office.closed (state_of office.held)
 
--- The office was opened, but its network couldn't be: no connection was accepted, and the office is as it was opened.
+-- The office was opened, but its network couldn't be: no connection was accepted, and the office is as it was when opened.
 pub record IsShut {L S : Type 0} (Tells : List ℕ → ℕ → ℕ → Type 0) (status : ℕ) (state_of : Held S → State) (before later : ℕ → NetworkEntry L) (old new : Held S) : Type 0 where
   pub office : OfficeValue S
   pub opened : IsOpenedFrom state_of old office
@@ -176,8 +176,8 @@ pub record IsShut {L S : Type 0} (Tells : List ℕ → ℕ → ℕ → Type 0) (
   pub nobody : later ≡ before
   pub same : new ≡ office.held
 
--- The office was opened and served on its network, with these settings. If the database had the state after earlier requests, this holds for these and those that
--- arrived.
+-- The office was opened, and served on its network with these settings. If the database had the state after earlier requests, this holds for these requests and those
+-- that arrived.
 pub record IsServed {L S : Type 0} (Tells : List ℕ → ℕ → ℕ → Type 0) (Quiet : Type 0) (status : ℕ) (AreSettings : ServerSettingsEntry → Type 0) (stream : Stream L) (state_of : Held S → State)
     (port : ℕ) (before later : ℕ → NetworkEntry L) (most : Option ℕ) (old new : Held S) : Type 0 where
   pub office : OfficeValue S

@@ -19,16 +19,16 @@ use std::random::RandomSource as _;
 use store::Fault;
 use streams::Sink;
 
-/// The maximum number of bytes of a file of codes: more than a line for each clerk needs.
+/// The maximum size of a file of codes, in bytes: more than one line for each clerk needs.
 const MAX_FILE: usize = 128 << 10;
 
-/// The permission bits of group and others.
+/// The permission bits of the group and of others.
 const RIGHTS_OF_OTHERS: u32 = 0o077;
 
-/// The permissions of a file that only its owner may read.
+/// The permissions of a file that only its owner may read and write.
 const RIGHTS_OF_ITS_OWNER: u32 = 0o600;
 
-/// The system's random bytes, of which nothing is known.
+/// The system's random bytes, about which nothing is known.
 #[derive(Drop)]
 struct SystemBytes<'a> {
     rt: &'a HostRuntime,
@@ -55,14 +55,15 @@ impl RandomSource for SystemBytes<'_> {
 /// The user id of root.
 const ROOT: u32 = 0;
 
-/// Returns whether a file belongs to this program's user or to root, and nobody else has any permission on it.
+/// Returns whether a file belongs to this program's user or to root, and nobody else has any permissions on it.
 fn is_its_owners(file: &File) -> io::Result<bool> {
     let found = file.metadata()?;
     let is_own = found.uid() == libc::geteuid() || found.uid() == ROOT;
     Ok(is_own && found.mode() & RIGHTS_OF_OTHERS == 0)
 }
 
-/// Returns the bytes of a file, at most one more than a file of codes may have. A pipe or a device isn't opened, since that may block.
+/// Returns the bytes of a file, at most one more than a file of codes may have. Pipes and devices aren't opened, because that may
+/// block.
 fn bytes_of(rt: &HostRuntime, path: &str) -> Result<Vec<u8>, CodesFault> {
     match fs::metadata(rt, path) {
         Ok(found) if found.is_file() => {}
@@ -91,7 +92,7 @@ pub fn read_codes(rt: &HostRuntime, path: &str) -> Result<Codes, CodesError> {
     }
 }
 
-/// Prints why codes are refused, or not made, and returns the status.
+/// Prints why codes are refused or weren't made, and returns the status.
 pub fn tell_untaken<E: Sink>(why: CodesError, err: &mut E) -> u8
     requires { E.failed err.old < 2 ^ 64 - 1 }
     ensures { IsErrorTold E.taken E.failed err.old err.new (untaken why).err (untaken why).status result }
@@ -102,7 +103,7 @@ pub fn tell_untaken<E: Sink>(why: CodesError, err: &mut E) -> u8
     }
 }
 
-/// Writes a text to a new file, which only its owner may read. If it can't be written whole, the file is removed.
+/// Writes a text to a new file that only its owner may read. If it can't be written completely, the file is removed.
 fn write_new(rt: &HostRuntime, path: &str, text: &str) -> io::Result<()> {
     let mut file = OpenOptions::new()
         .write(true)
@@ -121,7 +122,7 @@ fn write_new(rt: &HostRuntime, path: &str, text: &str) -> io::Result<()> {
     }
 }
 
-/// Returns the text of a file of new codes for some clerks, and for the office if it is to have one. The errors are those of
+/// Returns the text of a file of new codes for the given clerks and, if requested, for the office. The errors are those of
 /// [`make`].
 fn codes_for<D: RandomSource>(
     alloc: Global,
@@ -142,7 +143,8 @@ fn codes_for<D: RandomSource>(
     }
 }
 
-/// Prints that codes were made for so many clerks, and for the office or not, and returns the status: 0, or 3 if the output fails.
+/// Prints that codes were made for this many clerks, and whether one was made for the office. Returns the status: 0, or 3 if the
+/// output fails.
 fn tell_made<O: Sink, E: Sink>(with_office: bool, count: u32, out: &mut O, err: &mut E) -> u8
     requires out { O.failed out.old < 2 ^ 64 - 1 }
     requires err { E.failed err.old < 2 ^ 64 - 1 }
@@ -155,7 +157,7 @@ fn tell_made<O: Sink, E: Sink>(with_office: bool, count: u32, out: &mut O, err: 
     }
 }
 
-/// A new file of codes that is asked for: its path, the word that names its clerks, and whether the office is to have one too.
+/// A request for a new file of codes: its path, the word that names its clerks, and whether the office gets a code too.
 #[derive(Clone, Copy)]
 pub struct NewCodes<'a> {
     pub path: &'a str,
@@ -163,8 +165,8 @@ pub struct NewCodes<'a> {
     pub with_office: bool,
 }
 
-/// Writes a new file of codes, prints how many clerks it is for or why there is none, and returns the status: 0; 1 for a codes fault;
-/// 3 if an allocation or an output failed. It never overwrites a file.
+/// Writes a new file of codes, and prints how many clerks it is for, or why there is none. Returns the status: 0; 1 for a codes
+/// fault; 3 if an allocation or an output failed. Never overwrites a file.
 pub fn make_codes_file<O: Sink, E: Sink>(
     rt: &HostRuntime,
     asked: NewCodes<'_>,

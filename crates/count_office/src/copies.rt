@@ -1,4 +1,4 @@
-//! A copy of the office in new files of this machine, of an office that an order opened or of one that is being served.
+//! Copying an office to new files on this machine, either an office opened by an order or one that is being served.
 
 ghost use Rattle.std.specs.Prelude.{◌≡◌, ◌-◌, ◌^◌, ◌<◌, IsSomeAnd};
 ghost use Rattle.sqlite.specs.Closing.{IsCopied};
@@ -21,7 +21,7 @@ use store::Fault;
 use store::fault::fault_of;
 use streams::Sink;
 
-/// Makes a copy of the office at a path where nothing exists yet. The office is only read.
+/// Makes a copy of the office at a path where nothing exists yet. Only reads the office.
 pub fn copy<S: Alter, O: Sink, E: Sink>(
     rt: &HostRuntime,
     mut conn: Connection<S>,
@@ -52,7 +52,7 @@ pub fn copy<S: Alter, O: Sink, E: Sink>(
     }
 }
 
-/// Returns the failure that is printed if a copy can't be made; running out of memory is reported as usual.
+/// Returns the failure to print if a copy can't be made. Running out of memory is reported as such.
 fn failure_of(error: sqlite::Error) -> Failure {
     match fault_of(error) {
         Fault::Memory => Failure::Office(Fault::Memory),
@@ -60,8 +60,8 @@ fn failure_of(error: sqlite::Error) -> Failure {
     }
 }
 
-/// Returns why no copy is begun in files that were made for it, if none is: another program has meanwhile made an office in them,
-/// which is left there; or they can't be examined.
+/// Returns why the copy must not be started in the files that were made for it; `None` if it may. Either another program has
+/// since made an office in them, which is left there; or the files can't be examined.
 fn why_not_begun(rt: &HostRuntime, new_file: &NewFile) -> Option<Failure> {
     match new_file.hold_none(rt) {
         Ok(true) => None,
@@ -73,8 +73,8 @@ fn why_not_begun(rt: &HostRuntime, new_file: &NewFile) -> Option<Failure> {
     }
 }
 
-/// Closes the files that were made for a copy, according to what they are known to contain. If no copy is reported, they are removed
-/// while they are locked. With status 0 the database file alone is the copy.
+/// Closes the files that were made for a copy, according to what is known of their contents. If no copy is reported, they are
+/// removed while they are still locked. With status 0, the database file alone is the copy.
 fn finish<D: Disk + Drop, E: Sink>(
     rt: &HostRuntime,
     new_file: &NewFile,
@@ -98,7 +98,7 @@ fn finish<D: Disk + Drop, E: Sink>(
     closed_copy(made, err).0
 }
 
-/// Copies the office of an open connection to files that were made for the copy, and closes them.
+/// Copies the office on an open connection to the files that were made for the copy, and closes them.
 fn fill<S: Alter, D: Disk + Drop, O: Sink, E: Sink>(
     rt: &HostRuntime,
     new_file: &NewFile,
@@ -118,7 +118,7 @@ fn fill<S: Alter, D: Disk + Drop, O: Sink, E: Sink>(
     finish(rt, new_file, made, status, state, err)
 }
 
-/// Copies an open office, which stays open, to files that were made for the copy, and closes them.
+/// Copies an open office, which stays open, to the files that were made for the copy, and closes them.
 fn fill_open<S: Alter, D: Disk + Drop, O: Sink, E: Sink>(
     rt: &HostRuntime,
     new_file: &NewFile,
@@ -141,7 +141,7 @@ fn fill_open<S: Alter, D: Disk + Drop, O: Sink, E: Sink>(
     finish(rt, new_file, made, status, state, err)
 }
 
-/// Makes a copy of the open office at a path where nothing exists yet. The office stays open, and is only read.
+/// Makes a copy of the open office at a path where nothing exists yet. The office stays open and is only read.
 pub fn copy_served<S: Alter, O: Sink, E: Sink>(
     rt: &HostRuntime,
     office: &mut Office<S>,
@@ -172,8 +172,8 @@ pub fn copy_served<S: Alter, O: Sink, E: Sink>(
     }
 }
 
-/// Closes a copy, so that its database file is complete, and returns the status: 0, or 3 if its log can't be copied into it, which is
-/// reported.
+/// Closes a copy, which completes its database file, and returns the status: 0; or 3 if the log can't be copied into the
+/// database file, which is reported.
 fn closed_copy<D: Disk + Drop, E: Sink>(
     made: Connection<FileStore<D>>,
     err: &mut E,

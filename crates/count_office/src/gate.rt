@@ -19,7 +19,7 @@ pub struct GateFiles {
     pub console_policy: String,
 }
 
-/// Reads the file of codes at a path, and makes the pages and their policies. Returns `None` if no path is given.
+/// Reads the file of codes at a path, and builds the pages and their policies. Returns `None` if no path is given.
 pub fn read_gate_files<H: Host>(
     alloc: Global,
     host: &H,

@@ -1,6 +1,7 @@
-//! This machine as a host: a port of its loopback addresses, and the socket next to the database that is served.
+//! This machine as a host: a port on its loopback addresses, and the socket next to the database that is served.
 //!
-//! No contract can say what a socket or a file contains, so nothing is promised here. `serving.rt` says what is served on any host.
+//! No contract can say what a socket or a file contains, so nothing is promised here. `serving.rt` states what is served on any
+//! host.
 
 ghost use Rattle.std.specs.Prelude.{◌≡◌, ◌≢◌, None, ℕ};
 ghost use Rattle.sockets.specs.declared.socket.Socket.{Socket};
@@ -23,7 +24,8 @@ use std::io;
 use std::io::{ErrorKind, Write};
 use store::Fault;
 
-/// This machine, the database that is served, the socket next to it, and the standard streams that are held open meanwhile.
+/// This machine, the database that is served, the socket next to it, and the standard streams that are held open in the
+/// meantime.
 #[derive(Drop)]
 pub struct Localhost<'a> {
     place: LockedDatabase<'a>,
@@ -31,8 +33,8 @@ pub struct Localhost<'a> {
     streams: Option<Vec<File>>,
 }
 
-/// Listens on a port of this machine's loopback addresses and, if there is one, on the socket for orders next to the database. Fails
-/// if one of the addresses is in use: no clause can say which are bound, and `tools/try both-addresses` tests it.
+/// Listens on a port of this machine's loopback addresses and, if there is one, on the socket for orders next to the database.
+/// Fails if either address is in use. No contract can say which addresses are bound; `tools/try both-addresses` tests it.
 fn listen<'a>(
     rt: &'a HostRuntime,
     port: u32,
@@ -46,7 +48,7 @@ fn listen<'a>(
     Ok(SocketNetwork { poller, clock: rt })
 }
 
-/// Returns the failure that is printed when the network can't be opened.
+/// Returns the failure to print when the network can't be opened.
 fn listening_failure(error: &io::Error) -> Failure {
     match error.kind() {
         ErrorKind::OutOfMemory => Failure::Office(Fault::Memory),
@@ -54,7 +56,7 @@ fn listening_failure(error: &io::Error) -> Failure {
     }
 }
 
-/// Prints on the error output that there is no socket for orders. If it can't be printed, the office serves all the same.
+/// Prints on the error output that there is no socket for orders. The office is served even if this can't be printed.
 fn warn_no_socket(rt: &HostRuntime, error: &io::Error) {
     let mut stderr = rt.stderr();
     let why = reason_of(error);
@@ -73,7 +75,7 @@ fn list_of(alloc: Global, numbers: &[u32]) -> Result<String, AllocError> {
     Ok(list)
 }
 
-/// Prints a line on standard error if codes of clerks are weak. If it can't be printed, the office serves all the same.
+/// Prints a line on standard error if clerks' codes are weak. The office is served even if this can't be printed.
 fn warn_of_weak(rt: &HostRuntime, codes: &Codes) {
     let weak = codes.weak_clerks();
     if weak.is_empty() {
@@ -88,7 +90,7 @@ fn warn_of_weak(rt: &HostRuntime, codes: &Codes) {
     }
 }
 
-/// Opens the network on a port, and looks up the file of the office at a place.
+/// Opens the network on a port, and looks up the file of the locked database.
 fn open_at<'a>(
     place: LockedDatabase<'a>,
     port: u32,
@@ -113,7 +115,7 @@ fn open_at<'a>(
 }
 
 impl<'a> Localhost<'a> {
-    /// Returns this machine, for the database at a place.
+    /// Returns this machine as a host, for a locked database.
     pub fn at(place: LockedDatabase<'a>) -> Localhost<'a> {
         Localhost {
             place,
@@ -122,8 +124,8 @@ impl<'a> Localhost<'a> {
         }
     }
 
-    /// Creates the order socket next to the database. If that fails, prints a line to the error output; no order can then be sent
-    /// to the server.
+    /// Creates the order socket next to the database. If that fails, prints a line on the error output; orders can't be sent to
+    /// the server then.
     fn listen_for_orders(&mut self) -> Option<UnixListener> {
         let rt = self.place.rt;
         match OrderSocket::listen(rt, self.place.found.database()) {

@@ -1,14 +1,14 @@
-//! Lines on the error output for the person who gave an order, in addition to what the order prints. If they can't be written, the
-//! order is performed all the same.
+//! Lines on the error output for the person who gave an order, in addition to what the order prints. The order is performed
+//! even if they can't be written.
 
 use std::fs;
 use std::io::{IsTerminal, Write};
 use std::os::unix::fs::MetadataExt;
 
-/// The permissions of group and others to read or write a file.
+/// The permissions of the group and of others to read or write a file.
 const RIGHTS_OF_OTHERS: u32 = 0o066;
 
-/// What has locked a database, so that no other order can open it.
+/// What holds the lock on a database and prevents other orders from opening it.
 #[derive(Clone, Copy)]
 pub enum LockHolder {
     /// Another order of this program, which may be `serve`.
@@ -18,7 +18,7 @@ pub enum LockHolder {
 }
 
 impl LockHolder {
-    /// Returns it in words, to follow a database's path and a colon.
+    /// Returns the text that describes the holder, to follow a database's path and a colon.
     fn text(self) -> &'static str {
         match self {
             LockHolder::Order => "another order holds it",
@@ -27,7 +27,7 @@ impl LockHolder {
     }
 }
 
-/// Prints on a terminal what an order waits for.
+/// Prints what an order is waiting for, if the error output is a terminal.
 pub fn warn_waiting(rt: &HostRuntime, path: &str, holder: LockHolder) {
     let mut stderr = rt.stderr();
     if stderr.is_terminal() {
@@ -36,14 +36,14 @@ pub fn warn_waiting(rt: &HostRuntime, path: &str, holder: LockHolder) {
     }
 }
 
-/// Prints what an order waited for without success.
+/// Prints what an order waited for in vain.
 pub fn warn_waited(rt: &HostRuntime, path: &str, holder: LockHolder) {
     let mut stderr = rt.stderr();
     let why = holder.text();
     let _ = writeln!(stderr, "waited ten seconds for {path}: {why}");
 }
 
-/// Prints that the log of a database belongs to a user who may not write the database.
+/// Prints that the log of a database belongs to a user who may not write to the database.
 pub fn warn_foreign_log(rt: &HostRuntime, path: &str) {
     let mut stderr = rt.stderr();
     let _ = writeln!(
@@ -57,7 +57,7 @@ fn is_open_to_others(rt: &HostRuntime, path: &str) -> bool {
     fs::metadata(rt, path).is_ok_and(|found| found.mode() & RIGHTS_OF_OTHERS != 0)
 }
 
-/// Prints on a terminal that the permissions of a database or its log let other users read or write it, if they do.
+/// Prints, if the error output is a terminal, that the permissions of a database or its log let other users read or write it, if they do.
 pub fn warn_if_open_to_others(rt: &HostRuntime, path: &str) {
     let mut stderr = rt.stderr();
     if !stderr.is_terminal() {

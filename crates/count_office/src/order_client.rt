@@ -1,4 +1,5 @@
-//! An order on a database that another program serves. It is sent to that program, and the reply is printed as it arrives.
+//! An order on a database that another program serves. The order is sent to that program, and the reply is printed as it
+//! arrives.
 
 ghost use Rattle.std.specs.Prelude.{◌≡◌, ◌≢◌, ◌-◌, ◌^◌, ◌<◌, ◌≤◌, Err, IfOk, IfSome, Ok, OnErr, length, true};
 ghost use Rattle.order_protocol.specs.Messages.{PieceFits, PiecesFit, message_part_entries, message_part_entry};
@@ -19,10 +20,10 @@ use std::{env, fs};
 use store::Fault;
 use streams::{Sink, put_all};
 
-/// The maximum number of bytes of a frame that are read at once.
+/// The maximum number of bytes of a frame to read at once.
 const CHUNK: usize = 8192;
 
-/// Returns a word or a file as a part of a message; None if it is longer than a message may be.
+/// Returns a word or a file as a part of a message; `None` if it is longer than a message may be.
 fn piece_of(part: &OrderPart) -> Option<MessagePart<'_>>
     ensures { IfSome result (λ piece. PieceFits (message_part_entry piece)) }
 {
@@ -40,7 +41,8 @@ fn piece_of(part: &OrderPart) -> Option<MessagePart<'_>>
     }
 }
 
-/// Returns words or files as parts of a message; None if one is longer than a message may be, or there are too many.
+/// Returns words or files as parts of a message; `None` if one of them is longer than a message may be, or if there are too
+/// many.
 fn fitting_parts(
     alloc: Global,
     parts: &[OrderPart],
@@ -110,25 +112,25 @@ fn frame_in(stream: &mut UnixStream) -> io::Result<FrameHead> {
     read_frame_head(head).ok_or(io::Error::from(ErrorKind::InvalidData))
 }
 
-/// Why nothing more is printed.
+/// Why printing a reply ended early.
 #[derive(Clone, Copy)]
 enum ReplyError {
     /// The server closed the connection, or sent something invalid.
     Server,
-    /// The output fails.
+    /// The output failed.
     Output,
     /// An allocation for a line failed.
     Memory,
 }
 
-/// What was received for the two outputs and isn't printed yet: for each the beginning of a line.
+/// What was received for the two outputs but hasn't been printed yet: for each, the beginning of a line.
 #[derive(Drop)]
 struct PartialLines {
     out: Vec<u8>,
     err: Vec<u8>,
 }
 
-/// Returns how many of these bytes form complete lines.
+/// Returns how many of these bytes make up complete lines.
 fn whole_lines(bytes: &[u8]) -> usize
     ensures { result ≤ length bytes.now }
 {
@@ -141,8 +143,8 @@ fn whole_lines(bytes: &[u8]) -> usize
     whole
 }
 
-/// Appends bytes to a line that isn't complete yet, prints the lines that are now complete, and keeps the rest. So a reply that breaks
-/// off prints no partial line.
+/// Appends bytes to an incomplete line, prints the lines that are now complete, and keeps the rest. So if a reply is cut off,
+/// no partial line is printed.
 fn print_lines<O: Sink>(line: &mut Vec<u8>, bytes: &[u8], out: &mut O) -> Result<(), ReplyError>
     requires { O.failed out.old < 2 ^ 64 - 1 }
     ensures { result ≢ Err ReplyError.Output → O.failed out.new ≡ O.failed out.old }
@@ -185,7 +187,7 @@ fn print_output_frame<O: Sink>(
     Ok(())
 }
 
-/// Prints this many bytes for the error output as they arrive. Returns whether the error output accepted them.
+/// Prints this many bytes on the error output as they arrive. Returns whether the error output accepted them.
 fn print_error<E: Sink>(
     stream: &mut UnixStream,
     len: u32,
@@ -204,8 +206,8 @@ fn print_error<E: Sink>(
     }
 }
 
-/// Returns the status of an order from its last frame, after printing the rest of that frame on the error output, and what remains of
-/// a line of either output. If the error output fails, the status is 3.
+/// Returns the status of an order from its last frame, after printing the rest of that frame on the error output, along with
+/// any incomplete line of either output. If the error output fails, the status is 3.
 fn print_end_frame<O: Sink, E: Sink>(
     stream: &mut UnixStream,
     len: u32,
@@ -233,7 +235,7 @@ fn print_end_frame<O: Sink, E: Sink>(
     }
 }
 
-/// Prints the reply to an order line by line as it arrives, from its first frame on, and returns its status.
+/// Prints the reply to an order, line by line as it arrives, starting with its first frame, and returns the order's status.
 fn print_frames<O: Sink, E: Sink>(
     alloc: Global,
     stream: &mut UnixStream,
@@ -286,14 +288,14 @@ pub struct OrderReply {
 pub enum Sent {
     /// A server has begun to reply.
     Replying(OrderReply),
-    /// No program serves the database; or the server closed the connection before it had read all of the order, so it can't have
+    /// No program serves the database; or the server closed the connection before it had read the whole order, so it can't have
     /// performed it.
     Unread,
     /// The order wasn't sent, for this fault; or the server disconnected after it had read the order, and may have performed it.
     Failed(Fault),
 }
 
-/// Waits for the first frame of the reply. A connection that is reset is one that the server closed before it had read all of the
+/// Waits for the first frame of the reply. If the connection is reset, the server closed it before it had read the whole
 /// message.
 fn reply_in(mut stream: UnixStream) -> Sent {
     match frame_in(&mut stream) {
@@ -312,13 +314,13 @@ pub fn send_order(rt: &HostRuntime, database: &str, order_files: &OrderFiles) ->
         Ok(message) => message,
         Err(fault) => return Sent::Failed(fault),
     };
-    // A server that stops reading may have replied why, so the reply is read all the same.
+    // Even a server that stops reading may have replied why, so the reply is read in any case.
     let _ = send(&mut stream, &message);
     reply_in(stream)
 }
 
-/// Prints the rest of a reply, and returns the order's status. If the server disconnects before the end, it prints fault 102: the
-/// order should be sent again.
+/// Prints the rest of a reply, and returns the order's status. If the server disconnects before the end, prints fault 102; the
+/// order should then be sent again.
 pub fn print_reply<O: Sink, E: Sink>(
     alloc: Global,
     reply: OrderReply,

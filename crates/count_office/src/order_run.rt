@@ -1,5 +1,5 @@
-//! An order on a database: it is performed on the file; or sent to the program that serves it; or it waits while another program has
-//! locked the file.
+//! An order on a database. It is performed on the file, or sent to the program that serves it, or it waits while another
+//! program has locked the file.
 
 ghost use Rattle.std.specs.Prelude.{◌≡◌, ◌-◌, ◌^◌, ◌<◌, OnErr, Some};
 
@@ -21,16 +21,16 @@ use store::Fault;
 use store::fault::fault_of;
 use streams::Sink;
 
-/// The number of pauses between the attempts of an order whose file is locked: ten seconds of them.
+/// The maximum number of pauses between attempts at an order whose file is locked. They add up to ten seconds.
 const PAUSES: u32 = 1000;
 
-/// The length of a pause, in milliseconds.
+/// The duration of a pause, in milliseconds.
 const PAUSE: u64 = 10;
 
-/// After this many pauses a person at a terminal is shown why nothing happens.
+/// After this many pauses, a person at a terminal is told what the order is waiting for.
 const PAUSES_UNSEEN: u32 = 50;
 
-/// An order, its words from DB on, and the path of its database.
+/// An order, its words starting with DB, and the path of its database.
 #[derive(Clone, Copy)]
 pub struct OrderRun<'a> {
     pub rt: &'a HostRuntime,
@@ -39,11 +39,11 @@ pub struct OrderRun<'a> {
     pub order: &'a Order<'a>,
 }
 
-/// Opens the locked database at a path, performs an order on it, and closes it. If the order failed, nothing is left that didn't exist
-/// before. An error is that another program has the file open; nothing is printed then.
+/// Opens the locked database at a path, performs an order on it, and closes it. If the order failed, nothing is left that
+/// didn't exist before. Returns an error if another program has the file open; nothing has been printed then.
 ///
-/// Two phases of writing depend on what `sqlite` states: `Connection::open_from` makes the log if it doesn't exist and recovers what
-/// it contains, and `close` copies it. The contract of `perform` covers everything in between.
+/// Two phases of writing depend on the contract of `sqlite`: `Connection::open_from` creates the log if it doesn't exist, and
+/// recovers what it contains; and `close` copies the log. The contract of `perform` covers everything in between.
 fn open_and_perform<O: Sink, E: Sink>(
     place: LockedDatabase<'_>,
     order: &Order<'_>,
@@ -81,7 +81,7 @@ fn open_and_perform<O: Sink, E: Sink>(
     }
 }
 
-/// Prints fault 102, and that the log of a database belongs to another user.
+/// Prints fault 102, followed by a line saying that the log of a database belongs to another user.
 fn refuse_log<E: Sink>(rt: &HostRuntime, path: &str, err: &mut E) -> u8
     requires { E.failed err.old < 2 ^ 64 - 1 }
 {
@@ -90,8 +90,8 @@ fn refuse_log<E: Sink>(rt: &HostRuntime, path: &str, err: &mut E) -> u8
     status
 }
 
-/// Returns why an order opens nothing at a path, if it doesn't. Only `init` makes an office, if no log contains anything: any other
-/// order finds no office there.
+/// Returns why an order must not open anything at a path; `None` if it may. Only `init` creates an office, and only if no log
+/// contains anything; any other order finds no office there.
 fn why_unopened(kind: PathKind, order: &Order<'_>) -> Option<Fault>
     ensures alone { kind ≡ PathKind.LogAlone → result ≡ Some Fault.WrongDatabase }
     ensures unseen { kind ≡ PathKind.LogUnreadable → result ≡ Some Fault.Store }
@@ -104,7 +104,7 @@ fn why_unopened(kind: PathKind, order: &Order<'_>) -> Option<Fault>
     }
 }
 
-/// Prints a reply, with progress if a person watches.
+/// Prints a reply, with progress if a person is watching.
 fn print_watched<O: Sink, E: Sink>(
     request: OrderRun<'_>,
     reply: OrderReply,
@@ -123,7 +123,7 @@ fn print_watched<O: Sink, E: Sink>(
     }
 }
 
-/// Reads what is sent of an order, unless it was read before, or no program serves the database.
+/// Reads the parts of an order that are sent to a server, unless they were read before, or no program serves the database.
 fn read_order_files(
     request: OrderRun<'_>,
     database: &str,
@@ -135,9 +135,9 @@ fn read_order_files(
     Ok(())
 }
 
-/// Sends an order to the program that has locked its database, and returns the status. The order's files are read before a connection
-/// is made, however long that takes. An error is that the program doesn't serve the database, or no longer does; nothing is printed
-/// then.
+/// Sends an order to the program that has locked its database, and returns the status. The order's files are read before the
+/// connection is made, however long that takes. Returns an error if the program doesn't serve the database, or no longer does;
+/// nothing has been printed then.
 fn hand_over<O: Sink, E: Sink>(
     request: OrderRun<'_>,
     database: &str,
@@ -162,7 +162,7 @@ fn hand_over<O: Sink, E: Sink>(
     }
 }
 
-/// Returns whether this error means that another order has locked the database, or has just made it.
+/// Returns whether this error means that another order has locked the database, or has just created it.
 fn is_locked_by_other(rt: &HostRuntime, database: &str, error: &io::Error) -> bool {
     match error.kind() {
         ErrorKind::WouldBlock => true,
@@ -173,7 +173,8 @@ fn is_locked_by_other(rt: &HostRuntime, database: &str, error: &io::Error) -> bo
     }
 }
 
-/// Performs an order on the locked database at a path. An error is that another program has the file open; nothing is printed then.
+/// Performs an order on the locked database at a path. Returns an error if another program has the file open; nothing has been
+/// printed then.
 fn perform_locked<O: Sink, E: Sink>(
     request: OrderRun<'_>,
     found: &PathState,
@@ -196,8 +197,8 @@ fn perform_locked<O: Sink, E: Sink>(
     open_and_perform(place, request.order, out, err)
 }
 
-/// Locks the database that was found, and performs an order on it; or sends the order to the program that serves it. An error is that
-/// another program has locked the file; nothing is printed then.
+/// Locks the database that was found and performs an order on it, or sends the order to the program that serves it. Returns an
+/// error if another program has locked the file; nothing has been printed then.
 fn lock_and_perform<O: Sink, E: Sink>(
     request: OrderRun<'_>,
     found: &PathState,
@@ -226,8 +227,8 @@ fn lock_and_perform<O: Sink, E: Sink>(
     }
 }
 
-/// Checks what is at the path of an order's database, and performs the order if that is allowed there. An error is that another
-/// program has locked the file; nothing is printed then.
+/// Checks what is at the path of an order's database, and performs the order if it may be performed there. Returns an error if
+/// another program has locked the file; nothing has been printed then.
 fn attempt<O: Sink, E: Sink>(
     request: OrderRun<'_>,
     brought: &mut Option<OrderFiles>,
@@ -250,8 +251,8 @@ fn attempt<O: Sink, E: Sink>(
     lock_and_perform(request, &found, brought, out, err)
 }
 
-/// Performs an order on the database at a path, and returns its status. While another program has locked the file and doesn't serve
-/// it, the order waits, for at most ten seconds. Then it prints fault 102, and what has locked the file.
+/// Performs an order on the database at a path, and returns its status. While another program has locked the file and doesn't
+/// serve it, the order waits, for at most ten seconds. After that, prints fault 102 and what has locked the file.
 pub fn perform_with_retries<O: Sink, E: Sink>(request: OrderRun<'_>, out: &mut O, err: &mut E) -> u8
     requires out { O.failed out.old < 2 ^ 64 - 1 }
     requires err { E.failed err.old < 2 ^ 64 - 1 }

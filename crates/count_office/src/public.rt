@@ -15,7 +15,7 @@ pub struct PublicTexts<'a> {
     pub policy: String,
 }
 
-/// Makes the page for the screen and its policy, if there is a title. The only error is that an allocation failed.
+/// Builds the page for the screen and its policy, if there is a title. The only error is that an allocation failed.
 pub fn make_public_texts<'a>(
     alloc: Global,
     title: Option<&'a str>,
@@ -34,7 +34,7 @@ pub fn make_public_texts<'a>(
     }))
 }
 
-/// Returns the settings by which these texts are shown; `None` if there are none.
+/// Returns the settings for showing these texts; `None` if there are none.
 pub fn public_of<'a>(texts: &'a Option<PublicTexts<'a>>) -> Option<Public<'a>>
     ensures { option_map public_entry result ≡ option_map public_at texts.now }
 {

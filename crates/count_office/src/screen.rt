@@ -1,7 +1,7 @@
-//! An output that a person may read on a terminal: control characters aren't written there as they are.
+//! An output that a person may read on a terminal, where control characters are masked.
 //!
-//! Names of wards and candidates may come from anyone. They have no ASCII control characters, but they may have others, such as
-//! U+009B, which can make a terminal move or rename things, and characters that change the direction of text.
+//! The names of wards and candidates may come from anyone. They contain no ASCII control characters, but they may contain
+//! others, such as U+009B, which can make a terminal move or rename things, and characters that change the direction of text.
 
 ghost use Rattle.std.specs.Prelude.{◌≡◌, ◌≤◌, ◌<◌, ◌+◌, ◌-◌, ◌^◌, length, take, IfOk, None, OnErr, OnOk};
 ghost use Rattle.std.specs.Io.KnownBytes.{Appends};
@@ -9,16 +9,16 @@ ghost use Rattle.count_office.specs.Screens.{controls, ends_steering, last_two, 
 
 use streams::{Broken, Sink};
 
-/// The maximum number of bytes that are written at once.
+/// The maximum number of bytes to write at once.
 const MAX_PIECE: usize = 512;
 
-/// What is shown on a terminal in place of a control byte.
+/// The byte shown on a terminal in place of a control byte.
 const MASK: u8 = b'?';
 
-/// An output, and the last two bytes that were written to it.
+/// An output, and the last two bytes written to it.
 ///
-/// On a terminal the last byte of a character that controls it, or the direction of text, becomes a question mark: what remains isn't
-/// a valid character. Anywhere else each byte is written as it is.
+/// If the output is a terminal, the last byte of any character that controls the terminal or the direction of text is replaced
+/// with a question mark; what remains isn't a valid character. Otherwise each byte is written unchanged.
 #[derive(Drop)]
 pub struct Screen<S> {
     stream: S,
@@ -27,7 +27,7 @@ pub struct Screen<S> {
     second: u8,
 }
 
-/// Returns whether a byte is an ASCII control character other than a line feed and a tab.
+/// Returns whether a byte is an ASCII control character other than a line feed or a tab.
 fn controls(byte: u8) -> bool
     ensures { result ≡ controls byte }
 {
@@ -58,7 +58,7 @@ fn shown_byte(first: u8, second: u8, byte: u8) -> u8
     }
 }
 
-/// Returns bytes as they are shown on a terminal, given the two bytes before them, at the beginning of an array.
+/// Returns bytes as they are shown on a terminal, given the two bytes before them, at the start of an array.
 fn mask(first: u8, second: u8, bytes: &[u8]) -> [u8; MAX_PIECE]
     requires { length bytes.now ≤ 512 }
     ensures { take (length bytes.now) result ≡ masked first second bytes.now }
@@ -74,7 +74,7 @@ fn mask(first: u8, second: u8, bytes: &[u8]) -> [u8; MAX_PIECE]
     room
 }
 
-/// Returns the last two of some bytes, which follow these two.
+/// Returns the last two bytes after some bytes that follow these two.
 fn last_two(first: u8, second: u8, bytes: &[u8]) -> (u8, u8)
     ensures { result ≡ last_two first second bytes.now }
 {
@@ -88,7 +88,7 @@ fn last_two(first: u8, second: u8, bytes: &[u8]) -> (u8, u8)
 }
 
 impl<S: Sink> Screen<S> {
-    /// Returns an output to which nothing has been written yet.
+    /// Returns a screen to which nothing has been written yet.
     pub fn new(stream: S, is_terminal: bool) -> Screen<S>
         ensures stream { result.stream ≡ stream }
         ensures terminal { result.is_terminal ≡ is_terminal }

@@ -1,4 +1,4 @@
-//! The order to serve: opens an office and serves it on a host, with the settings of the order and the codes that were read.
+//! The order to serve: opens an office and serves it on a host, with the order's settings and the codes that were read.
 
 ghost use Rattle.std.specs.Prelude.{◌≡◌, ◌-◌, ◌^◌, ◌<◌, IfOk, IfSome, option_map};
 ghost use Rattle.sqlite.specs.Held.{state};
@@ -21,8 +21,8 @@ use store::Fault;
 use streams::Sink;
 use wire::{HttpSettings, Origin, Public};
 
-/// The words of `serve`: its port, the number of clients after which it ends, the origin of a proxy, and the path of a file of
-/// clerks' codes, if they are given. If the count is shown in public, there is the title for that.
+/// The words of `serve`: its port; the number of clients after which it ends, the origin of a proxy, and the path of a file of
+/// clerks' codes, where given; and, if the count is shown in public, its title.
 #[derive(Clone, Copy)]
 pub struct Serving<'a> {
     pub port: u32,
@@ -32,8 +32,8 @@ pub struct Serving<'a> {
     pub public: Option<&'a str>,
 }
 
-/// The settings for serving an office: the words of `serve`, the codes and the page of the gate, if there is one, what is shown in
-/// public, and the office's file.
+/// The settings for serving an office: the words of `serve`; the codes and the pages of the gate, if there is one; what is
+/// shown in public; and the office's file.
 #[derive(Clone, Copy)]
 pub struct ServeSettings<'a> {
     pub serving: Serving<'a>,
@@ -42,7 +42,7 @@ pub struct ServeSettings<'a> {
     pub file: FileNumbers,
 }
 
-/// Returns the failure that is printed if serving ended early.
+/// Returns the failure to print if serving ended early.
 fn failure_of(ended: ServeError) -> Failure
     ensures { result ≡ failure_by ended }
 {
@@ -52,7 +52,7 @@ fn failure_of(ended: ServeError) -> Failure
     }
 }
 
-/// Returns the number of clients after which serving ends, in 64 bits.
+/// Returns the number of clients after which serving ends, as a 64-bit number.
 fn most_of(connections: Option<u32>) -> Option<u64>
     ensures { result ≡ connections }
 {
@@ -86,7 +86,7 @@ fn serve_through<D: Network, A: ServedFile, S: Alter>(
     serve_connections(alloc, network, server_settings, most, office)
 }
 
-/// Makes the texts that are shown in public, if there is a title. The only failure is that an allocation failed.
+/// Builds the texts that are shown in public, if there is a title. The only failure is that an allocation failed.
 fn public_texts<'a>(
     alloc: Global,
     title: Option<&'a str>,
@@ -99,8 +99,8 @@ fn public_texts<'a>(
     }
 }
 
-/// Opens the network of a host, serves an open office there, and closes it. The error is that it can't be opened or that an
-/// allocation failed before it is, or why serving ended early.
+/// Opens the network of a host, serves an open office there, and closes the network. Returns an error if the network can't be
+/// opened, if an allocation fails before that, or if serving ended early.
 fn serve_at<H: Host, S: Alter>(
     alloc: Global,
     host: &mut H,
@@ -140,7 +140,7 @@ fn serve_at<H: Host, S: Alter>(
     }
 }
 
-/// Prints the failure, if there is one, and returns the status.
+/// Prints the failure, if any, and returns the status.
 fn tell_outcome<E: Sink>(outcome: Result<(), Failure>, err: &mut E) -> u8
     requires { E.failed err.old < 2 ^ 64 - 1 }
     ensures { TellsOutcome (IsErrorTold E.taken E.failed err.old err.new) (err.new ≡ err.old) result outcome }
@@ -153,9 +153,10 @@ fn tell_outcome<E: Sink>(outcome: Result<(), Failure>, err: &mut E) -> u8
 
 /// Opens the office of a connection, serves it on a host, and returns the status and the connection.
 ///
-/// If the settings name a file of clerks' codes, it is read first, and every client is served at a gate with just these codes.
-/// Without one there is no gate. The count is shown in public if the settings have a title, and under that title. If the codes can't
-/// be read, or the office or the network can't be opened, nobody is served and nothing changes. The failure is printed.
+/// If the settings name a file of clerks' codes, that file is read first, and every client is served at a gate with exactly
+/// these codes. Otherwise there is no gate. The count is shown in public if the settings have a title, under that title. If the
+/// codes can't be read, or the office or the network can't be opened, no client is served and nothing changes. Any failure is
+/// printed.
 pub fn serve<H: Host, S: Alter, E: Sink>(
     alloc: Global,
     host: &mut H,

@@ -1,4 +1,4 @@
--- Two services that look alike to a clerk send the clerk the same.
+-- Two services that look alike to a clerk send the clerk the same responses.
 use Rattle.std.proofs.Common.{◌≡◌, ◌∙◌, ◌⊎◌, ◌∷◌, List, [], Some, ap, inl, inr, map, refl, subst, sym, ℕ}
 use Rattle.std.specs.Prelude.{⊤}
 use Rattle.sqlite.specs.Held.{Held}
@@ -20,7 +20,7 @@ use Rattle.server.specs.Blind.{AnswersAsSeen, AreAnsweredAlike, AreClients, AreO
 use Rattle.server.specs.Settings.{ServerSettingsEntry}
 use Rattle.server.specs.Exchanges.{AreRefusedClosed, AsksNoOrder, EndsSo, IsClientAnsweredAt, GetsClosedResponse, Exchange}
 
--- ---- the first of a list of texts, and the others
+-- ---- the first element of a list, and the rest
 
 heads : (x y : List ℕ) (xs ys : List (List ℕ)) → x ∷ xs ≡ y ∷ ys → x ≡ y
 heads x y xs ys is = ap of is
@@ -37,7 +37,7 @@ tails x y xs ys is = ap of is
     of (z ∷ zs) = zs
 
 module _ (settings : ServerSettingsEntry) where
-  -- ---- one client at a view, and another that asks the same there
+  -- ---- a client at a view, and another client that asks for the same at that view
 
   none_sent : (view : OfficeState) (sent sent_too : List Request) → sent ≡ [] → sent_too ≡ [] → after view sent_too ≡ after view sent
   none_sent view sent sent_too none none_too = ap (after view) (none_too ∙ sym none)
@@ -74,15 +74,15 @@ module _ (settings : ServerSettingsEntry) where
       let same = AsksOneThing-all settings.clients one asked_too asked (subst (λ (b : List ℕ). Asks settings.clients b asked_too) (sym is) asks_too) asks in
       inl (asked_alike view asked sent sent_too response response_too tells (subst (λ (a : HttpRequestEntry). TellsAsked view a response_too sent_too) same tells_too))
 
-  -- ---- a clerk's own visits
+  -- ---- a clerk's own exchanges
 
-  -- they are answered at the clerk's view, until one of them isn't answered
+  -- they are answered at the clerk's view, until one of them gets no answer
   abbrev AnswersOwn : OfficeState → List Exchange → Type 0
   AnswersOwn view [] = ⊤
   AnswersOwn view (exchange ∷ own) =
       ((sent : List Request) × EndsSo exchange (IsServed (TellsFor settings.clients (Some exchange.got) view sent)) × AnswersOwn (after view sent) own) ⊎ IsUnanswered settings exchange
 
-  -- so they are alike at one view
+  -- so two lists of them are answered alike at one view
   alike_at : (view : OfficeState) (own same : List Exchange) → AnswersOwn view own → AnswersOwn view same
       → map (λ (exchange : Exchange). exchange.got) own ≡ map (λ (exchange : Exchange). exchange.got) same → AreAnsweredAlike settings own same
   alike_at view [] [] run run_too is = refl
@@ -115,25 +115,25 @@ module _ (settings : ServerSettingsEntry) where
         subst (AnswersOwn view) (sym is) (inr (inr (subst (λ (listener : Listener). GetsClosedResponse listener settings exchange) client closed)))
     away_own view (exchange ∷ exchanges) own (closed, away) (client, free, clients) (inr (not, others)) = away_own view exchanges own away clients others
 
-    -- a clerk's own visit was answered at the view
+    -- the first of a clerk's own exchanges was answered at the view
     answers_first : (view next : OfficeState) (exchange : Exchange) (later : List Exchange)
         → ((sent : List Request) × IsClientAnsweredAt settings view exchange sent × (next ≡ after view sent)) → AnswersOwn next later → AnswersOwn view (exchange ∷ later)
     answers_first view next exchange later (sent, inl (back, none), is_next) others = inr (inr (inl (inl back)))
     answers_first view next exchange later (sent, inr (free, told), is_next) others = inl (sent, told, subst (λ (v : OfficeState). AnswersOwn v later) is_next others)
 
-    -- a client that asks no order was answered as one
+    -- a client that sends no order was answered as such
     client_turn : (view next : OfficeState) (exchange : Exchange) → AsksNoOrder settings.clients exchange.got → RespondsBySeen Clients state_of settings clerk view exchange next
         → IsAnsweredBySeen settings clerk view exchange next
     client_turn view next exchange free (inl it) = it
     client_turn view next exchange free (inr it) = absurd (free it.tells.entry it.tells.asks)
 
-    -- or it met a fault
+    -- or the office had a fault
     client_stop : (view : OfficeState) (exchange : Exchange) → AsksNoOrder settings.clients exchange.got → IsStoppedBySeen Clients state_of settings clerk view exchange
         → EndsSo exchange (IsServed TellsFault)
     client_stop view exchange free (inl (none, it)) = it
     client_stop view exchange free (inr (next, it)) = absurd (free it.tells.entry it.tells.asks)
 
-    -- of all that are answered so, a clerk's own
+    -- the clerk's own exchanges, out of all that are answered in this way
     own_seen : (view : OfficeState) (exchanges own : List Exchange) → AnswersAsSeen state_of settings clerk view exchanges → AreClients settings.clients exchanges
         → AreOwn settings.clients clerk exchanges own → AnswersOwn view own
     own_seen view [] own seen clients none = subst (AnswersOwn view) (sym none) tt

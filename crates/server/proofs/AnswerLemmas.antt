@@ -1,4 +1,4 @@
--- Answers to reads: what one tells, and what is kept of it.
+-- Responses to reads: what each says, and what is cached of it.
 use Rattle.std.proofs.Common.{◌≡◌, ◌∙◌, ◌⊎◌, ◌∷◌, ◌++◌, Bool, false, true, true≢false, ℕ, List, [], Option, Some, arith, inl, inr, refl, subst, suc, sym}
 use Rattle.std.specs.List.{Contains}
 use Rattle.std.proofs.lemmas.List.Elements.{All-push}
@@ -26,14 +26,14 @@ use Rattle.server.specs.Reads.{AreReadAt, ServedOffice, IsRead, MemoryEntry, Rea
 use Rattle.server.specs.Endings.{EndsIn}
 use Rattle.server.specs.Exchanges.{ChangesNothing, EndsSo, HasAnswered, KeepsReads, ServesClient, Exchange}
 
--- ---- what an answer tells
+-- ---- what a response says
 
--- a fault has its own status
+-- a fault has a status of its own
 told_fault : (number status : ℕ) (old new : Option (List ℕ)) (response : _) → IsTold (fault_response number) response → IsPut old new response (Answered status) → status ≡ 503
 told_fault number status old new response (inl is) put = put.0 ∙ is.status
 told_fault number status old new response (inr is) put = put.0 ∙ is.status
 
--- what changes nothing was answered, and the office is at its state
+-- a request that changes nothing was answered, and the office is at the same state
 answered_still : (s : OfficeState) (asked : HttpRequestEntry) (answer : ResponseEntry) (closed : Bool) (st : State) → ChangesNothing asked → IsAnswered s asked answer closed st → IsOpenAt s closed st
 answered_still s (denied why) answer closed st still it = subst (λ (x : OfficeState). IsOpenAt x closed st) it.is.0 it.open_at
 answered_still s (shown clerk show) answer closed st still it = subst (λ (x : OfficeState). IsOpenAt x closed st) it.is.0 it.open_at
@@ -43,7 +43,7 @@ answered_still s (console show) answer closed st still it = subst (λ (x : Offic
 answered_still s (order entry) answer closed st still it = absurd still
 answered_still s (public its what) answer closed st still it = subst (λ (x : OfficeState). IsOpenAt x closed st) it.is.0 it.open_at
 
--- or it met a fault, and only read
+-- or the office had a fault, and was only read
 failed_still : (s : OfficeState) (asked : HttpRequestEntry) (f : Fault) (closed : Bool) (st : State) → ChangesNothing asked → FaultLeaves s asked f closed st → IsReadAt s closed st
 failed_still s (denied why) f closed st still leaves = absurd leaves
 failed_still s (shown clerk show) f closed st still leaves = absurd leaves
@@ -59,7 +59,7 @@ pub only_read : (s : OfficeState) (asked : HttpRequestEntry) (response : _) (clo
 only_read s asked response closed st still (entry, tells, inl answered) = inl (answered_still s asked entry closed st still answered)
 only_read s asked response closed st still (entry, tells, inr (fault, told, more)) = failed_still s asked fault closed st still more
 
--- an answer that tells no fault is the one to the read
+-- a response that doesn't report a fault is the response to the read
 no_fault : (s : OfficeState) (what : Resource) (status : ℕ) (old new : Option (List ℕ)) (response : _) (closed : Bool) (st : State) → Readies s (reading what) response closed st
     → IsPut old new response (Answered status) → (status ≡ 503 → ⊥) → IsTold (reading_response s what) response
 no_fault s what status old new response closed st (entry, tells, inl answered) put other = subst (λ (e : ResponseEntry). IsTold e response) answered.is.1 tells
@@ -98,7 +98,7 @@ module _ {S : Type 0} (state_of : Held S → State) (old new : OfficeValue S) (a
   read_told s what ReadFailed other same it = absurd other
   read_told s what WriteFailed other same it = absurd other
 
-  -- the answer that was sent is the one to the read
+  -- the response that was sent is the response to the read
   pub call_read : IsNoFault served → (HasCleanDisk (state_of new.held) → old.closed ≡ false → (s : OfficeState) → IsAt s (state_of old.held)
       → IsServed (λ response. Readies s asked response new.closed (state_of new.held)) (Some before) (Some after) served)
       → WhenOpenAt state_of old new (λ s. (what : Resource) → asked ≡ reading what → IsRead s what answer)
@@ -111,7 +111,7 @@ module _ {S : Type 0} (state_of : Held S → State) (old new : OfficeValue S) (a
       → ChangesNothing asked → WhenOpenAt state_of old new (λ s. IsReadAt s new.closed (state_of new.held))
   call_only serves still = λ clean is_open s at. let it = serves clean is_open s at in only_read s asked it.response new.closed (state_of new.held) still it.ready
 
--- ---- a response that was put
+-- ---- a response that was written
 
 pub put_first : (response : Response) (answer before after : List ℕ) (served : Served) → before ≡ [] → answer ≡ after → IsPut (Some before) (Some after) response served
     → EndsIn answer (λ old new ending. IsPut old new response ending)
@@ -120,7 +120,7 @@ put_first response answer before after served is_before is_answer it = (
   subst (λ (a : List ℕ). IsPut (Some []) (Some a) response served) (sym is_answer) (subst (λ (b : List ℕ). IsPut (Some b) (Some after) response served) is_before it),
 )
 
--- it was the one to what was asked
+-- it was the response to the request
 pub put_answers : {S : Type 0} (state_of : Held S → State) (old new : OfficeValue S) (asked : HttpRequestEntry) (answer : List ℕ) (response : Response)
     → EndsIn answer (λ before after ending. IsPut before after response ending)
     → (HasCleanDisk (state_of new.held) → old.closed ≡ false → (s : OfficeState) → IsAt s (state_of old.held) → Readies s asked response new.closed (state_of new.held))
@@ -132,10 +132,10 @@ put_answers state_of old new asked answer response (served, put) answers told st
   clean = clean;
 }
 
--- ---- a client is served
+-- ---- a client was served
 
 module _ {S : Type 0} (settings : HttpSettingsEntry) (state_of : Held S → State) where
-  -- by the office
+  -- the client was served by the office
   pub served_anew : (old new : OfficeValue S) (kept later : MemoryEntry) (number moment : ℕ) (got : List ℕ) (asked : HttpRequestEntry) (answer : List ℕ) → Asks settings got asked
       → HasAnswered state_of old asked answer new → KeepsReads settings state_of (served_office old kept) got (served_office new later)
       → ServesClient settings state_of (served_office old kept) (record { listener = Clients; number = number; moment = moment; got = got; answer = answer }) (served_office new later)
@@ -150,7 +150,7 @@ module _ {S : Type 0} (settings : HttpSettingsEntry) (state_of : Held S → Stat
     clean = has.clean;
   }
 
-  -- memory ran out while the request was read, and the cache is empty
+  -- an allocation failed while the request was parsed, and the cache is empty
   pub served_none : (office : OfficeValue S) (kept later : MemoryEntry) (number moment : ℕ) (got answer : List ℕ) → later.reads ≡ [] → EndsIn answer (IsServed (IsWritten (fault_response 101)))
       → ServesClient settings state_of (served_office office kept) (record { listener = Clients; number = number; moment = moment; got = got; answer = answer }) (served_office office later)
   served_none office kept later number moment got answer none (served, it) = record {
@@ -179,7 +179,7 @@ module _ {S : Type 0} (settings : HttpSettingsEntry) (state_of : Held S → Stat
     },
   )
 
-  -- from what was kept
+  -- the client was served from the cache
   pub served_again : (office : OfficeValue S) (kept : MemoryEntry) (number moment : ℕ) (got : List ℕ) (what : Resource) (answer : List ℕ) (entry : ReadEntry)
       → office.closed ≡ false → Asks settings got (reading what)
       → Contains kept.reads entry → entry.what ≡ what → entry.answer ≡ answer
@@ -194,7 +194,7 @@ module _ {S : Type 0} (settings : HttpSettingsEntry) (state_of : Held S → Stat
     clean = λ clean. clean;
   }
 
-  -- and then a wrong code is noted
+  -- and then a wrong code is counted
   pub noted_still : (old : ServedOffice S) (exchange : Exchange) (new : OfficeValue S) (kept later : MemoryEntry) → later.reads ≡ kept.reads
       → ServesClient settings state_of old exchange (served_office new kept)
       → ServesClient settings state_of old exchange (served_office new later)
@@ -205,18 +205,18 @@ module _ {S : Type 0} (settings : HttpSettingsEntry) (state_of : Held S → Stat
     clean = it.clean;
   }
 
-  -- ---- what is kept of it
+  -- ---- what is cached of it
 
   behind : (s : OfficeState) (gone kept : List ReadEntry) → AreReadAt s (gone ++ kept) → AreReadAt s kept
   behind s [] kept right = right
   behind s (one ∷ gone) kept right = behind s gone kept (λ place entry within. right (suc place) entry (omega (arith, within)))
 
-  -- nothing more is kept
+  -- nothing more is cached
   pub keeps_same : (old new : OfficeValue S) (kept : MemoryEntry) (got : List ℕ) (asked : HttpRequestEntry) → Asks settings got asked → ChangesNothing asked
       → WhenOpenAt state_of old new (λ s. IsReadAt s new.closed (state_of new.held)) → KeepsReads settings state_of (served_office old kept) got (served_office new kept)
   keeps_same old new kept got asked asks still only = inr ((asked, asks, still), λ clean is_open s at right. (right, only clean is_open s at))
 
-  -- this answer may be kept too, and the oldest were removed
+  -- this response may be cached too, and the oldest ones were removed
   pub keeps_more : (old new : OfficeValue S) (kept later : MemoryEntry) (got : List ℕ) (what : Resource) (answer told : List ℕ) → told ≡ answer → Asks settings got (reading what)
       → WhenOpenAt state_of old new (λ s. IsRead s what answer) → WhenOpenAt state_of old new (λ s. IsReadAt s new.closed (state_of new.held))
       → (gone left : List ReadEntry) × (kept.reads ≡ gone ++ left) × ((later.reads ≡ left) ⊎ (later.reads ≡ left ++ record { what = what; answer = told } ∷ []))
@@ -236,6 +236,6 @@ module _ {S : Type 0} (settings : HttpSettingsEntry) (state_of : Held S → Stat
     ),
   )
 
--- nothing was sent yet
+-- nothing has been sent yet
 pub told_zero : {L : Type 0} (stream : Stream L) (now : L) (answer : List ℕ) (sent : ℕ) → sent ≡ 0 → HasTaken (stream.taken now) [] → IsSent stream now answer sent
 told_zero {L} stream now answer sent none fresh = subst (λ (n : ℕ). IsSent stream now answer n) (sym none) (record { within = omega arith; took = fresh })

@@ -1,4 +1,4 @@
--- What a clerk is sent follows from what the clerk sees.
+-- What a clerk is sent is determined by what the clerk sees.
 use Rattle.std.proofs.Common.{◌≡◌, ◌∙◌, ◌∷◌, ◌++◌, ◌==◌, ◌&&◌, Bool, Err, List, [], Ok, Some, None, Option, ap, cond, false, inl, inr, refl, string_bytes, subst, sym, true, ℕ}
 use Rattle.std.proofs.lemmas.Bool.{both_ways, eq-eqb, eqb-true}
 use Rattle.std.specs.Str.{bytes_eq}
@@ -39,22 +39,22 @@ use Rattle.server.specs.Exchanges.{AnswersInTurn, AsksNoOrder, IsAnsweredAt, IsC
 
 -- ---- requests under a clerk's number
 
--- such a request asks no order
+-- such a request isn't an order
 pub under_no_order : (settings : HttpSettingsEntry) (clerk : ℕ) (bytes : List ℕ) → IsUnder settings clerk bytes → AsksNoOrder settings bytes
 under_no_order settings clerk bytes under entry asks =
     let one : under.asked ≡ order entry = AsksOneThing-all settings bytes under.asked (order entry) under.asks asks in
     let bad : None ≡ Some clerk = sym (ap clerk_asked one) ∙ under.its in
     absurd (cc bad)
 
--- ---- what a request makes of a view
+-- ---- how a request changes a view
 
--- what an outcome tells doesn't hang on the state that it changes
+-- the reply in an outcome doesn't depend on the state that the outcome changes
 told_anywhere : (s t : OfficeState) (ruling : Ruling) → told_of (outcome_at s ruling) ≡ told_of (outcome_at t ruling)
 told_anywhere s t (accepts change reply) = refl
 told_anywhere s t (keeps reply) = refl
 told_anywhere s t (refuses why) = refl
 
--- a request that isn't a clerk's keys nothing
+-- a request that isn't from a clerk keys nothing
 none_keyed : (s : OfficeState) (actor : ℕ) (id : List ℕ) (c : KeyingCommand) → is_clerk actor ≡ false → state_after s (step s actor id (command.Keying c)) ≡ s
 unfolding step decided
 none_keyed s actor id c no_clerk = go (is_id id) (receipt_at s actor id)
@@ -64,7 +64,7 @@ none_keyed s actor id c no_clerk = go (is_id id) (receipt_at s actor id)
     go true (Some r) = elim (bytes_eq r.subject (subject_of (command.Keying c))) as (λ b. state_after s (outcome_at s (cond b (keeps r.reply) (refuses IdUsed))) ≡ s) [ true ↦ refl | false ↦ refl ]
     go true None = rw no_clerk refl
 
--- the office is no clerk
+-- the office isn't a clerk
 no_clerk : (actor : ℕ) → is_office actor ≡ true → is_clerk actor ≡ false
 no_clerk actor office = ap is_clerk (eqb-true actor 0 office)
 
@@ -76,7 +76,7 @@ no_office actor is = go (is_office actor) refl
     go false other = other
     go true office = absurd (both_ways (is_clerk actor) (no_clerk actor office) is)
 
--- one number
+-- two equal numbers
 some_same : (n m : ℕ) → Some n ≡ Some m → n ≡ m
 some_same n m is = ap of is
   where
@@ -98,13 +98,13 @@ module _ (itself : SeenIsAlike) (alike : AlikeOfficesAnswerAlike) (seen : SeenIs
       ((alike clerk s view good (itself clerk s)).decided (string_bytes r.id) r.command) in
       told_anywhere s view (ruling_on s r) ∙ ap (λ (ruling : Ruling). told_of (outcome_at view ruling)) same
 
-  -- it makes the next view
+  -- it leads to the next view
   own_seen : (s : OfficeState) (r : Request) → IsState s → r.actor ≡ clerk → seen_by clerk (after s (r ∷ [])) ≡ after (seen_by clerk s) (r ∷ [])
   own_seen s r state its =
       seen clerk s (r ∷ []) good state
       ∙ ap (λ (b : Bool). seen_after clerk (seen_by clerk s) (cond b (observes r ∷ []) (cond (is_office r.actor) (observed_of (ruling_on s r)) []) ++ [])) (eq-eqb r.actor clerk its)
 
-  -- another's keying leaves the view
+  -- another clerk's keying leaves the view unchanged
   other_seen : (s : OfficeState) (r : Request) (c : KeyingCommand) → IsState s → r.command ≡ command.Keying c → (r.actor == clerk) ≡ false → seen_by clerk (after s (r ∷ [])) ≡ seen_by clerk s
   other_seen s r c state keys other = go (is_office r.actor) refl
     where
@@ -133,7 +133,7 @@ module _ (itself : SeenIsAlike) (alike : AlikeOfficesAnswerAlike) (seen : SeenIs
       ap (λ (keyed : Option (Option KeyedRoundEntry)). read_response (earlier_response batch) (cond (is_clerk clerk && is_batch_number batch) (found_or NotItsClerk keyed) (Err NumberOutOfRange)))
       (sym (earlier_seen s clerk batch))
 
-  -- a clerk's reads are of what the clerk sees
+  -- a clerk reads only what the clerk sees
   read_seen : (s : OfficeState) (what : Resource) → clerk_asked (reading what) ≡ Some clerk → reading_response s what ≡ reading_response (seen_by clerk s) what
   read_seen s (Work n) its =
       let same : n ≡ clerk = some_same n clerk its in
@@ -148,10 +148,10 @@ module _ (itself : SeenIsAlike) (alike : AlikeOfficesAnswerAlike) (seen : SeenIs
   read_seen s (Declaration ward) its = absurd (cc its)
   read_seen s (Office read) its = absurd (cc its)
 
-  -- ---- one turn
+  -- ---- one exchange
 
   module _ {S : Type 0} (state_of : Held S → State) (settings : ServerSettingsEntry) where
-    -- nothing was handed on
+    -- nothing was sent to the office
     nothing_sent : (s : OfficeState) (exchange : Exchange) (sent : List Request) → sent ≡ []
         → (IsUnder settings.clients clerk exchange.got → IsClientAnsweredAt settings (seen_by clerk s) exchange [])
         → ((why : RequestError) → Asks settings.clients exchange.got (denied why) → IsClientAnsweredAt settings (seen_by clerk s) exchange [])
@@ -160,7 +160,7 @@ module _ (itself : SeenIsAlike) (alike : AlikeOfficesAnswerAlike) (seen : SeenIs
         let same : seen_by clerk (after s sent) ≡ seen_by clerk s = ap (λ (rs : List Request). seen_by clerk (after s rs)) none in
         record { own = λ under. ([], answers under, same); denied = denies; other = λ not. same }
 
-    -- a keying was handed on, the clerk's own or another's
+    -- a keying was sent to the office, the clerk's own or another's
     keying_seen : (s : OfficeState) (exchange : Exchange) (served : Served) (n batch : ℕ) (entry : KeyingEntry) (request : Request) → IsState s → AsksNoOrder settings.clients exchange.got
         → Asks settings.clients exchange.got (keying n batch entry)
         → IsHandedOn n batch entry request → (response : _) → IsTold (told_response (told_of (step_of s request))) response → IsPut (Some []) (Some exchange.answer) response served
@@ -202,7 +202,7 @@ module _ (itself : SeenIsAlike) (alike : AlikeOfficesAnswerAlike) (seen : SeenIs
               other = λ not. other_seen s request handed.handed state handed.command apart;
             }
 
-    -- what a client asked was answered, which was no order
+    -- a client asked for something other than an order, and was answered
     asked_seen : (s : OfficeState) (exchange : Exchange) (sent : List Request) (served : Served) (asked : HttpRequestEntry) → IsState s → AsksNoOrder settings.clients exchange.got
         → Asks settings.clients exchange.got asked → (response : _)
         → TellsAsked s asked response sent → IsPut (Some []) (Some exchange.answer) response served
@@ -269,7 +269,7 @@ module _ (itself : SeenIsAlike) (alike : AlikeOfficesAnswerAlike) (seen : SeenIs
         inr (seen_by clerk (after s answered), record { s = s; seen = refl; sent = answered; last = last; tells = it; made = refl })
     stop_seen Orders s exchange answered last it = (seen_by clerk (after s answered), record { s = s; seen = refl; sent = answered; last = last; tells = it; made = refl })
 
-    -- ---- one after the other
+    -- ---- one exchange after another
 
     pub all_seen : (states : (s : OfficeState) (rs : List Request) → IsState s → IsState (after s rs)) (s : OfficeState) (exchanges : List Exchange) (answered last : List Request) → IsState s
         → AnswersInTurn state_of settings s exchanges answered last → AnswersAsSeen state_of settings clerk (seen_by clerk s) exchanges

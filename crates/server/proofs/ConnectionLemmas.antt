@@ -1,4 +1,4 @@
--- All connections that were accepted, as others are accepted, serviced or closed.
+-- All connections that were accepted, while some are accepted, serviced or closed.
 use Rattle.std.proofs.Common.{◌≡◌, ◌<◌, ◌≤◌, ◌+◌, ◌-◌, ◌∙◌, ◌⊎◌, ◌∷◌, ◌++◌, ◌==◌, ℕ, Bool, List, [], None, Option, Some, All, AllPairs, IsSomeAnd, cond}
 use Rattle.std.proofs.Common.{ap, append-nil, arith, drop, eq-eqb, get_or, inl, inr, length, length-set, map, ne_eqb, option_map, refl, remove, set, subst, sym, suc, take}
 use Rattle.std.proofs.lemmas.Bool.{cases_eq, cases_order}
@@ -23,7 +23,7 @@ use Rattle.connections.specs.Closing.{MayBeClosed}
 use Rattle.server.specs.Servicing.{answer_of}
 use Rattle.server.specs.Exchanges.{Exchange}
 
--- ---- the visits under a number
+-- ---- the exchanges under a number
 
 pub none_under : (number : ℕ) (exchanges : List Exchange) → All (λ (v : Exchange). v.number ≡ number → ⊥) exchanges → exchanges_of number exchanges ≡ []
 none_under number [] others = refl
@@ -34,7 +34,7 @@ none_under number (v ∷ vs) others =
 pub one_under : (number : ℕ) (exchange : Exchange) → exchange.number ≡ number → exchanges_of number (exchange ∷ []) ≡ exchange ∷ []
 one_under number exchange is = ap (λ (b : Bool). cond b (exchange ∷ []) []) (eq-eqb exchange.number number is)
 
--- visits of others more
+-- further exchanges of other connections
 pub same_under : (number : ℕ) (exchanges more : List Exchange) → All (λ (v : Exchange). v.number ≡ number → ⊥) more → exchanges_of number (exchanges ++ more) ≡ exchanges_of number exchanges
 same_under number exchanges more others =
     filter-append (λ (v : Exchange). v.number == number) exchanges more ∙ ap (λ (vs : List Exchange). exchanges_of number exchanges ++ vs)
@@ -47,9 +47,9 @@ first_under number exchanges exchange none is =
     filter-append (λ (v : Exchange). v.number == number) exchanges (exchange ∷ []) ∙ ap (λ (vs : List Exchange). vs ++ exchanges_of number (exchange ∷ [])) none ∙ one_under number exchange is
 
 module _ {L : Type 0} (settings : ServerSettingsEntry) (stream : Stream L) where
-  -- ---- one client
+  -- ---- one connection
 
-  -- its course so far, by what was read of it and by its answer
+  -- what has happened to it so far, given its response and what was received from it
   pub went_so : (came : Accepted L) (now : L) (got : List ℕ) (answer : Option PendingResponse) (belongs : List Exchange) → IsServedSo stream came.stream now got answer
       → HasExchangeFor (option_map (λ (a : PendingResponse). a.bytes.items) answer) belongs
       → ((exchange : Exchange) → belongs ≡ exchange ∷ [] → IsGathered settings stream came exchange) → HadExchange settings stream (record { came = came; last = now }) belongs
@@ -69,7 +69,7 @@ module _ {L : Type 0} (settings : ServerSettingsEntry) (stream : Stream L) where
   stands_still exchanges more connection client others it =
       record { listener = it.listener; last = it.last; own = it.own; belongs = subst (HasExchangeFor (answer_of client)) (sym (same_under client.number exchanges more others)) it.belongs }
 
-  -- ---- one was serviced
+  -- ---- a connection was serviced
 
   module _ (all_connections : List (ServedConnection L)) (exchanges more : List Exchange) (clients : List (Client L)) (place : ℕ) (old new : Client L)
       (within : place < length clients) (is : old ≡ get_or clients place old)
@@ -105,7 +105,7 @@ module _ {L : Type 0} (settings : ServerSettingsEntry) (stream : Stream L) where
     others : (k : ℕ) → (k ≡ old.number → ⊥) → All (λ (v : Exchange). v.number ≡ k → ⊥) more
     others k ne = All-weaker (λ (v : Exchange). v.number ≡ old.number) (λ (v : Exchange). v.number ≡ k → ⊥) (λ v is_his is_other. ne (sym is_other ∙ is_his)) more mine
 
-    -- which one it is, of those accepted
+    -- the connection in question, out of all that were accepted
     abbrev pub his_guest : ServedConnection L
     his_guest = get_or all_connections old.number (record { came = record { listener = old.listener; stream = old.stream }; last = old.stream })
 
@@ -130,7 +130,7 @@ module _ {L : Type 0} (settings : ServerSettingsEntry) (stream : Stream L) where
         ∙ ap (λ (c : Accepted L). set (map (λ (g : ServedConnection L). g.came) all_connections) old.number c) (sym came_at) ∙ set-get_or
         (map (λ (g : ServedConnection L). g.came) all_connections) old.number (record { listener = old.listener; stream = old.stream })
 
-    -- the course of all of them, given its own
+    -- what happened to all connections, given what happened to this one
     pub went_still : AllHadExchanges settings stream all_connections exchanges → HadExchange settings stream (record { came = his_guest.came; last = new.stream })
         (exchanges_of old.number (exchanges ++ more))
         → AllHadExchanges settings stream all_now (exchanges ++ more)
@@ -157,7 +157,7 @@ module _ {L : Type 0} (settings : ServerSettingsEntry) (stream : Stream L) where
     abbrev StandsIn : Client L → Type 0
     StandsIn c = (connection : ServedConnection L) → IsOpenConnection stream (exchanges ++ more) (get_or all_now c.number connection) c
 
-    -- the state of the open ones, given its own
+    -- the state of the open connections, given the state of this one
     pub stand_still : All (λ (c : Client L). (connection : ServedConnection L) → IsOpenConnection stream exchanges (get_or all_connections c.number connection) c) clients
         → IsOpenConnection stream (exchanges ++ more) (record { came = his_guest.came; last = new.stream }) new
         → All (λ (c : Client L). (connection : ServedConnection L) → IsOpenConnection stream (exchanges ++ more) (get_or all_now c.number connection) c) (set clients place new)
@@ -176,7 +176,7 @@ module _ {L : Type 0} (settings : ServerSettingsEntry) (stream : Stream L) where
             (λ connection. subst (λ (g : ServedConnection L). IsOpenConnection stream (exchanges ++ more) g (get_or clients k d)) (sym (at_other (get_or clients k d).number connection other))
             (stands_still exchanges more (get_or all_connections (get_or clients k d).number connection) (get_or clients k d) (others (get_or clients k d).number other) (stand k d at connection)))
 
-    -- each of the others is in or has left, as before
+    -- each of the others is still open or was closed before
     pub left_still : (gone : List (Removed L))
         → ((k : ℕ) (d : ServedConnection L) → k < length all_connections → IsOpenUnder clients k ⊎ WasClosed stream gone exchanges k (get_or all_connections k d))
         → (k : ℕ) (d : ServedConnection L) → k < length all_now → IsOpenUnder (set clients place new) k ⊎ WasClosed stream gone (exchanges ++ more) k (get_or all_now k d)
@@ -206,7 +206,7 @@ module _ {L : Type 0} (settings : ServerSettingsEntry) (stream : Stream L) where
               holds = subst (λ (vs : List Exchange). IsWhy stream it.why (get_or all_connections k d).last vs) (sym (same_under k exchanges more (others k ne))) it.holds;
             }))
 
-  -- ---- all of them
+  -- ---- all connections
 
   pub are_same : (all_connections : List (ServedConnection L)) (exchanges : List Exchange) (gone : List (Removed L)) (came came_then : ℕ) (clients clients_then : List (Client L))
       → came_then ≡ came → clients_then ≡ clients
@@ -215,7 +215,7 @@ module _ {L : Type 0} (settings : ServerSettingsEntry) (stream : Stream L) where
       subst (λ (n : ℕ). AreOpen settings stream all_connections exchanges gone n clients_then) (sym same_came)
       (subst (λ (cs : List (Client L)). AreOpen settings stream all_connections exchanges gone came cs) (sym same_clients) are)
 
-  -- one was serviced: all that were accepted are there as before, and so are the open ones
+  -- one was serviced: all accepted connections are as before, and so are the open ones
   pub one_went_on : (all_connections : List (ServedConnection L)) (exchanges more : List Exchange) (gone : List (Removed L)) (came : ℕ) (clients : List (Client L))
       (place : ℕ) (old new : Client L) → AreOpen settings stream all_connections exchanges gone came clients
       → place < length clients → old ≡ get_or clients place old → new.listener ≡ old.listener → new.number ≡ old.number → All (λ (v : Exchange). v.number ≡ old.number) more
@@ -249,7 +249,7 @@ module _ {L : Type 0} (settings : ServerSettingsEntry) (stream : Stream L) where
         },
       )
 
-  -- ---- one was accepted
+  -- ---- a connection was accepted
 
   abbrev pub with_one : List (ServedConnection L) → Accepted L → List (ServedConnection L)
   with_one all_connections start = all_connections ++ record { came = start; last = start.stream } ∷ []
@@ -257,7 +257,7 @@ module _ {L : Type 0} (settings : ServerSettingsEntry) (stream : Stream L) where
   one_longer : (all_connections : List (ServedConnection L)) (start : Accepted L) → length (with_one all_connections start) ≡ length all_connections + 1
   one_longer all_connections start = length_push all_connections (record { came = start; last = start.stream })
 
-  -- a new connection has had no exchange, and nothing was sent to it
+  -- a new connection has had no exchange, and nothing has been sent to it
   came_in : (all_connections : List (ServedConnection L)) (exchanges : List Exchange) (start : Accepted L) → AllHadExchanges settings stream all_connections exchanges
       → HasTaken (stream.taken start.stream) []
       → AllHadExchanges settings stream (with_one all_connections start) exchanges
@@ -293,7 +293,7 @@ module _ {L : Type 0} (settings : ServerSettingsEntry) (stream : Stream L) where
       subst (λ (g : ServedConnection L). IsOpenConnection stream exchanges g (get_or clients k d))
       (sym (get_or_append_left all_connections (record { came = start; last = start.stream } ∷ []) connection (get_or clients k d).number (known k d lt))) (stand k d lt connection)
 
-  -- a connection that was open or closed is so still
+  -- every other connection is still open, or still closed
   left_on : (all_connections : List (ServedConnection L)) (exchanges : List Exchange) (gone : List (Removed L)) (clients : List (Client L)) (start : Accepted L) (client : Client L)
       → client.number ≡ length all_connections
       → ((k : ℕ) (d : ServedConnection L) → k < length all_connections → IsOpenUnder clients k ⊎ WasClosed stream gone exchanges k (get_or all_connections k d))
@@ -351,9 +351,9 @@ module _ {L : Type 0} (settings : ServerSettingsEntry) (stream : Stream L) where
         left = left_on all_connections exchanges gone clients start client at are.left;
       }
 
-  -- ---- one left
+  -- ---- a connection was closed
 
-  -- a reason for which a client may leave holds of it
+  -- the reason for which a client may be closed applies to it
   pub why_holds : (exchanges : List Exchange) (connection : ServedConnection L) (client : Client L) (why : CloseReason) → IsOpenConnection stream exchanges connection client
       → MayBeClosed stream why client → IsWhy stream why client.stream (exchanges_of client.number exchanges)
   why_holds exchanges connection client Broken stood may = may
@@ -432,7 +432,7 @@ module _ {L : Type 0} (settings : ServerSettingsEntry) (stream : Stream L) where
       by k d (inr ne) (inl is_in) = inl (in_without clients place client within here k ne is_in)
       by k d (inr ne) (inr it) = inr (record { why = it.why; back = Contains-append_left gone (removed_of client why ∷ []) _ it.back; holds = it.holds })
 
-  -- none was accepted yet
+  -- no connection has been accepted yet
   pub none_in : AreOpen settings stream [] [] [] 0 []
   none_in = record {
     count = refl;

@@ -1,4 +1,4 @@
--- What clients and orders that are processed one after the other leave of an office.
+-- What clients and orders, processed one after another, leave of an office.
 use Rattle.std.proofs.Common.{◌≡◌, ◌≤◌, ◌+◌, ◌∙◌, ◌⊎◌, ◌∷◌, ◌++◌, append_assoc, drop, true, ℕ, Bool, List, [], Some}
 use Rattle.std.proofs.Common.{arith, inl, inr, length, length-append, refl, sym, subst, suc, take, ap}
 use Rattle.std.specs.Prelude.{false}
@@ -40,20 +40,20 @@ use Rattle.desk.specs.declared.orders.Job.{Job}
 use Rattle.server.specs.declared.served_order.ServedOrder.{ServedOrder}
 use Rattle.server.specs.declared.served_order.ServedOrder.TheVariants as asked
 
--- after some of the requests: those that were answered, and at most one more
+-- the state after some of the requests: those that were answered, and at most one more
 abbrev pub IsAfterSome : OfficeState → List Request → ℕ → OfficeState → Type 0
 IsAfterSome s rs n x = (k : ℕ) × (n ≤ k) × (k ≤ n + 1) × (k ≤ length rs) × (x ≡ after s (take k rs))
 
--- ---- one client in an open office
+-- ---- a client in an open office
 
 leaves_as : (st : State) (P Q : OfficeState → Type 0) → ((x : OfficeState) → P x → Q x) → LeavesState st P → LeavesState st Q
 leaves_as st P Q turns leaves trees may = let it = leaves trees may in (it.0, turns it.0 it.1, it.2)
 
--- a fault closed the office: a stop leaves the state before, or the one after the last request
+-- a fault closed the office: a stop leaves the state before, or the state after the last request
 abbrev ClosesAt : OfficeState → List Request → Bool → State → Type 0
 ClosesAt s last closed st = (closed ≡ true) × LeavesState st (IsAfterSome s last 0)
 
--- what an answer that is ready leaves: so much was handed on for it; or it tells a fault that closed the office
+-- what a response that is ready leaves: these requests were sent to the office for it; or it reports a fault that closed the office
 abbrev ReadyLeaves : HttpSettingsEntry → List ℕ → OfficeState → (List Request → Type 0) → Type 0 → Bool → State → Type 0
 ReadyLeaves settings bytes s Tells Fails closed st =
     ((sent : List Request) × Tells sent × IsOpenAt (after s sent) closed st) ⊎ ((last : List Request) × Fails × IsLastFor settings bytes last × ClosesAt s last closed st)
@@ -85,7 +85,7 @@ ready_answered settings bytes s (keying clerk batch entry) answer response close
       subst (λ x. IsOpenAt x closed st) (next ∙ ap (state_after s) same) it.open_at,
     )
 
--- a failed allocation is reported as that
+-- a failed allocation is reported as such
 tells_memory : (fault : Fault) (response : _) → fault ≡ Memory → IsTold (fault_response (fault_number fault)) response → IsWritten (fault_response 101) response
 tells_memory fault response is tells = by (subst (λ (f : Fault). IsTold (fault_response (fault_number f)) response) is tells)
   where
@@ -93,7 +93,7 @@ tells_memory fault response is tells = by (subst (λ (f : Fault). IsTold (fault_
     by (inl written) = written
     by (inr written) = written
 
--- and one of the store, or of either, has its number
+-- and a fault of the store, or of either, is reported under its number
 tells_fault : (fault : Fault) (response : _) → IsMemoryOrStore fault → IsTold (fault_response (fault_number fault)) response → TellsFault response
 tells_fault fault response (inl memory) tells = inr (tells_memory fault response memory tells)
 tells_fault fault response (inr store) tells = subst (λ (f : Fault). IsTold (fault_response (fault_number f)) response) store tells
@@ -161,23 +161,23 @@ client_leaves settings s exchange closed st (served, it) = elim (ready_leaves se
   | inr (last, fails, is_last, closes) ↦ inr (last, (served, record { response = it.response; ready = fails; put = it.put }), is_last, closes)
 ]
 
--- ---- one order in an open office
+-- ---- an order in an open office
 
--- what an order that was followed leaves: the office is open at the state after what was answered; or it is closed, and a stop leaves that, or the state after
--- the next one
+-- what an order that was carried out leaves: the office is open at the state after what was answered; or it is closed, and a stop leaves that state, or the state after
+-- the next request
 abbrev OrderLeaves : {S : Type 0} → (Held S → State) → Folder → OfficeState → ServedOrder → Cut → Page → Bool → State → Type 0
 OrderLeaves state_of folder s what cut page closed st =
     ((sent : List Request) × (last : List Request) × PrintsAt state_of folder s what cut page sent last × IsOpenAt (after s sent) closed st)
     ⊎ ((sent : List Request) × (last : List Request) × PrintsAt state_of folder s what cut page sent last × (closed ≡ true) × LeavesState st (IsAfterSome s (sent ++ last) (length sent)))
 
 module _ {S : Type 0} (state_of : Held S → State) (folder : Folder) (s : OfficeState) where
-  -- nothing was sent, and the office is open at its state, or its store failed
+  -- nothing was sent, and the office is open at the same state, or its store failed
   none_sent : (what : ServedOrder) (cut : Cut) (page : Page) (closed : Bool) (st : State) → PrintsAt state_of folder s what cut page [] [] → IsReadAt s closed st
       → OrderLeaves state_of folder s what cut page closed st
   none_sent what cut page closed st tells (inl open_at) = inl ([], [], tells, open_at)
   none_sent what cut page closed st tells (inr (is_closed, leaves)) = inr ([], [], tells, is_closed, leaves_as st _ _ (before_last s []) leaves)
 
-  -- a job was done
+  -- a job was carried out
   job_leaves : (old new : OfficeValue S) (job : Job) (cut : Cut) (page : Page) (requests : List Request) (answered : ℕ)
       → IsDone (state_of old.held) new.closed (state_of new.held) folder s job (record { requests = requests; answered = answered; page = page; cut = cut }) → (b : Bool) → new.closed ≡ b
       → OrderLeaves state_of folder s (asked.Do job) cut page new.closed (state_of new.held)
@@ -208,21 +208,21 @@ module _ {S : Type 0} (state_of : Held S → State) (folder : Folder) (s : Offic
   order_leaves old new (asked.Refused failure) cut page it = none_sent (asked.Refused failure) cut page new.closed (state_of new.held) (it.0, refl, refl) (inl it.1)
   order_leaves old new (asked.Misread fault) cut page it = none_sent (asked.Misread fault) cut page new.closed (state_of new.held) (it.0, refl, refl) (inl it.1)
 
--- ---- one after the other
+-- ---- one request after another
 
--- what a processed request leaves: its answer, the office, still open, and the cached answers, right at its state; or a fault closed it
+-- what a processed request leaves: its response, and the office, still open, with the cached responses right at its state; or a fault closed the office
 abbrev TurnLeaves : {S : Type 0} → Listener → (Held S → State) → ServerSettingsEntry → OfficeState → Exchange → List ReadEntry → Bool → State → Type 0
 TurnLeaves listener state_of settings s exchange reads closed st =
     ((sent : List Request) × IsAnsweredAt listener state_of settings s exchange sent × AreReadAt (after s sent) reads × IsOpenAt (after s sent) closed st)
     ⊎ ((answered : List Request) × (last : List Request) × IsStoppedAt listener state_of settings s exchange answered last × (closed ≡ true) × LeavesState st
     (IsAfterSome s (answered ++ last) (length answered)))
 
--- ---- what is kept of reads
+-- ---- what is cached of reads
 
 none_read : (s : OfficeState) (reads : List ReadEntry) → reads ≡ [] → AreReadAt s reads
 none_read s reads none = subst (λ (rs : List ReadEntry). AreReadAt s rs) (sym none) (All-nil (λ (r : ReadEntry). IsRead s r.what r.answer))
 
--- for what changes nothing, nothing is handed on
+-- for a request that changes nothing, nothing is sent to the office
 nothing_sent : (settings : HttpSettingsEntry) (s : OfficeState) (exchange : Exchange) (asked : HttpRequestEntry) (sent : List Request) → Asks settings exchange.got asked → ChangesNothing asked
     → EndsSo exchange (IsServed (TellsFor settings (Some exchange.got) s sent)) → sent ≡ []
 nothing_sent settings s exchange asked sent asks still (served, it) = by it.ready
@@ -241,11 +241,11 @@ nothing_sent settings s exchange asked sent asks still (served, it) = by it.read
     by (inr (fault, none)) = none
 
 module _ {S : Type 0} (settings : ServerSettingsEntry) (state_of : Held S → State) where
-  -- a client that must wait leaves all unchanged
+  -- a client that must wait leaves everything unchanged
   stays_clean : (old new : ServedOffice S) → new ≡ old → HasCleanDisk (state_of new.office.held) → HasCleanDisk (state_of old.office.held)
   stays_clean old new stays clean = subst (λ (d : ServedOffice S). HasCleanDisk (state_of d.office.held)) stays clean
 
-  -- a client that is rejected gets that response, and all is unchanged
+  -- a client that is rejected gets that response, and everything is unchanged
   turned_back : (exchange : Exchange) (old new : ServedOffice S) → IsRateLimited settings.clients old exchange new ⊎ IsWithoutFile settings old exchange new
       → IsRejected settings exchange × (new ≡ old)
   turned_back exchange old new (inl waits) = (inl waits.told, waits.stays)
@@ -256,7 +256,7 @@ module _ {S : Type 0} (settings : ServerSettingsEntry) (state_of : Held S → St
   asked_clean exchange old new (inl (free, it)) clean = it.clean clean
   asked_clean exchange old new (inr (it, emptied)) clean = it.follows.tells.clean clean
 
-  -- a client that is let in finds the office closed
+  -- a client that is admitted finds the office closed
   asked_away : (exchange : Exchange) (old new : ServedOffice S) → ServesAsked settings state_of old exchange new
       → old.office.closed ≡ true → GetsClosedResponse Clients settings exchange × (new.office ≡ old.office)
   asked_away exchange old new (inl (free, it)) closed = let (told, stays) = it.turned_away closed in (inl (inr (free, told)), stays)
@@ -289,7 +289,7 @@ module _ {S : Type 0} (settings : ServerSettingsEntry) (state_of : Held S → St
       let (page, stays) = it.tells.turned_away closed in
       (record { files = it.files; asked = it.asked; is = it.is; cut = it.tells.cut; told = subst (λ (p : Page). IsFramed it.tells.cut p exchange.answer) page it.tells.told }, stays)
 
-  -- what is cached after a served client is right at the state after it
+  -- what is cached after a client was served is right at the state after it
   kept_right : (s : OfficeState) (exchange : Exchange) (old new : ServedOffice S) → ServesClient settings.clients state_of old exchange new
       → HasCleanDisk (state_of new.office.held) → old.office.closed ≡ false
       → IsAt s (state_of old.office.held) → AreReadAt s old.kept.reads → (sent : List Request) → EndsSo exchange (IsServed (TellsFor settings.clients (Some exchange.got) s sent))
@@ -302,7 +302,7 @@ module _ {S : Type 0} (settings : ServerSettingsEntry) (state_of : Held S → St
           let still = keeps clean is_open s at right in
           subst (λ (rs : List Request). AreReadAt (after s rs) new.kept.reads) (sym (nothing_sent settings.clients s exchange asked sent asks nothing told)) still.0
 
-  -- a client that asks no order was served
+  -- a client that sends no order was served
   served_leaves : (s : OfficeState) (exchange : Exchange) (old new : ServedOffice S) → AsksNoOrder settings.clients exchange.got → ServesClient settings.clients state_of old exchange new
       → HasCleanDisk (state_of new.office.held) → old.office.closed ≡ false
       → IsAt s (state_of old.office.held) → AreReadAt s old.kept.reads → TurnLeaves Clients state_of settings s exchange new.kept.reads new.office.closed (state_of new.office.held)
@@ -312,7 +312,7 @@ module _ {S : Type 0} (settings : ServerSettingsEntry) (state_of : Held S → St
         | inr (last, ends, is_last, (is_closed, leaves)) ↦ inr ([], last, inl (record { no_order = free; told = ends; none = refl; is_last = is_last }), is_closed, leaves)
       ]
 
-  -- so it was, or its order was followed
+  -- the same, or its order was carried out
   asked_leaves : (s : OfficeState) (exchange : Exchange) (old new : ServedOffice S) → ServesAsked settings state_of old exchange new
       → HasCleanDisk (state_of new.office.held) → old.office.closed ≡ false
       → IsAt s (state_of old.office.held) → AreReadAt s old.kept.reads → TurnLeaves Clients state_of settings s exchange new.kept.reads new.office.closed (state_of new.office.held)
@@ -368,7 +368,7 @@ module _ {S : Type 0} (settings : ServerSettingsEntry) (state_of : Held S → St
       let others = turned_away exchanges mid new rest (ap (λ (o : OfficeValue S). o.closed) stays ∙ closed) in
       ((away, others.0), others.1 ∙ stays)
 
-  -- what is cached of those that are processed from a state on
+  -- what is kept of exchanges that are processed from a state on
   pub record Keeps (s : OfficeState) (exchanges : List Exchange) (closed : Bool) (st : State) : Type 0 where
     pub answered : List Request
     pub last : List Request
@@ -382,7 +382,7 @@ module _ {S : Type 0} (settings : ServerSettingsEntry) (state_of : Held S → St
       let more = behind (after_one s r) sent rest n x it in
       (suc more.0, omega (arith, more.1), omega (arith, more.2), omega (arith, more.3), more.4)
 
-  -- one was answered, and the others follow
+  -- one exchange was answered, and the others follow
   goes_on : (s : OfficeState) (sent : List Request) (exchange : Exchange) (exchanges : List Exchange) (closed : Bool) (st : State) → (others : Keeps (after s sent) exchanges closed st)
       → AnswersInTurn state_of settings s (exchange ∷ exchanges) (sent ++ others.answered) others.last → Keeps s (exchange ∷ exchanges) closed st
   goes_on s sent exchange exchanges closed st others in_turn = record {
@@ -397,7 +397,7 @@ module _ {S : Type 0} (settings : ServerSettingsEntry) (state_of : Held S → St
         others.leaves;
   }
 
-  -- the office is closed since then
+  -- the office has been closed since then
   shut : (s : OfficeState) (answered last : List Request) (exchanges : List Exchange) (closed : Bool) (st : State) → closed ≡ true → AnswersInTurn state_of settings s exchanges answered last
       → LeavesState st (IsAfterSome s (answered ++ last) (length answered)) → Keeps s exchanges closed st
   shut s answered last exchanges closed st is_closed in_turn leaves = record {
@@ -431,7 +431,7 @@ module _ {S : Type 0} (settings : ServerSettingsEntry) (state_of : Held S → St
             (shut s answered last (exchange ∷ exchanges) mid.office.closed (state_of mid.office.held) is_closed (inr (stopped, away.0)) leaves)
       ]
 
-  -- the same after earlier requests, where no answer is kept yet
+  -- the same after earlier requests, when no response is cached yet
   pub kept_of : (earlier : List Request) (exchanges : List Exchange) (old : OfficeValue S) (new : ServedOffice S)
       → FoldsTo (ServesExchange settings state_of) (with_none_kept old) exchanges new
       → HasCleanDisk (state_of new.office.held) → old.closed ≡ false → IsAt (after empty_office earlier) (state_of old.held)

@@ -30,13 +30,13 @@ pub record IsRead (s : OfficeState) (what : Resource) (answer : List ℕ) : Type
   pub status : ℕ
   pub told : IsServed (λ response. IsTold (reading_response s what) response) (Some []) (Some answer) (Answered status)
 
--- a response was written whole, and it is no fault (503)
+-- a response was written completely, and isn't a fault (503)
 abbrev pub IsNoFault : Served → Type 0
 IsNoFault (Answered status) = status ≡ 503 → ⊥
 IsNoFault ReadFailed = ⊥
 IsNoFault WriteFailed = ⊥
 
--- each cached response is the one at this state
+-- each cached response is the right one at this state
 abbrev pub AreReadAt : OfficeState → List ReadEntry → Type 0
 AreReadAt s reads = All (λ r. IsRead s r.what r.answer) reads
 
@@ -47,14 +47,14 @@ abbrev pub must_wait : Option AuthenticationEntry → ℕ → LimitEntry → Boo
 must_wait None now limit = false
 must_wait (Some authentication) now limit = authentication.is_wrong && is_reached limit now
 
--- the wrong codes that were sent, including this client's
+-- the wrong codes sent so far, including this client's
 abbrev pub limit_after : Option AuthenticationEntry → ℕ → LimitEntry → LimitEntry
 limit_after None now limit = limit
 limit_after (Some authentication) now limit = if authentication.is_wrong then counted now limit else limit
 
 -- ---- both
 
--- the cached responses, and the wrong codes that were sent
+-- the cached responses, and the wrong codes sent so far
 pub record MemoryEntry : Type 0 where
   pub reads : List ReadEntry
   pub limit : LimitEntry
@@ -62,7 +62,7 @@ pub record MemoryEntry : Type 0 where
 abbrev pub memory_entry : ServerState → MemoryEntry
 memory_entry kept = record { reads = reads_in kept.reads; limit = limit_entry kept.limit }
 
--- an office that is served, and the server's memory
+-- an office that is served, together with the server's memory
 pub record ServedOffice (S : Type 0) : Type 0 where
   pub office : OfficeValue S
   pub kept : MemoryEntry
@@ -70,6 +70,6 @@ pub record ServedOffice (S : Type 0) : Type 0 where
 abbrev pub served_office : {S : Type 0} → OfficeValue S → MemoryEntry → ServedOffice S
 served_office office kept = record { office = office; kept = kept }
 
--- an office with an empty cache, and without wrong codes
+-- an office with an empty cache and no wrong codes
 abbrev pub with_none_kept : {S : Type 0} → OfficeValue S → ServedOffice S
 with_none_kept office = served_office office (record { reads = []; limit = none_wrong })

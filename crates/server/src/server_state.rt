@@ -10,8 +10,7 @@ use codes::RateLimit;
 use std::alloc::{AllocError, Global};
 use wire::{Authentication, Routes};
 
-/// What the server keeps between requests: the cache of reads, the limit on wrong codes, and the routes, which are made
-/// once.
+/// What the server keeps between requests: the cache of reads, the limit on wrong codes, and the routes, which are built once.
 #[derive(Drop)]
 pub struct ServerState {
     pub alloc: Global,
@@ -21,7 +20,8 @@ pub struct ServerState {
 }
 
 impl ServerState {
-    /// Returns an empty cache, a limit without wrong codes, and the routes. The only error is a failed allocation.
+    /// Returns a state with an empty cache, a limit with no wrong codes counted, and the routes. The only error is a failed
+    /// allocation.
     pub fn new(alloc: Global) -> Result<ServerState, AllocError>
         ensures { IfOk result (λ kept. memory_entry kept ≡ record { reads = []; limit = none_wrong }) }
     {
@@ -33,7 +33,7 @@ impl ServerState {
         })
     }
 
-    /// Returns whether a client must wait at a moment: its code is wrong, and the rate limit is reached.
+    /// Returns whether a client must wait at this time: its code is wrong, and the rate limit is reached.
     pub fn must_wait(&self, authentication: Option<Authentication>, now: u64) -> bool
         ensures { result ≡ must_wait (option_map authentication_entry authentication) now (limit_entry self.now.limit) }
     {
@@ -43,7 +43,7 @@ impl ServerState {
         }
     }
 
-    /// Counts a wrong code, if the request has one.
+    /// Counts a wrong code, if the request carries one.
     pub fn count_if_wrong(&mut self, authentication: Option<Authentication>, now: u64)
         ensures reads { reads_in self.new.reads ≡ reads_in self.old.reads }
         ensures limit { limit_entry self.new.limit ≡ limit_after (option_map authentication_entry authentication) now (limit_entry self.old.limit) }

@@ -1,4 +1,4 @@
-//! How a connection is serviced: its request is received, processed once it is complete, and its response is sent.
+//! How a connection is serviced: its request is received and, once complete, processed; then its response is sent.
 
 ghost use Rattle.std.specs.Prelude.{◌≡◌, ◌≢◌, ◌⊎◌, ◌++◌, ℕ, [], Err, IfOk, IfSome, List, None, Ok, Some, false, true};
 ghost use Rattle.sqlite.specs.Held.{state};
@@ -40,17 +40,17 @@ use wire::{
     write_response, write_wait_response,
 };
 
-/// The status of a response with a fault, which isn't cached.
+/// The status of a response that reports a fault, which isn't cached.
 const FAULT: u16 = 503;
 
 /// The outcome of servicing a connection.
 #[derive(Clone, Copy)]
 pub enum Serviced {
-    /// More of its request is to come, or more of its response is to be sent.
+    /// More of its request is still to arrive, or more of its response is still to be sent.
     Waits,
-    /// Its request was processed just now, and more of its response is to be sent.
+    /// Its request has just been processed, and more of its response is still to be sent.
     Served,
-    /// It is to be closed, for this reason.
+    /// It should be closed, for this reason.
     Leaves(CloseReason),
 }
 
@@ -82,7 +82,7 @@ fn receive_body<L: Stream>(
     }
 }
 
-/// Receives the request of a client. Returns its parsed head once the request is complete, or the client sends no more.
+/// Receives a client's request. Returns its parsed head once the request is complete or the client stops sending.
 fn receive_request<L: Stream>(
     client: &mut Client<L>,
     settings: HttpSettings<'_>,
@@ -114,7 +114,7 @@ fn receive_request<L: Stream>(
     }
 }
 
-/// Returns whether a response was written whole, and is no fault.
+/// Returns whether a response was written completely and isn't a fault.
 fn may_be_cached(served: Served) -> bool
     ensures { result ≡ true → IsNoFault served }
 {
@@ -125,8 +125,8 @@ fn may_be_cached(served: Served) -> bool
     }
 }
 
-/// Processes a request in the office. Returns the response, of which nothing was sent yet, and whether it is whole and no fault.
-/// If an allocation fails, it is only a beginning.
+/// Processes a request in the office. Returns the response, none of which has been sent yet, and whether it is complete and not
+/// a fault. If an allocation fails, the response is truncated.
 fn response_to<S: Alter>(
     alloc: Global,
     asked: HttpRequest<'_>,
@@ -143,8 +143,8 @@ fn response_to<S: Alter>(
     (writer.into_bytes(), is_cacheable)
 }
 
-/// Returns the response to a read; nothing of it was sent yet. It is the cached one, if there is one; otherwise the office is
-/// asked, and its response is cached.
+/// Returns the response to a read; none of it has been sent yet. If the response is cached, returns the cached one; otherwise
+/// asks the office, and caches its response.
 fn answer_reading<S: Alter>(
     what: Resource,
     office: &mut Office<S>,
@@ -168,7 +168,7 @@ fn answer_reading<S: Alter>(
     PendingResponse { bytes, sent: 0 }
 }
 
-/// Returns a response in memory; nothing of it was sent yet. If an allocation fails, it is only a beginning.
+/// Returns a response in memory; none of it has been sent yet. If an allocation fails, the response is truncated.
 fn written(alloc: Global, response: &Response) -> PendingResponse
     ensures put { EndsIn result.bytes.items (λ old new served. IsPut old new response.now served) }
     ensures untold { result.sent ≡ 0 }
@@ -181,8 +181,8 @@ fn written(alloc: Global, response: &Response) -> PendingResponse
     }
 }
 
-/// Returns the response to a client that is let in, of which these bytes were received; nothing of it was sent yet. The cache is
-/// emptied before a keying or an order, and if an allocation for the request fails.
+/// Returns the response to a client that is admitted, given the bytes received from it; none of the response has been sent yet.
+/// The cache is emptied before a keying or an order, and if an allocation for the request fails.
 fn answer_request<A: ServedFile, S: Alter>(
     server_settings: ServerSettings<'_, A>,
     parsed: Parsed,
@@ -231,7 +231,7 @@ fn answer_request<A: ServedFile, S: Alter>(
     }
 }
 
-/// Returns the response to a client that must wait; nothing of it was sent yet.
+/// Returns the response to a client that must wait; none of it has been sent yet.
 fn wait_response(alloc: Global) -> PendingResponse
     ensures told { (exchange : Exchange) → exchange.answer ≡ result.bytes.items → IsWaitResponse exchange }
     ensures untold { result.sent ≡ 0 }
@@ -244,7 +244,7 @@ fn wait_response(alloc: Global) -> PendingResponse
     }
 }
 
-/// Returns the response while the file of the office is gone or replaced; nothing of it was sent yet.
+/// Returns the response while the file of the office is gone or replaced; none of it has been sent yet.
 fn gone_response(alloc: Global) -> PendingResponse
     ensures told { (exchange : Exchange) → exchange.answer ≡ result.bytes.items → IsGoneResponse exchange }
     ensures untold { result.sent ≡ 0 }
@@ -257,7 +257,7 @@ fn gone_response(alloc: Global) -> PendingResponse
     }
 }
 
-/// Returns the response if an allocation for a request failed; nothing of it was sent yet.
+/// Returns the response when an allocation for a request failed; none of it has been sent yet.
 fn no_memory_response(alloc: Global) -> PendingResponse
     ensures told { EndsIn result.bytes.items (IsServed (IsWritten (fault_response 101))) }
     ensures untold { result.sent ≡ 0 }
@@ -270,7 +270,7 @@ fn no_memory_response(alloc: Global) -> PendingResponse
     }
 }
 
-/// Returns whether the file of the office is gone or replaced, and the request is no read of an open office.
+/// Returns whether the file of the office is gone or replaced and the request isn't a read of an open office.
 fn is_without_file<A: ServedFile>(served_file: &A, parsed: Parsed, is_closed: bool) -> bool
     ensures unknown { result ≡ true → A.whole served_file.now ≡ Some true → ⊥ }
     ensures reads_none { result ≡ true → is_closed ≡ false → (its : HttpSettingsEntry) (got : List ℕ) → IsParsed its got parsed → (what : Resource) → Asks its got (reading what) → ⊥ }
@@ -284,7 +284,7 @@ fn is_without_file<A: ServedFile>(served_file: &A, parsed: Parsed, is_closed: bo
     }
 }
 
-/// A client's request that is processed: its parsed head, its bytes, and the time of the clock.
+/// A client's request to be processed: its parsed head, its bytes, and the time of the clock.
 #[derive(Clone, Copy)]
 struct ReceivedRequest<'a> {
     parsed: Parsed,
@@ -292,9 +292,10 @@ struct ReceivedRequest<'a> {
     moment: u64,
 }
 
-/// Returns the response to a client; nothing of it was sent yet. If its code is wrong and the rate limit is reached, the response
-/// is to wait. If the file of the office is gone or replaced, the response says so, except to a read of an open office. In both
-/// cases nothing else is done. Otherwise the request is processed, and its code is counted if it is wrong.
+/// Returns the response to a client; none of it has been sent yet. If the client's code is wrong and the rate limit is reached,
+/// the response says that the client must wait. If the file of the office is gone or replaced, the response says so, except to
+/// a read of an open office. In both cases nothing else is done. Otherwise the request is processed and, if its code is wrong,
+/// the code is counted.
 fn answer_client<A: ServedFile, S: Alter>(
     server_settings: ServerSettings<'_, A>,
     due: ReceivedRequest<'_>,
@@ -323,7 +324,7 @@ fn answer_client<A: ServedFile, S: Alter>(
     answer
 }
 
-/// Reads and drops the rest of the request of a client that was sent its whole response.
+/// Reads and discards the rest of a client's request, once its whole response was sent.
 fn drop_rest<L: Stream>(client: &mut Client<L>) -> Serviced
     requires { IsSentWhole client.old }
     ensures is { (start : L) → IsOf (stream_of L.held L.taken L.failed) start client.old → IsOf (stream_of L.held L.taken L.failed) start client.new }
@@ -332,7 +333,7 @@ fn drop_rest<L: Stream>(client: &mut Client<L>) -> Serviced
 {
     match client.drop_unread() {
         Ok(false) => Serviced::Waits,
-        // Its whole response was sent, even if its stream fails now.
+        // The whole response was sent, even if its stream fails now.
         Ok(true) | Err(Broken) => Serviced::Leaves(CloseReason::Done),
     }
 }
@@ -355,7 +356,7 @@ fn send_more<L: Stream>(client: &mut Client<L>) -> Serviced
     }
 }
 
-/// Sends one its response, as much of it as it accepts now.
+/// Stores a client's response, and sends as much of it as the client accepts now.
 fn begin_answer<L: Stream>(
     alloc: Global,
     client: Client<L>,
@@ -380,7 +381,7 @@ fn begin_answer<L: Stream>(
     }
 }
 
-/// Services an order without a response: receives its message and, once that is complete, processes it.
+/// Services an order that has no response yet: receives its message and, once the message is complete, processes it.
 fn service_order<L: Stream, A: ServedFile, S: Alter>(
     server_settings: ServerSettings<'_, A>,
     now: u64,
@@ -432,11 +433,12 @@ fn service_order<L: Stream, A: ServedFile, S: Alter>(
     }
 }
 
-/// Services a connection at a moment, in milliseconds of a clock, as far as its stream allows now. Receives more of its request,
-/// processes the request once it is complete, and sends more of its response. Returns the connection and the outcome.
+/// Services a connection at a given time, in milliseconds of a clock, as far as its stream allows without blocking: receives
+/// more of its request, processes the request once it is complete, and sends more of its response. Returns the connection and
+/// the outcome.
 ///
-/// The bytes that are received are the connection's own, from the first one on, and the response is the one to exactly these. No
-/// other connection is touched.
+/// The bytes received are the connection's own, from the first one on, and the response answers exactly these. No other
+/// connection is touched.
 pub fn service<L: Stream, A: ServedFile, S: Alter>(
     server_settings: ServerSettings<'_, A>,
     now: u64,

@@ -1,4 +1,4 @@
--- What is polled.
+-- What the poller watches.
 use Rattle.std.specs.Prelude.{◌≡◌, ◌||◌, ◌==◌, if◌then◌else◌, ℕ, ⊤, Bool, true, false, Option, Some, None}
 use Rattle.mio.specs.declared.net.uds.listener.UnixListener.{UnixListener}
 use Rattle.connections.specs.declared.client.Listener.{Listener}
@@ -16,7 +16,7 @@ use Rattle.sockets.specs.declared.poller.Pending.{Pending}
 use Rattle.sockets.specs.declared.poller.Poller.{Poller}
 use Rattle.connections.specs.Tables.{NetworkEntry}
 
--- a listener is polled, otherwise as before; or there is none
+-- a listener is polled, and otherwise unchanged; or there is none
 abbrev pub IsWatched : {S : Type 0} → (S → S → Type 0) → Option S → Option S → Type 0
 IsWatched keeps None None = ⊤
 IsWatched keeps (Some old) (Some new) = keeps old new
@@ -43,14 +43,14 @@ FitsListener listeners.Clients (lines.Order stream) = ⊥
 FitsListener listeners.Orders (lines.Client stream) = ⊥
 FitsListener listeners.Orders (lines.Order stream) = ⊤
 
--- a connection was accepted at this listener, and its socket is of the listener's kind
+-- a connection was accepted from this listener, and its socket is of the listener's kind
 abbrev pub IsAtListener : Listener → AcceptOutcome Socket → Type 0
 IsAtListener listener (One accepted) = (accepted.listener ≡ listener) × FitsListener listener accepted.stream
 IsAtListener listener Nobody = ⊤
 IsAtListener listener NotNow = ⊤
 IsAtListener listener Full = ⊤
 
--- the socket of an accepted connection is of its listener's kind: so no order comes through the port
+-- the socket of an accepted connection is of its listener's kind, so no order comes through the port
 abbrev pub ComesByListener : AcceptOutcome Socket → Type 0
 ComesByListener (One accepted) = FitsListener accepted.listener accepted.stream
 ComesByListener Nobody = ⊤
@@ -63,7 +63,7 @@ is_known_waiting waiting.Nobody = false
 is_known_waiting waiting.Unknown = true
 is_known_waiting waiting.Somebody = true
 
--- what is known of a listener once it has returned this: none is pending; after a connection another one may be; a full system says nothing
+-- what is known of a listener after it returned this outcome: none is pending; after a connection there may be another one; a full system tells us nothing
 abbrev pub known_after : Waiting → AcceptOutcome Socket → Waiting
 known_after known (One accepted) = waiting.Unknown
 known_after known Nobody = waiting.Nobody
@@ -74,12 +74,12 @@ known_after known Full = known
 abbrev pub known_everywhere : Waiting → Pending
 known_everywhere known = record { ipv4 = known; ipv6 = known; orders = known }
 
--- what is known of the listener at an address
+-- what is known about the listener at an address
 abbrev pub known_at : Pending → Address → Waiting
 known_at pending Ipv4 = pending.ipv4
 known_at pending Ipv6 = pending.ipv6
 
--- what is known once an event has reported the listener with this token: 0 is that at 127.0.0.1, 1 that at [::1], any other that of orders
+-- what is known after an event reported the listener with this token: 0 is the one at 127.0.0.1, 1 the one at [::1], any other the one for orders
 abbrev pub reported : ℕ → Pending → Pending
 reported token pending =
     if token == 0 then record { ipv4 = waiting.Somebody; ipv6 = pending.ipv6; orders = pending.orders }

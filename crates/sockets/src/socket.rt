@@ -1,4 +1,4 @@
-//! A socket as a stream: no call on it blocks.
+//! A socket as a stream whose calls never block.
 
 ghost use Rattle.std.specs.Prelude.{◌≡◌, ◌⊎◌, ◌<◌, ℕ, None, Ok, IfOk};
 
@@ -15,7 +15,7 @@ pub enum Socket {
     Order(UnixStream),
 }
 
-/// Returns the result of a read. A read that would block has no bytes yet.
+/// Returns the result of a read. If the read would block, no bytes have arrived yet.
 fn came(read: io::Result<usize>) -> Result<Received, Broken>
     ensures { (n : ℕ) → result ≡ Ok (Received.Bytes n) → (0 < n) × (read ≡ Ok n) }
 {
@@ -27,7 +27,7 @@ fn came(read: io::Result<usize>) -> Result<Received, Broken>
     }
 }
 
-/// Returns how many bytes a write accepted; 0 if it would block.
+/// Returns the number of bytes that a write accepted, or 0 if it would block.
 fn took(written: io::Result<usize>) -> Result<usize, Broken>
     ensures { IfOk result (λ n. (n ≡ 0) ⊎ (written ≡ Ok n)) }
 {

@@ -1,4 +1,4 @@
--- What an answer that is ready tells, and what it leaves.
+-- What a response that is ready says, and what it leaves.
 use Rattle.std.proofs.Common.{◌≡◌, ◌∙◌, ℕ, Bool, Result, Ok, Err, inl, inr, ap, refl, subst, sym}
 use Rattle.sqlite.specs.State.{State}
 use Rattle.register.specs.Machine.{state_after, step_of}
@@ -32,14 +32,14 @@ Readies-answered s clerk batch entry request a response closed st is handled tel
       inl (record { next = state_after s outcome; is = (outcome, IsOutcome-handed s clerk batch entry request is, refl, refl); open_at = handled.1 }),
     )
 
--- a keying at which it met a fault
+-- a keying for which the office returned a fault
 pub Readies-faulted : (s : OfficeState) (clerk batch : ℕ) (entry : KeyingEntry) (request : Request) (f : Fault) (response : Response) (closed : Bool) (st : State)
     → IsHandedOn clerk batch entry request
     → Handled s (step_of s request) (Err f) closed st → IsTold (fault_response (fault_number f)) response → Readies s (keying clerk batch entry) response closed st
 Readies-faulted s clerk batch entry request f response closed st is handled tells =
     (fault_response (fault_number f), tells, inr (f, refl, (step_of s request, IsOutcome-handed s clerk batch entry request is, handled)))
 
--- what was read
+-- a resource that was read
 pub Readies-read : {X Y : Type 0} (s : OfficeState) (what : Resource) (entry : X → ResponseEntry) (view : Y → X) (reads : Result X Reason) (r : Result Y ReadError)
     (response : Response) (closed : Bool) (st : State)
     → reading_response s what ≡ read_response entry reads → Read view s reads r closed st → IsReadTold entry view r response → Readies s (reading what) response closed st
@@ -55,7 +55,7 @@ Readies-read s what entry view reads (Err (Refused why)) response closed st same
 )
 Readies-read s what entry view reads (Err (Failed f)) response closed st same read tells = (fault_response (fault_number f), tells, inr (f, refl, read))
 
--- the same that is asked
+-- the same for two equal requests
 pub Readies-same : (s : OfficeState) (one other : HttpRequestEntry) (response : Response) (closed : Bool) (st : State) → one ≡ other → Readies s one response closed st
     → Readies s other response closed st
 Readies-same s one other response closed st same ready = subst (λ asked. Readies s asked response closed st) same ready

@@ -1,4 +1,4 @@
--- Whose code a request has that asks under a clerk's number, or of the console, at a gate.
+-- Which account's code is carried by a request that, at a gate, asks for something under a clerk's number or on the console.
 use Rattle.std.proofs.Common.{◌≡◌, ◌∙◌, ◌&&◌, Bool, true, false, List, [], ◌∷◌, ◌++◌, Option, Some, None, Result, Ok, Err, ap, arith, codes, inr, length, map, not, refl, subst, sym, ℕ}
 use Rattle.std.specs.Prelude.{bytes_eq, if◌then◌else◌, is_some, option_and_then, option_map, slice_index}
 use Rattle.std.specs.Char.{is_ascii_digit}
@@ -30,9 +30,9 @@ use Rattle.wire.proofs.RequestLemmas.{AsksOneThing-all}
 use Rattle.wire.proofs.OfficeTargetLemmas.{number-digits}
 use Rattle.wire.proofs.PathLemmas.{NamesOnlyItsPath-all}
 
--- ---- the clerk in front of a target
+-- ---- the clerk at the start of a target
 
--- so many digits stand before a slash
+-- the number of digits before a slash
 digits-before : (part rest : List ℕ) → list_all is_ascii_digit part ≡ true → prefix_len is_ascii_digit (part ++ (47 ∷ rest)) ≡ length part
 digits-before [] rest digits = refl
 digits-before (d ∷ part) rest digits =
@@ -44,13 +44,13 @@ slash-behind : (part rest : List ℕ) → slice_index (part ++ (47 ∷ rest)) (l
 slash-behind [] rest = refl
 slash-behind (d ∷ part) rest = slash-behind part rest
 
--- a path that begins with a clerk's number is under that number
+-- a path that begins with a clerk's number belongs to that clerk
 under-path : (part rest : List ℕ) (clerk : ℕ) → number_in part ≡ Some clerk → clerk_under (codes "/clerks/" ++ (part ++ (47 ∷ rest))) ≡ Some clerk
 under-path part rest clerk own =
     ap (λ n. number_before n (part ++ (47 ∷ rest))) (digits-before part rest (number-digits part clerk own))
     ∙ rw (slash-behind part rest, take-append_seam part (47 ∷ rest)) own
 
--- the account whose code is needed for what a target names, if one is
+-- the account whose code is needed for what a target names, if any
 abbrev owner_of : Target → Option Account
 owner_of (Keying clerk batch) = Some (Clerk clerk)
 owner_of (Page clerk) = Some (Clerk clerk)
@@ -59,19 +59,19 @@ owner_of (Resource what) = reading_account what
 owner_of (Office what) = Some Officer
 owner_of (Public what) = None
 
--- the same for a path that begins with a clerk's number
+-- the account for a path that begins with a clerk's number
 under-clerk : (own : Option (List ℕ)) (target part rest : List ℕ) (clerk : ℕ) (account : Account) → target ≡ codes "/clerks/" ++ (part ++ (47 ∷ rest)) → number_in part ≡ Some clerk
     → Some (Clerk clerk) ≡ Some account → account_under own target ≡ Some account
 under-clerk own target part rest clerk account is numbered same = ap (account_under own) is ∙ ap (option_map (λ c. Clerk c)) (under-path part rest clerk numbered) ∙ same
 
--- the console, if the office has a code
+-- the account for the console, if the office has a code
 under-office : (own : Option (List ℕ)) (what : OfficeTarget) → (not (is_some own)) ≡ false → account_under own (office_path what) ≡ Some Officer
 under-office None what has = let no : ⊥ = cc in absurd no
 under-office (Some text) office.ConsolePage has = refl
 under-office (Some text) office.Leave has = refl
 under-office (Some text) office.Orders has = refl
 
--- the console's reads, if the office has a code
+-- the account for the console's reads, if the office has a code
 under-read : (own : Option (List ℕ)) (target : List ℕ) (its : OfficeRead) → (not (is_some own)) ≡ false → IsReadTarget its target → account_under own target ≡ Some Officer
 under-read None target its has is = let no : ⊥ = cc in absurd no
 under-read (Some text) target read.Wards has is = ap (account_under (Some text)) is
@@ -99,7 +99,7 @@ under-own own target (Resource (Reads its)) account has is same = under-read own
 under-own own target (Public what) account has is same = let no : ⊥ = cc in absurd no
 under-own own target (Office what) account has is same = ap (account_under own) is ∙ under-office own what has ∙ same
 
--- ---- what isn't kept out
+-- ---- what isn't rejected
 
 holds : (gate : GateEntry) (account : Account) (fields : List NamedValue) (values : List (List ℕ)) → sent_codes fields ≡ values → authentication_failure_by gate account values ≡ None
     → HoldsCode gate account fields
@@ -114,7 +114,7 @@ holds gate account fields (value ∷ []) sent none = by (has_code gate account v
         let no : ⊥ = cc in
         absurd no
 
--- what needs an account's code is asked of what is that account's
+-- what needs an account's code is requested at a target that belongs to that account
 keying-own : (c batch : ℕ) (entry : Option KeyingEntry) (account : Account) → account_asked (asked_in c batch entry) ≡ Some account → Clerk c ≡ account
 keying-own c batch None account is = let no : ⊥ = cc in absurd no
 keying-own c batch (Some entry) account is = cc
@@ -138,9 +138,9 @@ own-asked gate hall (Office office.Orders) (Err why) behind account is = let no 
 own-asked gate None (Public what) size behind account is = let no : ⊥ = cc in absurd no
 own-asked gate (Some its) (Public what) size behind account is = let no : ⊥ = cc in absurd no
 
--- at a gate, by what was found there
+-- at a gate, depending on what was found at the target
 module _ (gate : GateEntry) (hall : Option PublicEntry) (fields : List NamedValue) (method target : List ℕ) (size : Result ℕ RequestError) (behind : List ℕ) (account : Account) where
-  -- what is asked for is the account's
+  -- what is requested belongs to the account
   abbrev IsAskedAs : Option Target → Type 0
   IsAskedAs there = account_asked (asked_of (Some gate) hall (asked_for method there) size behind) ≡ Some account
 
@@ -178,7 +178,7 @@ module _ (gate : GateEntry) (hall : Option PublicEntry) (fields : List NamedValu
   wanted-held true is = let no : ⊥ = cc in absurd no
   wanted-held false is = let_in-held (authentication_failure (Some gate) (account_at (Some gate) target) fields) refl is
 
--- what needs an account's code is asked by the holder of it
+-- whatever needs an account's code is requested by the holder of that code
 pub AsksByHolder-all : (settings : HttpSettingsEntry) (bytes : List ℕ) → AsksByHolder settings bytes
 AsksByHolder-all settings bytes head behind begins asked asks account is gate there =
     let fields = map name_and_value head.fields in

@@ -1,4 +1,4 @@
--- The lemmas, by subject.
+-- The lemmas, by topic.
 pub mod HeadLemmas
 pub mod BodyLemmas
 pub mod TextLemmas

@@ -1,4 +1,4 @@
--- What a request lacks and asks, and under whose number, by how its head was parsed.
+-- What a request lacks, what it asks for, and under whose number, judged from its parsed head.
 use Rattle.std.proofs.Common.{◌≡◌, ◌∙◌, ◌<◌, ◌≤◌, ◌+◌, ◌-◌, ℕ, List, Option, None, Result, Ok, Err, [], ◌++◌, Some}
 use Rattle.std.proofs.Common.{inl, inr, append_assoc, ap, arith, drop, length, map, min, option_map, refl, subst, sym, take}
 use Rattle.std.proofs.Math.Seq.{drop-append_seam}
@@ -31,7 +31,7 @@ use Rattle.wire.proofs.HeadLemmas.{HasOneHead-all, within}
 
 -- ---- a head that was found
 
--- what was found at the front was parsed
+-- what was found at the start was parsed
 pub headed : (settings : HttpSettingsEntry) (got : List ℕ) (n : ℕ) (headers : List HeaderSpan) (spans : RequestSpans) (head : Head) → IsRequestOf (take n got) headers spans
     → Says settings (map (header_bytes (take n got)) (take spans.headers headers)) (span_bytes (take n got) spans.method) (span_bytes (take n got) spans.path) spans.len head
     → n ≤ 8192 → length headers ≡ 32 → IsHeadOf settings got head
@@ -51,7 +51,7 @@ headed settings got n headers spans head (found, there) says small places =
           (subst (λ (f : List NamedValue). Says settings f (span_bytes front spans.method) (span_bytes front spans.path) spans.len head) there.fields says)));
     }
 
--- more bytes follow it
+-- more bytes follow the head
 grown : (got more : List ℕ) (found : RequestHead) (behind : List ℕ) → BeginsWith got found behind → BeginsWith (got ++ more) found (behind ++ more)
 grown got more found behind begun = record {
   is_head = begun.is_head;
@@ -60,17 +60,17 @@ grown got more found behind begun = record {
   few = begun.few;
 }
 
--- so it stays parsed
+-- so the head stays parsed
 pub head_lasts : (settings : HttpSettingsEntry) (got : List ℕ) (head : Head) → IsHeadOf settings got head → (more : List ℕ) → IsHeadOf settings (got ++ more) head
 head_lasts settings got head is more = record { found = is.found; behind = is.behind ++ more; begins = grown got more is.found is.behind is.begins; says = is.says }
 
--- its size, and what follows it
+-- the size of the head, and what follows it
 parts_of : (settings : HttpSettingsEntry) (got : List ℕ) (head : Head) (is : IsHeadOf settings got head) → length got ≡ head.size + length is.behind
 parts_of settings got head is = ap length is.begins.parts ∙ length-append (print_request is.found) is.behind ∙ ap (λ n. n + length is.behind) (sym is.says.size)
 
 -- ---- what follows a head
 
--- a body that is all there
+-- a body that is complete
 body_stays : (n : ℕ) (behind more : List ℕ) → (length behind < n → ⊥) → body_in n (behind ++ more) ≡ body_in n behind
 body_stays n behind more enough =
     elim (cases_lt (length behind) n) [
@@ -78,7 +78,7 @@ body_stays n behind more enough =
       | inr le ↦ rw (le-leb n (length (behind ++ more)) (omega (arith, le, length-append behind more)), le-leb n (length behind) le, take-append-le n behind more le) refl
     ]
 
--- what is asked of what a target names, where no byte is lacking for it
+-- what is requested at a target, if no bytes are lacking for it
 asked_stays : (gate : Option GateEntry) (hall : Option PublicEntry) (t : Result Target RequestError) (size : Result ℕ RequestError) (behind more : List ℕ) → (MissesBytes t size behind → ⊥)
     → asked_of gate hall t size (behind ++ more) ≡ asked_of gate hall t size behind
 asked_stays gate hall (Ok (target.Keying clerk batch)) (Ok n) behind more enough = ap (λ b. asked_in clerk batch (option_and_then keying_of b)) (body_stays n behind more enough)
@@ -93,7 +93,7 @@ asked_stays gate hall (Ok (target.Office office.Orders)) (Err why) behind more e
 asked_stays gate hall (Ok (target.Public what)) size behind more enough = refl
 asked_stays gate hall (Err why) size behind more enough = refl
 
--- a request that begins with a head, for which no byte after it is lacking
+-- a request that begins with a head, and lacks no bytes after it
 whole_behind : (settings : HttpSettingsEntry) (got : List ℕ) (head : RequestHead) (behind : List ℕ) → BeginsWith got head behind → (MissesBehind settings head behind → ⊥) → IsWhole settings got
 whole_behind settings got head behind begun enough more asked asks =
     let one : asked ≡ asked_by settings head behind = AsksOneThing-all settings got asked (asked_by settings head behind) asks (inr (head, behind, begun, refl)) in
@@ -109,9 +109,9 @@ whole_behind settings got head behind begun enough more asked asks =
       one ∙ sym (asked_stays settings.gate settings.public _ _ behind more enough),
     )
 
--- ---- what it lacks
+-- ---- what is lacking
 
--- fewer bytes than are needed don't say what is asked
+-- fewer bytes than are needed don't determine what is requested
 few_incomplete : (t : Result Target RequestError) (body : Result ℕ RequestError) (behind : List ℕ) → length behind < needed t body → MissesBytes t body behind
 few_incomplete (Ok (target.Keying clerk batch)) (Ok n) behind few = few
 few_incomplete (Ok (target.Keying clerk batch)) (Err why) behind few = absurd (omega (arith, few))
@@ -138,7 +138,7 @@ enough_complete (Ok (target.Office office.Orders)) (Err why) behind enough compl
 enough_complete (Ok (target.Public what)) body behind enough completeness_of = completeness_of
 enough_complete (Err why) body behind enough completeness_of = completeness_of
 
--- what a head that was parsed lacks, its head lacks
+-- what a parsed head lacks, the head lacks
 MissesBehind-parsed : (settings : HttpSettingsEntry) (got : List ℕ) (head : Head) (is : IsHeadOf settings got head) (behind : List ℕ)
     → MissesBytes head.wanted head.body behind → MissesBehind settings is.found behind
 MissesBehind-parsed settings got head is behind completeness_of =
@@ -151,7 +151,7 @@ MissesBehind-back settings got head is behind completeness_of =
     subst (λ (t : Result Target RequestError). MissesBytes t head.body behind) (sym is.says.wanted)
     (subst (λ b. MissesBytes (wanted settings (map name_and_value is.found.fields) is.found.method is.found.target) b behind) (sym is.says.body) completeness_of)
 
--- with fewer bytes than it needs
+-- with fewer bytes than the head needs
 wanting_parsed : (settings : HttpSettingsEntry) (got more : List ℕ) (head : Head) → IsHeadOf settings got head → length (got ++ more) < head.size + needed head.wanted head.body
     → IsIncomplete settings (got ++ more)
 wanting_parsed settings got more head is few =
@@ -173,7 +173,7 @@ lacks_bytes settings got head is few = (
   λ more less. wanting_parsed settings got more head is less,
 )
 
--- so many bytes are few
+-- the number of bytes needed is small
 needed_small : (t : Result Target RequestError) (body : Result ℕ RequestError) → IfOk body (λ n. n ≤ most_body_bytes) → needed t body ≤ most_body_bytes
 needed_small (Ok (target.Keying clerk batch)) (Ok n) fits = fits
 needed_small (Ok (target.Keying clerk batch)) (Err why) fits = omega arith
@@ -194,13 +194,13 @@ whole_is settings got head whole is small = omega (arith, small, needed_small he
 pub body_fits : (settings : HttpSettingsEntry) (got : List ℕ) (head : Head) (n : ℕ) → IsHeadOf settings got head → head.body ≡ Ok n → n ≤ most_body_bytes
 body_fits settings got head n is own = subst (λ (b : Result ℕ RequestError). IfOk b (λ n. n ≤ most_body_bytes)) own is.says.fits
 
--- with enough of them
+-- with enough bytes
 pub whole_parsed : (settings : HttpSettingsEntry) (got : List ℕ) (head : Head) → IsHeadOf settings got head → head.size + needed head.wanted head.body ≤ length got → IsWhole settings got
 whole_parsed settings got head is enough =
     whole_behind settings got is.found is.behind is.begins
     (λ completeness_of. enough_complete head.wanted head.body is.behind (omega (arith, enough, parts_of settings got head is)) (MissesBehind-back settings got head is is.behind completeness_of))
 
--- no head has arrived yet, and one may
+-- no complete head has arrived yet, and one still may
 pub lacks_head : (settings : HttpSettingsEntry) (got : List ℕ) → IsHeadIncomplete got → IsCompletenessOf settings got (AtLeast (length got + 1))
 lacks_head settings got may = (
   inl may,
@@ -210,18 +210,18 @@ lacks_head settings got may = (
       subst (IsIncomplete settings) (sym (ap (λ xs. got ++ xs) nothing ∙ append-nil got)) (inl may),
 )
 
--- one byte more than has arrived
+-- one more byte than has arrived
 pub one_more : (got : List ℕ) (come next : ℕ) → length got ≡ come → IsHeadIncomplete got → next ≡ min (come + 1) (2 ^ 64 - 1) → next ≡ length got + 1
 one_more got come next long may is = omega (arith, long, may.short, is)
 
 -- ---- no head
 
--- whatever follows, there is none
+-- whatever follows, there is no head
 pub whole_none : (settings : HttpSettingsEntry) (got : List ℕ) → ((more : List ℕ) → HasNoHead (got ++ more)) → IsWhole settings got
 whole_none settings got never more asked (inl (none, is)) = inl (never more, is)
 whole_none settings got never more asked (inr (head, behind, begun, is)) = absurd (subst HasNoHead (append-nil got) (never []) head behind begun)
 
--- the front is full, and begins with no head
+-- the buffer is full, and doesn't begin with a head
 never_full : (front back : List ℕ) → length front ≡ 8192 → HasNoRequest front → (more : List ℕ) → HasNoHead ((front ++ back) ++ more)
 never_full front back full none more head behind begun =
     let short = begun.short in
@@ -231,7 +231,7 @@ never_full front back full none more head behind begun =
 pub none_full : (got : List ℕ) (n : ℕ) → length (take n got) ≡ 8192 → HasNoRequest (take n got) → (more : List ℕ) → HasNoHead (got ++ more)
 none_full got n full none more = subst (λ (xs : List ℕ). HasNoHead (xs ++ more)) (take-append-drop n got) (never_full (take n got) (drop n got) full none more)
 
--- the front is that of no head, or of one with too many headers
+-- the start belongs to no head, or to one with too many headers
 never_over : (front back : List ℕ) (room : ℕ) → room ≡ 32 → RequestOverflows room front → (more : List ℕ) → HasNoHead ((front ++ back) ++ more)
 never_over front back room is over more head behind begun =
     let many = over (back ++ more) head behind (begun.is_head, sym (append_assoc front back more) ∙ begun.parts) in
@@ -241,22 +241,22 @@ never_over front back room is over more head behind begun =
 pub none_over : (got : List ℕ) (n room : ℕ) → room ≡ 32 → RequestOverflows room (take n got) → (more : List ℕ) → HasNoHead (got ++ more)
 none_over got n room is over more = subst (λ (xs : List ℕ). HasNoHead (xs ++ more)) (take-append-drop n got) (never_over (take n got) (drop n got) room is over more)
 
--- none has arrived yet
+-- no head has arrived yet
 pub none_yet : (got : List ℕ) (n : ℕ) → length got ≤ n → length got < 8192 → HasNoRequest (take n got) → MayBecomeRequest (take n got) → IsHeadIncomplete got
 none_yet got n all short none may =
     let same : take n got ≡ got = take_all n got all in
     let none_there : HasNoRequest got = subst HasNoRequest same none in
     record { none = λ head behind begun. none_there head behind (begun.is_head, begun.parts); may = subst MayBecomeRequest same may; short = short }
 
--- none comes, whatever follows then
+-- no head will come, and whatever follows doesn't change that
 pub never_lasts : (got : List ℕ) → ((more : List ℕ) → HasNoHead (got ++ more)) → (more later : List ℕ) → HasNoHead ((got ++ more) ++ later)
 never_lasts got never more later = subst HasNoHead (sym (append_assoc got more later)) (never (more ++ later))
 
--- none has arrived, whatever follows
+-- no head has arrived if none can come
 pub none_came : (got : List ℕ) → ((more : List ℕ) → HasNoHead (got ++ more)) → HasNoHead got
 none_came got never = subst HasNoHead (append-nil got) (never [])
 
--- ---- what is asked
+-- ---- what is requested
 
 pub asks_none : (settings : HttpSettingsEntry) (got : List ℕ) → HasNoHead got → Asks settings got (denied BadRequest)
 asks_none settings got none = inl (none, refl)
@@ -271,7 +271,7 @@ asks_behind settings got head is asked same = inr (
       ∙ ap (λ b. asked_of settings.gate settings.public (wanted settings (map name_and_value is.found.fields) is.found.method is.found.target) b is.behind) is.says.body,
 )
 
--- by the bytes that follow the head
+-- given the bytes that follow the head
 pub asks_parsed : (settings : HttpSettingsEntry) (got : List ℕ) (head : Head) (n : ℕ) (behind : List ℕ) (asked : HttpRequestEntry) → n ≡ min head.size (length got)
     → behind ≡ drop n got → IsHeadOf settings got head
     → asked ≡ asked_of settings.gate settings.public head.wanted head.body behind → Asks settings got asked
@@ -281,7 +281,7 @@ asks_parsed settings got head n behind asked small there is same =
     let own : behind ≡ is.behind = there ∙ ap (λ k. drop k got) all ∙ ap (drop (length (print_request is.found))) is.begins.parts ∙ drop-append_seam (print_request is.found) is.behind in
     asks_behind settings got head is asked (same ∙ ap (asked_of settings.gate settings.public head.wanted head.body) own)
 
--- the same of a result, which may be that an allocation failed
+-- the same for a result, which may be a failed allocation
 pub asks_result : {E : Type 0} (settings : HttpSettingsEntry) (got : List ℕ) (head : Head) (n : ℕ) (behind : List ℕ) (r : Result HttpRequest E)
     → n ≡ min head.size (length got) → behind ≡ drop n got → IsHeadOf settings got head
     → IfOk r (λ asked. http_request_entry asked ≡ asked_of settings.gate settings.public head.wanted head.body behind) → IfOk r (λ asked. Asks settings got (http_request_entry asked))
@@ -304,12 +304,12 @@ asks_read settings got head (Ok (target.Office place)) same is = tt
 asks_read settings got head (Ok (target.Public what)) same is = tt
 asks_read settings got head (Err why) same is = tt
 
--- a keying is no read
+-- a keying isn't a read
 no_keying : (clerk batch : ℕ) (what : Resource) (entry : Option KeyingEntry) → reading what ≡ asked_in clerk batch entry → ⊥
 no_keying clerk batch what (Some entry) is = cc is
 no_keying clerk batch what None is = cc is
 
--- an order is no read
+-- an order isn't a read
 no_order : (what : Resource) (entry : Option ConsoleOrderEntry) → reading what ≡ ordered_in entry → ⊥
 no_order what (Some entry) is = cc is
 no_order what None is = cc is
@@ -343,7 +343,7 @@ pub reads_none : (settings : HttpSettingsEntry) (got : List ℕ) (what : Resourc
 reads_none settings got what none (inl (also, is)) = cc is
 reads_none settings got what none (inr (head, behind, begun, is)) = none head behind begun
 
--- ---- whose number is asked under
+-- ---- under whose number it is requested
 
 pub knocks_parsed : (settings : HttpSettingsEntry) (got : List ℕ) (head : Head) → IsHeadOf settings got head → IsAuthentication settings got (option_map authentication_entry head.authentication)
 knocks_parsed settings got head is = record {

@@ -1,4 +1,4 @@
--- A target names just what it is the path of.
+-- A target names exactly what it is the path of.
 use Rattle.std.proofs.Common.{◌≡◌, ◌∙◌, ◌-◌, ◌+◌, ℕ, Bool, true, false, List, [], ◌∷◌, ◌++◌, Option, Some, None, append_assoc, codes, drop, length, ltb, refl, subst, sym, ap, arith}
 use Rattle.std.specs.Prelude.{IfSome, bytes_eq, if◌then◌else◌, option_and_then, option_map}
 use Rattle.std.specs.Char.{is_ascii}
@@ -32,7 +32,7 @@ use Rattle.wire.proofs.PartLemmas.{IsNumeric, numeric, one-part, one-taken, two-
 
 -- ---- a target of one of the routes names something
 
--- a route with one parameter leads to a place, and names this by the number that the parameter writes
+-- a route with one parameter leads to a place, and names it by the number in the parameter
 pub record OneRoute : Type 0 where
   pub word : List ℕ
   pub rest : List ℕ
@@ -41,14 +41,14 @@ pub record OneRoute : Type 0 where
   pub to : RouteTarget
   pub kind : ℕ → Target
 
--- its path for a part
+-- its path, given the text of the parameter
 abbrev path_of : OneRoute → List ℕ → List ℕ
 path_of r part = r.word ++ (part ++ (47 ∷ r.rest))
 
 abbrev route_of_one : OneRoute → RouteOf RouteTarget
 route_of_one r = record { pattern = r.word ++ (param_token ∷ (47 ∷ r.rest)); text = r.text; names = r.name ∷ []; value = r.to }
 
--- what is computed of such a route
+-- what is computed for such a route
 pub record IsOneRoute (r : OneRoute) : Type 0 where
   pub word_bytes : list_all (λ x. ltb x param_token) r.word ≡ true
   pub rest_bytes : list_all (λ x. ltb x param_token) (47 ∷ r.rest) ≡ true
@@ -58,7 +58,7 @@ pub record IsOneRoute (r : OneRoute) : Type 0 where
   pub names : (part : List ℕ) → named_at r.to (with_taken (part_of r.text r.name.0 r.name.1) part []) ≡ option_map r.kind (number_in part)
   pub own : (target part : List ℕ) (n : ℕ) → target ≡ path_of r part → number_in part ≡ Some n → IsTargetOf (r.kind n) target
 
--- what a route names of a target is something whose path the target is
+-- whatever a route names for a target has that target as its path
 abbrev NamesOwn : List ℕ → RouteOf RouteTarget → Type 0
 NamesOwn target route = (there : Target) → named_at route.value (walk route.pattern route.text target route.names 0 0) ≡ Some there → IsTargetOf there target
 
@@ -128,9 +128,9 @@ is-declaration : IsOneRoute declaration
 unfolding declaration
 is-declaration = record { word_bytes = refl; rest_bytes = refl; word_low = refl; rest_low = refl; stops = λ path from. refl; names = λ part. refl; own = λ target part n is own. (part, is, own) }
 
--- ---- the routes of a keying and of candidates, with two parameters
+-- ---- the routes with two parameters: a keying, the candidates, and an earlier keying
 
--- a route with two parameters: what follows the slash at its end, its text, where it leads, and what it names by two numbers
+-- a route with two parameters: what follows its final slash, its text, where it leads, and what it names given two numbers
 pub record TwoRoute : Type 0 where
   pub end : List ℕ
   pub text : List ℕ
@@ -150,7 +150,7 @@ route_of_two r = record { pattern = pattern_of r; text = r.text; names = (9, 10)
 abbrev pub kind_by : TwoRoute → Option ℕ → Option ℕ → Option Target
 kind_by r clerk batch = option_and_then (λ c. option_map (λ b. r.kind c b) batch) clerk
 
--- what is computed of such a route
+-- what is computed for such a route
 pub record IsTwoRoute (r : TwoRoute) : Type 0 where
   pub end_bytes : list_all (λ x. ltb x param_token) (47 ∷ r.end) ≡ true
   pub end_low : list_all is_ascii (47 ∷ r.end) ≡ true
@@ -242,7 +242,7 @@ two-named r is c b clerk batch own other found =
     ∙ ap (named_at r.to) (two-taken r is (two_path r c b) c b refl is_c.whole is_b.whole)
     ∙ is.names c b ∙ ap (λ n. kind_by r n (number_in b)) own ∙ ap (kind_by r (Some clerk)) other
 
--- ---- what the routes find
+-- ---- what the routes match
 
 clerk_rows : RowsOf (RouteOf RouteTarget)
 clerk_rows = steps (codes "/clerks/") office_routes
@@ -327,7 +327,7 @@ keyed-found c b is_c is_b =
     (seek-part batch_rows b (codes "keyed") (route_of_two keyed) batches-go is_b.some is_b.whole is_b.below
     (seek-word (codes "/keyed") (step param_token batch_rows) [] (route_of_two keyed) (seek-end _ _ refl)))))
 
--- ---- both ways
+-- ---- both directions
 
 routes-own : (target : List ℕ) → Gives (NamesOwn target) office_routes target
 unfolding keyings candidates keyed work page leaving sheet declaration scan
@@ -382,7 +382,7 @@ office-own target what named = console (bytes_eq target (office_path office.Cons
         (bytes_eq-Decides target (office_path office.ConsolePage)).0 same ∙ ap office_path one
     console false other named = leave (bytes_eq target (office_path office.Leave)) refl named
 
--- ---- both
+-- ---- all of them
 
 named-own : (target : List ℕ) (there : Target) → named_by target ≡ Some there → IsTargetOf there target
 named-own target there named = by (office_by target) refl named

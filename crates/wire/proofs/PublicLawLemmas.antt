@@ -1,4 +1,4 @@
--- What is shown in public rests on the wards, and on the elections of those that are sealed.
+-- What is shown in public depends only on the wards and on the elections of the sealed ones.
 use Rattle.std.proofs.Common.{◌≡◌, ◌∙◌, ◌&&◌, ◌==◌, Bool, true, false, ℕ, List, [], ◌∷◌, Option, Some, None, Result, Ok, Err, ap, map, refl, sym}
 use Rattle.std.specs.Prelude.{find, if◌then◌else◌, is_some, length}
 use Rattle.std.specs.Ordering.{is_eq}
@@ -34,11 +34,11 @@ RestsOnWards-all title s = ap (screen_data title) (wards-again s s.wards)
 
 -- ---- two offices that look alike in public
 
--- the election of a ward is the same in both, if the ward is sealed
+-- the election of a ward is the same in both offices if the ward is sealed
 abbrev IsSameOnceSealed : OfficeState → OfficeState → WardEntry → Type 0
 IsSameOnceSealed s t w = is_counted w.phase ≡ true → election_of t w ≡ election_of s w
 
--- those elected in an election and its candidates, once its ward is declared
+-- the elected candidates, and the candidates of the election, once its ward is declared
 abbrev Told : Type 0
 Told = Option (List ℕ) × List CandidateEntry
 
@@ -104,7 +104,7 @@ AlikeShowAlike-all its Wards s t alike =
     ap data_response (RestsOnWards-all its.title t ∙ ap (screen_data its.title) alike.wards ∙ sym (RestsOnWards-all its.title s))
 AlikeShowAlike-all its (Page ward) s t alike = ap (read_response printed_response) (page-alike its.title ward s t alike)
 
--- ---- a ward before its seal
+-- ---- a ward before it is sealed
 
 first-true : (a b : Bool) → (a && b) ≡ true → a ≡ true
 first-true true b is = refl
@@ -114,7 +114,7 @@ second-true : (a b : Bool) → (a && b) ≡ true → b ≡ true
 second-true true b is = is
 second-true false b is = let no : ⊥ = cc in absurd no
 
--- nothing is counted of it
+-- none of its stages is counted
 none-done : (e : ElectionEntry) → is_counted_right e ≡ true → is_counted e.ward.phase ≡ false → e.ward.done ≡ 0
 none-done e right unsealed =
     let still : is_uncounted e ≡ true = rw unsealed at right in

@@ -1,4 +1,4 @@
--- What is shown in public: the list of wards has no fractions, and the page of a ward is the one that an order prints.
+-- What is shown in public: the list of wards contains no floats, and the page of a ward is the one that an order prints.
 use Rattle.std.proofs.Common.{◌≡◌, ◌∙◌, Bool, true, false, ℕ, List, Option, Some, None, Result, Ok, Err, ap, inl, inr, map, refl, sym}
 use Rattle.std.specs.Borrow.{Bor}
 use Rattle.serde_json.specs.Written.{has_float}
@@ -40,7 +40,7 @@ page-told title s ward = by (is_ward_number ward) refl
     by true is = rw is (page-found title s (ward_at s ward))
     by false is = rw is refl
 
--- ---- what was read for it
+-- ---- what was read for the page
 
 pub Readies-public : {X Y : Type 0} (s : OfficeState) (its : PublicEntry) (what : PublicTarget) (entry : X → ResponseEntry) (view : Y → X) (reads : Result X Reason) (r : Result Y ReadError)
     (response : Response) (closed : Bool) (st : State)

@@ -26,7 +26,7 @@ use Rattle.wire.proofs.RequestLemmas.{DependsOnOwnBytes-all}
 
 -- ---- the target
 
--- it is under nobody's number, so it needs no code
+-- the target is under no clerk's number, so it needs no code
 no-account : (gate : Option GateEntry) (path : List ℕ) (what : PublicTarget) → IsPublicTarget what path → account_at gate path ≡ None
 no-account None path what is = refl
 no-account (Some gate) path Index is = ap (account_at (Some gate)) is
@@ -34,7 +34,7 @@ no-account (Some gate) path Screen is = ap (account_at (Some gate)) is
 no-account (Some gate) path Wards is = ap (account_at (Some gate)) is
 no-account (Some gate) path (Page n) (part, is, own) = ap (account_at (Some gate)) is
 
--- it is served at every gate and without one, if something is shown in public
+-- the target is served with any gate, and without one, if something is shown in public
 let-in : (gate : Option GateEntry) (hall : Option PublicEntry) (fields : List NamedValue) (method : List ℕ) (what : PublicTarget)
     → let_in (authentication_failure gate None fields) method (served_at gate hall (Some (target.Public what))) ≡ asked_for method (shown_by hall (Some (target.Public what)))
 let-in None hall fields method what = refl
@@ -47,7 +47,7 @@ wanted-there gate hall fields method path what is =
     ∙ ap (λ (there : Option Target). let_in (authentication_failure gate None fields) method (served_at gate hall there)) (public-named path what is)
     ∙ let-in gate hall fields method what
 
--- ---- what is asked there
+-- ---- what is requested at such a target
 
 module _ (gate : Option GateEntry) (hall : Option PublicEntry) (what : PublicTarget) (size : Result ℕ RequestError) (behind : List ℕ) where
   abbrev asked-there : List ℕ → Option PublicEntry → HttpRequestEntry
@@ -63,9 +63,9 @@ module _ (gate : Option GateEntry) (hall : Option PublicEntry) (what : PublicTar
   own-there : (method : List ℕ) → method ≡ codes "GET" → asked-there method hall ≡ public_at hall what
   own-there method is = ap (λ m. asked-there m hall) is ∙ got hall
 
--- ---- by which settings it is shown
+-- ---- under which settings it is shown
 
--- what is shown in public, if something is asked of that
+-- the settings of what is shown in public, if something of that is requested
 abbrev shown_of : HttpRequestEntry → Option PublicEntry
 shown_of (denied why) = None
 shown_of (shown clerk show) = None
@@ -105,7 +105,7 @@ shown-by-settings gate hall (Ok (target.Office office.Orders)) (Ok n) behind its
 shown-by-settings gate None (Ok (target.Public what)) size behind its is = let no : ⊥ = cc in absurd no
 shown-by-settings gate (Some shows) (Ok (target.Public what)) size behind its is = is
 
--- ---- of any bytes
+-- ---- for any bytes
 
 pub AsksInPublic-all : (settings : HttpSettingsEntry) (bytes : List ℕ) → AsksInPublic settings bytes
 AsksInPublic-all settings bytes = record { target = at; shown = by }

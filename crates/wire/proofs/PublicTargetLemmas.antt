@@ -1,4 +1,4 @@
--- A target of what is shown in public names just what it is the path of.
+-- A target of something that is shown in public names exactly what it is the path of.
 use Rattle.std.proofs.Common.{◌≡◌, ◌∙◌, ◌-◌, ◌++◌, ℕ, Bool, true, false, List, Option, Some, None, ap, arith, codes, drop, length, refl, subst, sym, take}
 use Rattle.std.specs.Prelude.{bytes_eq, if◌then◌else◌, nat_eq, option_map}
 use Rattle.std.specs.Char.{is_ascii_digit}
@@ -14,9 +14,9 @@ use Rattle.wire.specs.declared.public_target.PublicTarget.TheVariants.{Index, Sc
 use Rattle.wire.specs.declared.target.Target.TheVariants.{Public}
 use Rattle.wire.proofs.OfficeTargetLemmas.{begun, number-first, rest-behind}
 
--- ---- a ward's page, by the word with which the target begins
+-- ---- a ward's page, by the word at the start of the target
 
--- what follows n bytes
+-- what follows the first n bytes
 tail-of : (n : ℕ) (target : List ℕ) → take (length target - n) (drop n target) ≡ drop n target
 tail-of n target = take_all (length target - n) (drop n target) (omega (arith, length-drop n target))
 
@@ -35,7 +35,7 @@ public-named target Screen is = ap named_by is
 public-named target Wards is = ap named_by is
 public-named target (Page n) (part, is, own) = ap named_by is ∙ rw (page-numbered part n own) refl
 
--- a sheet and a declaration are no page
+-- neither a sheet nor a declaration is a page
 no-page : (part rest : List ℕ) (n : ℕ) → number_in part ≡ Some n → prefix_len is_ascii_digit rest ≡ 0 → bytes_eq rest (codes "/page") ≡ false → page_after_prefix (part ++ rest) ≡ None
 no-page part rest n own none other = rw (number-first part rest n own none, rest-behind part rest n own none, other) refl
 
@@ -45,9 +45,9 @@ sheet-routed part n own = rw (no-page part (codes "/sheet") n own refl refl) ref
 pub declaration-routed : (part : List ℕ) (n : ℕ) → number_in part ≡ Some n → named_by (codes "/wards/" ++ (part ++ codes "/result")) ≡ routed_by (codes "/wards/" ++ (part ++ codes "/result"))
 declaration-routed part n own = rw (no-page part (codes "/result") n own refl refl) refl
 
--- ---- and nothing else does
+-- ---- and no other target does
 
--- what one test of a text found: it is this text, which names this
+-- what a comparison with a text shows: the target is this text, and names this thing
 same-text : (text word target : List ℕ) (one what : PublicTarget) → (text ≡ word → IsPublicTarget one target) → bytes_eq text word ≡ true → Some one ≡ Some what → IsPublicTarget what target
 same-text text word target one what own same named =
     let is : one ≡ what = cc in

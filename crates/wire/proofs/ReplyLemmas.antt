@@ -1,4 +1,4 @@
--- What is written for the values of answers, letter by letter.
+-- The text written for the values of answers, character by character.
 use Rattle.std.proofs.Common.{◌≡◌, ◌∷◌, false, ℕ, List, [], refl}
 use Rattle.serde_json.specs.Written.{compact_text, has_float}
 use Rattle.serde_json.specs.Data.{Data}
@@ -20,7 +20,7 @@ pub fault_body-written : (n : ℕ) → compact_text (fault_data n) ≡ fault_bod
 unfolding serde_json_on_literals
 fault_body-written n = refl
 
--- a list of values without floats has none
+-- a list of values without floats contains none
 pub list-float : {X : Type 0} (value : X → Data) → ((x : X) → has_float (value x) ≡ false) → (xs : List X) → has_float (list_data value xs) ≡ false
 list-float value each [] = refl
 list-float value each (x ∷ xs) = rw (each x, list-float value each xs) refl

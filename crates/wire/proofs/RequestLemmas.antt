@@ -1,4 +1,4 @@
--- What a request asks, from what was read of it.
+-- What a request asks for, judged from what was read of it.
 use Rattle.std.proofs.Common.{◌≡◌, ◌∙◌, ◌≤◌, ◌-◌, subst, List, ◌++◌, Option, Some, None, Result, Ok, Err, drop, inl, inr, length, map, refl, sym, ap, take, arith, append_assoc, ℕ}
 use Rattle.std.specs.Prelude.{IfErr, IfOk, IfSome}
 use Rattle.std.specs.Io.KnownBytes.{Consumes}
@@ -23,7 +23,7 @@ use Rattle.wire.specs.declared.target.Target.{Target}
 use Rattle.wire.specs.declared.read_failure.ReadFailure.{ReadFailure}
 use Rattle.wire.specs.declared.read_failure.ReadFailure.TheVariants.{Broken, Memory}
 
--- ---- one thing is asked
+-- ---- only one thing is requested
 
 pub AsksOneThing-all : (settings : HttpSettingsEntry) (bytes : List ℕ) → AsksOneThing settings bytes
 AsksOneThing-all settings bytes one two (inl (none, is)) (inl (none_too, is_too)) = is ∙ sym is_too
@@ -33,7 +33,7 @@ AsksOneThing-all settings bytes one two (inr (head, behind, begins, is)) (inr (o
     let (same_head, same_rest) = HasOneHead-all bytes head other behind others begins begins_too in
     is ∙ ap (λ h. asked_by settings h behind) same_head ∙ ap (asked_by settings other) same_rest ∙ sym is_too
 
--- ---- a page from elsewhere
+-- ---- a page from another site
 
 pub DeniesForeign-all : (settings : HttpSettingsEntry) (bytes : List ℕ) → DeniesForeign settings bytes
 DeniesForeign-all settings bytes head behind begins foreign asked asks =
@@ -54,7 +54,7 @@ pub Asks-none : (settings : HttpSettingsEntry) (old : Option (List ℕ)) → IfS
 Asks-none settings None none = tt
 Asks-none settings (Some bytes) none = inl (none, refl)
 
--- a head, what was read after it, and what is left
+-- a head, what was read after it, and what is left unread
 pub begins : (bytes got left : List ℕ) (headers : List HeaderSpan) (spans : RequestSpans) (head : RequestHead) → IsRequestAt got headers spans head → length got ≤ 8192 → length headers ≡ 32
     → bytes ≡ got ++ left → BeginsWith bytes head (drop spans.len got ++ left)
 begins bytes got left headers spans head is fits places e = record {
@@ -64,7 +64,7 @@ begins bytes got left headers spans head is fits places e = record {
   few = omega (arith, sym (length-map (take spans.headers headers) (header_bytes got)) ∙ ap length is.fields ∙ length-map head.fields name_and_value, length-take spans.headers headers);
 }
 
--- what a head asks, with what is left after it
+-- what a head asks for, given what is left after it
 Asks-entry : (settings : HttpSettingsEntry) (old mid : Option (List ℕ)) (got : List ℕ) (headers : List HeaderSpan) (spans : RequestSpans) → IsRequestOf got headers spans → (asked : HttpRequestEntry)
     → length got ≤ 8192 → length headers ≡ 32 → Consumes old mid got → IfSome mid (λ left. asked ≡ asked_at settings got headers spans left) → IfSome old (λ bytes. Asks settings bytes asked)
 Asks-entry settings None mid got headers spans found asked fits places took is = tt
@@ -89,10 +89,10 @@ Asks-head settings None mid got headers spans found r fits places took is = tt
 Asks-head settings (Some bytes) mid got headers spans found (Err e) fits places took is = tt
 Asks-head settings (Some bytes) mid got headers spans found (Ok asked) fits places took is = Asks-entry settings (Some bytes) mid got headers spans found (http_request_entry asked) fits places took is
 
--- ---- what doesn't say yet what is asked
+-- ---- what doesn't yet determine what is requested
 
 module _ (settings : HttpSettingsEntry) (got : List ℕ) (headers : List HeaderSpan) (spans : RequestSpans) where
-  -- a head lacks what was found of it lacks
+  -- a head lacks bytes if the spans that were found for it do
   MissesBehind-of : (head : RequestHead) → IsRequestAt got headers spans head → (behind : List ℕ) → MissesFound settings got headers spans behind → MissesBehind settings head behind
   MissesBehind-of head there behind completeness_of =
       let fields = map (header_bytes got) (take spans.headers headers) in
@@ -100,14 +100,14 @@ module _ (settings : HttpSettingsEntry) (got : List ℕ) (headers : List HeaderS
       (subst (λ p. MissesBytes (wanted settings fields head.method p) (body_length fields) behind) there.path
       (subst (λ m. MissesBytes (wanted settings fields m (span_bytes got spans.path)) (body_length fields) behind) there.method completeness_of))
 
-  -- bytes that begin with what was read don't say what is asked, where what was found in that lacks more
+  -- bytes that begin with what was read don't determine what is requested, if what was found in them lacks more
   pub IsIncomplete-found : (bytes left : List ℕ) → IsRequestOf got headers spans → length got ≤ 8192 → length headers ≡ 32 → bytes ≡ got ++ left
       → MissesFound settings got headers spans (drop spans.len got ++ left) → IsIncomplete settings bytes
   IsIncomplete-found bytes left (head, there) fits places e completeness_of =
       let behind = drop spans.len got ++ left in
       inr (head, behind, begins bytes got left headers spans head there fits places e, MissesBehind-of head there behind completeness_of)
 
--- there is a whole head, and what it asks for isn't all there
+-- the head is complete, and what it asks for isn't
 pub FailsAfter-behind : (settings : HttpSettingsEntry) (old mid new : Option (List ℕ)) (got : List ℕ) (headers : List HeaderSpan) (spans : RequestSpans)
     → IsRequestOf got headers spans → (r : Result HttpRequest ReadFailure)
     → length got ≤ 8192 → length headers ≡ 32 → Consumes old mid got → IfErr r (FailsAfter mid new (MissesAt settings got headers spans)) → IfErr r (FailsAfter old new (IsIncomplete settings))
@@ -116,7 +116,7 @@ FailsAfter-behind settings old mid new got headers spans found (Err Memory) fits
 FailsAfter-behind settings old mid new got headers spans found (Err Broken) fits places took (more, then, completeness_of) =
     (got ++ more, Consumes-trans old mid new got more took then, IsIncomplete-found settings got headers spans (got ++ more) more found fits places refl completeness_of)
 
--- ---- by what its head says that was parsed
+-- ---- judged from the parsed head
 
 -- what follows a head, as a part of what was read
 pub rest_of : (n : ℕ) (got : List ℕ) → take (length got - n) (drop n got) ≡ drop n got

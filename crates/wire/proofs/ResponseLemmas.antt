@@ -1,4 +1,4 @@
--- The answers that stand fixed, letter by letter.
+-- The constant responses, character by character.
 use Rattle.std.proofs.Common.{◌≡◌, Some, ap, refl, ℕ}
 use Rattle.std.specs.Fmt.{digits}
 use Rattle.wire.specs.Requests.{has_left}
@@ -53,7 +53,7 @@ pub left-told : SIGNED_OUT.now ≡ response_bytes (shown_response has_left)
 unfolding digits lines_and_body
 left-told = refl
 
--- a denial by which an account's code is asked for
+-- a rejection that requests an account's code
 pub unauthorized-told : (why : RequestError) (account : Account) → account_kept_out why ≡ Some account → denied_response why ≡ unauthorized_response account
 unauthorized-told (Unauthorized a) account is = let same : a ≡ account = cc in ap unauthorized_response same
 unauthorized-told (WrongCode a) account is = let same : a ≡ account = cc in ap unauthorized_response same

@@ -1,4 +1,4 @@
--- What requests ask, and the bytes of the responses.
+-- What requests ask for, and the bytes of the responses to them.
 pub mod Heads
 pub mod Numbers
 pub mod OfficeTargets

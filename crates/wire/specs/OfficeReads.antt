@@ -1,4 +1,4 @@
--- What the officer's console reads that is made of more than one answer of the office.
+-- Reads of the officer's console that combine several answers of the office.
 use Rattle.std.specs.Prelude.{List, None, Result, Ok, Err, length, map, ℕ}
 use Rattle.register.specs.Offices.{OfficeState, ReceiptEntry}
 use Rattle.register.specs.NextSteps.{NextStepEntry, step_entry}
@@ -11,7 +11,7 @@ use Rattle.wire.specs.declared.read_responses.found.WardProgress.{WardProgress}
 use Rattle.wire.specs.declared.read_responses.found.WardPapers.{WardPapers}
 use Rattle.wire.specs.declared.read_responses.found.WardRead.{WardRead}
 
--- what is made of two answers; or the reason of the first that is a refusal
+-- what is made from two answers, or the reason of the first one that is a refusal
 abbrev pub made_of : {X Y Z : Type 0} → (X → Y → Z) → Result X Reason → Result Y Reason → Result Z Reason
 made_of make (Ok x) (Ok y) = Ok (make x y)
 made_of make (Ok x) (Err why) = Err why

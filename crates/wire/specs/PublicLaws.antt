@@ -1,4 +1,4 @@
--- What may change what is shown in public: before the seal of a ward, nothing that is nominated, given out, keyed or judged in it.
+-- What can change what is shown in public: until a ward is sealed, nothing that is nominated, given out, keyed or judged in it.
 use Rattle.std.specs.Prelude.{◌≡◌, List, false, true, ℕ}
 use Rattle.std.specs.List.{All}
 use Rattle.register.specs.Elections.{election_of, is_counted}
@@ -10,19 +10,19 @@ use Rattle.wire.specs.PublicReplies.{screen_data, screen_of, screen_ward_data}
 use Rattle.wire.specs.Serving.{public_response}
 use Rattle.wire.specs.declared.public_target.PublicTarget.{PublicTarget}
 
--- Two offices look alike in public: they have the same wards, and of each ward that is sealed the same election.
+-- Two offices look alike in public: they have the same wards and, for each sealed ward, the same election.
 pub record AreAlikeInPublic (s t : OfficeState) : Type 0 where
   pub wards : t.wards ≡ s.wards
   pub sealed : All (λ w. is_counted w.phase ≡ true → election_of t w ≡ election_of s w) s.wards
 
--- The law: the same is shown of both.
+-- The law: both show the same.
 abbrev pub AlikeShowAlike : Type 0
 AlikeShowAlike = (its : PublicEntry) (what : PublicTarget) (s t : OfficeState) → AreAlikeInPublic s t → public_response t its what ≡ public_response s its what
 
--- The law of the list of wards: it rests on the table of wards alone, whatever is counted.
+-- The law of the list of wards: it depends only on the table of wards, whatever has been counted.
 abbrev pub RestsOnWards : List ℕ → Type 0
 RestsOnWards title = (s : OfficeState) → screen_of title (ward_views s) ≡ screen_data title s.wards
 
--- The law of a ward before its seal: no stage of it is counted, so the list has its number, its name and its phase alone.
+-- The law of an unsealed ward: none of its stages is counted, so the list has only its number, its name and its phase.
 abbrev pub ListsUnsealed : Type 0
 ListsUnsealed = (s : OfficeState) → IsState s → All (λ w. is_counted w.phase ≡ false → screen_ward_data w ≡ screen_ward_data (record w { done = 0 })) s.wards

@@ -13,7 +13,7 @@ use Rattle.wire.specs.Replies.{list_data, number_data}
 
 -- ---- the wards
 
--- a ward: its name, its phase, how many of its stages are counted, and its number
+-- a ward: its name, its phase, the number of its counted stages, and its number
 abbrev pub screen_ward_data : WardEntry → Data
 screen_ward_data w = object
     (member (codes "name") (string w.name)
@@ -25,13 +25,13 @@ screen_ward_data w = object
 abbrev pub screen_data : List ℕ → List WardEntry → Data
 screen_data title wards = object (member (codes "title") (string title) (member (codes "wards") (list_data screen_ward_data wards) no_members))
 
--- the same of what is read of the wards, of which the list has nothing else
+-- the same, made from the reads of the wards, of which the list contains nothing else
 abbrev pub screen_of : List ℕ → List WardView → Data
 screen_of title views = screen_data title (map (λ v. v.ward) views)
 
 -- ---- the page of a ward
 
--- the page of the ward found, once it is sealed
+-- the page of the ward that was found, once it is sealed
 abbrev pub page_found : List ℕ → OfficeState → Option WardEntry → Result (List ℕ) Reason
 page_found title s None = Err NoSuchWard
 page_found title s (Some w) = if is_counted w.phase then Ok (result_page_of title (election_of s w)) else Err WrongPhase

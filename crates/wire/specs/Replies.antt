@@ -1,4 +1,4 @@
--- The JSON of responses: each body letter by letter, and the value that it is written for.
+-- The JSON of responses: each body character by character, and the value that it represents.
 use Rattle.std.specs.Prelude.{List, ◌++◌, codes, decimal, map, ℕ}
 use Rattle.json.specs.Print.{quoted}
 use Rattle.serde_json.specs.Data.{Data, array, boolean, member, no_members, number, object, string, unsigned}
@@ -15,7 +15,7 @@ reply_data text = object (member (codes "reply") (string text) no_members)
 abbrev pub reply_body : List ℕ → List ℕ
 reply_body text = codes "{\"reply\":" ++ (quoted text ++ codes "}")
 
--- the outcome of an order: what it printed as errors, what it printed, and its status
+-- the outcome of an order: its error output, its output, and its status
 abbrev pub order_data : ℕ → List ℕ → List ℕ → Data
 order_data status output errors = object
     (member (codes "errors") (string errors)
@@ -69,7 +69,7 @@ work_body clerk work = compact_text (clerk_data clerk work)
 abbrev pub candidate_data : CandidateEntry → Data
 candidate_data c = object (member (codes "candidate") (number_data c.number) (member (codes "name") (string c.name) no_members))
 
--- what is on the papers of a batch: its ward with its name, and the candidates there
+-- what is on the papers of a batch: its ward, with its name, and the ward's candidates
 abbrev pub paper_data : ℕ → BallotPaperEntry → Data
 paper_data batch p = object
     (member (codes "batch") (number_data batch)
@@ -85,7 +85,7 @@ paper_body batch p = compact_text (paper_data batch p)
 abbrev pub marks_data : KeyedEntry → Data
 marks_data k = string k.marks
 
--- what a clerk keyed of a batch in a round: the marks of each paper, in order
+-- what a clerk keyed for a batch in a round: the marks of each paper, in order
 abbrev pub keyed_data : ℕ → KeyedRoundEntry → Data
 keyed_data batch k = object
     (member (codes "batch") (number_data batch)

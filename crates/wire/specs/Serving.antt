@@ -1,4 +1,4 @@
--- The response at a state of the office, and what a connection leaves.
+-- The response at each state of the office, and what a connection leaves.
 use Rattle.std.specs.Prelude.{◌≡◌, ◌==◌, ◌⊎◌, ◌∷◌, ⊤, Bool, List, [], Option, Some, None, Result, Ok, Err, IfSome, find, map, string_bytes, ℕ}
 use Rattle.std.specs.Io.KnownBytes.{Appends}
 use Rattle.sqlite.specs.State.{State}
@@ -49,17 +49,17 @@ use Rattle.wire.specs.declared.serving.Served.TheVariants.{Answered, ReadFailed,
 use Rattle.wire.specs.declared.target.Resource.{Resource}
 use Rattle.wire.specs.declared.target.Resource.TheVariants.{Candidates, Declaration, Keyed, Office, Sheet, Work}
 
--- the refusal for a reason
+-- the response with a refusal for this reason
 abbrev pub refused_for : Reason → ResponseEntry
 refused_for why = refusal_response (reason_number why) (reason_text why)
 
--- the response for the office's answer to a keying
+-- the response that carries the office's answer to a keying
 abbrev pub told_response : Told → ResponseEntry
 told_response (done reply) = reply_response reply
 told_response (again reply) = reply_response reply
 told_response (no why) = refused_for why
 
--- what is read, or the refusal
+-- the response with what was read, or with the refusal
 abbrev pub read_response : {X : Type 0} → (X → ResponseEntry) → Result X Reason → ResponseEntry
 read_response told (Ok x) = told x
 read_response told (Err why) = refused_for why
@@ -72,11 +72,11 @@ work_response clerk work = json_response 200 (work_body clerk work)
 abbrev pub paper_response : ℕ → BallotPaperEntry → ResponseEntry
 paper_response batch paper = json_response 200 (paper_body batch paper)
 
--- the JSON of a value
+-- the response with the JSON of a value
 abbrev pub data_response : Data → ResponseEntry
 data_response value = json_response 200 (compact_text value)
 
--- what a clerk keyed of a batch in an earlier round; if there is no such round, nothing is found
+-- what a clerk keyed for a batch in an earlier round, or "not found" if there is no such round
 abbrev pub earlier_response : ℕ → Option KeyedRoundEntry → ResponseEntry
 earlier_response batch (Some keyed) = data_response (keyed_data batch keyed)
 earlier_response batch None = denied_response NotFound
@@ -108,14 +108,14 @@ reading_response s (Sheet ward) = read_response text_response (text_answer text.
 reading_response s (Declaration ward) = read_response text_response (text_answer text.Declaration s ward)
 reading_response s (Office its) = office_response s its
 
--- the response with what is shown in public at a state
+-- the response with something that is shown in public, at a state
 abbrev pub public_response : OfficeState → PublicEntry → PublicTarget → ResponseEntry
 public_response s its public_target.Index = read_response printed_response (index_answer its.title s)
 public_response s its public_target.Screen = shown_response (page its.screen)
 public_response s its public_target.Wards = read_response (λ views. data_response (screen_of its.title views)) (wards_answer s)
 public_response s its (public_target.Page ward) = read_response printed_response (page_told its.title s ward)
 
--- the request as which a clerk's keying of a batch is sent to the office
+-- the request by which a clerk's keying of a batch is sent to the office
 pub record IsHandedOn (clerk batch : ℕ) (entry : KeyingEntry) (request : Request) : Type 0 where
   pub actor : request.actor ≡ clerk
   pub id : string_bytes request.id ≡ entry.id
@@ -125,13 +125,13 @@ pub record IsHandedOn (clerk batch : ℕ) (entry : KeyingEntry) (request : Reque
   pub round : handed.round ≡ entry.round
   pub papers : map string_bytes handed.papers.items ≡ entry.papers
 
--- the outcome of a clerk's keying at a state: that of each request as which the keying may be sent to the office
+-- the outcome of a clerk's keying at a state: the outcome of any request by which the keying may be sent to the office
 pub record IsOutcome (s : OfficeState) (clerk batch : ℕ) (entry : KeyingEntry) (outcome : Outcome) : Type 0 where
   pub request : Request
   pub is : IsHandedOn clerk batch entry request
   pub each : (other : Request) → IsHandedOn clerk batch entry other → outcome ≡ step_of s other
 
--- The response to what is asked at a state, and the state after it. An order is followed by the server, and not here: here nothing is found at its target.
+-- The response to the request at a state, and the state after it. Orders are carried out by the server, not here; here they get "not found".
 abbrev pub IsAnswer : OfficeState → HttpRequestEntry → OfficeState → ResponseEntry → Type 0
 IsAnswer s (denied why) next answer = (next ≡ s) × (answer ≡ denied_response why)
 IsAnswer s (shown clerk show) next answer = (next ≡ s) × (answer ≡ shown_response show)
@@ -144,13 +144,14 @@ IsAnswer s (keying clerk batch entry) next answer =
 
 -- ---- what each exit leaves
 
--- the office is open at the state after what was asked
+-- the office is open at the state after the request
 pub record IsAnswered (s : OfficeState) (asked : HttpRequestEntry) (answer : ResponseEntry) (closed : Bool) (st : State) : Type 0 where
   pub next : OfficeState
   pub is : IsAnswer s asked next answer
   pub open_at : IsOpenAt next closed st
 
--- What a fault of the office leaves: the office as it was, or closed. Then a stop leaves the state before, or, for a keying that is accepted, the one after.
+-- What a fault of the office leaves: the office as it was, or closed. If it is closed, a stop leaves the state before the request or, for an accepted keying, the state
+-- after it.
 abbrev pub FaultLeaves : OfficeState → HttpRequestEntry → Fault → Bool → State → Type 0
 FaultLeaves s (denied why) f closed st = ⊥
 FaultLeaves s (shown clerk show) f closed st = ⊥
@@ -161,24 +162,24 @@ FaultLeaves s (reading what) f closed st = IsKeptOpen s f closed st ⊎ IsClosed
 FaultLeaves s (keying clerk batch entry) f closed st =
     (outcome : Outcome) × IsOutcome s clerk batch entry outcome × (IsKeptOpen s f closed st ⊎ IsClosedIn s outcome f closed st)
 
--- the response to what is asked and what it leaves, or the fault of the office
+-- the response to the request, with the state that it leaves; or the fault of the office
 abbrev pub Leaves : OfficeState → HttpRequestEntry → ResponseEntry → Bool → State → Type 0
 Leaves s asked answer closed st =
     IsAnswered s asked answer closed st ⊎ ((f : Fault) × (answer ≡ fault_response (fault_number f)) × FaultLeaves s asked f closed st)
 
--- the same for a response that is ready to be written, for which an allocation may fail
+-- the same, for a response that is ready to be written, whose allocation may have failed
 abbrev pub Readies : OfficeState → HttpRequestEntry → Response → Bool → State → Type 0
 Readies s asked response closed st = (answer : ResponseEntry) × IsTold answer response × Leaves s asked answer closed st
 
--- a response that is ready has the result of a read, seen through a view
+-- a response that is ready carries the result of a read, mapped by a view
 abbrev pub IsReadTold : {X Y : Type 0} → (X → ResponseEntry) → (Y → X) → Result Y ReadError → Response → Type 0
 IsReadTold entry view (Ok y) response = IsTold (entry (view y)) response
 IsReadTold entry view (Err (Refused why)) response = IsTold (refused_for why) response
 IsReadTold entry view (Err (Failed f)) response = IsTold (fault_response (fault_number f)) response
 
--- ---- the response, and what the office is sent for it
+-- ---- the response, and what is sent to the office for it
 
--- The requests that the office is sent for what is asked at a state, and the response. A clerk's keying is sent, and the response is the office's answer to it.
+-- The requests that are sent to the office for what is requested at a state, and the response. A clerk's keying is sent on, and the response is the office's answer to it.
 abbrev pub TellsAsked : OfficeState → HttpRequestEntry → Response → List Request → Type 0
 TellsAsked s (denied why) response sent = IsTold (denied_response why) response × (sent ≡ [])
 TellsAsked s (shown clerk show) response sent = IsTold (shown_response show) response × (sent ≡ [])
@@ -193,21 +194,21 @@ TellsAsked s (keying clerk batch entry) response sent =
 abbrev pub TellsFault : Response → Type 0
 TellsFault response = IsTold (fault_response (fault_number Store)) response
 
--- The response is the one to what is asked. Or an allocation failed, and the office was sent nothing, or what it was sent is as if it had never come.
+-- The response is the one to the request. Or an allocation failed, and either the office was sent nothing, or what it was sent counts as never sent.
 abbrev pub TellsFor : HttpSettingsEntry → Option (List ℕ) → OfficeState → List Request → Response → Type 0
 TellsFor settings bytes s sent response = ((asked : HttpRequestEntry) × IfSome bytes (λ xs. Asks settings xs asked)
     × TellsAsked s asked response sent) ⊎ (IsWritten (fault_response 101) response × (sent ≡ []))
 
 -- ---- a closed office
 
--- its response with what is shown in public: the page for the screen is the same at any state
+-- the response of a closed office for something that is shown in public: the page for the screen is the same at any state
 abbrev pub closed_public : PublicEntry → PublicTarget → ResponseEntry
 closed_public its public_target.Index = fault_response (fault_number Closed)
 closed_public its public_target.Screen = shown_response (page its.screen)
 closed_public its public_target.Wards = fault_response (fault_number Closed)
 closed_public its (public_target.Page ward) = fault_response (fault_number Closed)
 
--- Its response to what is asked. What is rejected is rejected, what is shown at any state is shown, and everything else gets the fault that the office is closed.
+-- The response of a closed office. A rejected request is rejected, what is shown at any state is shown, and everything else gets the fault for a closed office.
 abbrev pub closed_response : HttpRequestEntry → ResponseEntry
 closed_response (denied why) = denied_response why
 closed_response (shown clerk show) = shown_response show
@@ -217,83 +218,83 @@ closed_response (public its what) = closed_public its what
 closed_response (reading what) = fault_response (fault_number Closed)
 closed_response (keying clerk batch entry) = fault_response (fault_number Closed)
 
--- The response to a rejected request, such as one of a page from elsewhere, is the same at every state, and for a closed office too. It changes nothing.
+-- The response to a rejected request, such as one from a page on another site, is the same at every state, and for a closed office too. It changes nothing.
 abbrev pub IsDeniedAlike : RequestError → Type 0
 IsDeniedAlike why =
     (s t next : OfficeState) (answer : ResponseEntry) → IsAnswer s (denied why) next answer → (next ≡ s) × IsAnswer t (denied why) t answer × (answer ≡ closed_response (denied why))
 
--- the same for what is shown at any state
+-- the same for what is shown to a clerk at any state
 abbrev pub IsShownAlike : ShowEntry → Type 0
 IsShownAlike show =
     (clerk : ℕ) (s t next : OfficeState) (answer : ResponseEntry) → IsAnswer s (shown clerk show) next answer
     → (next ≡ s) × IsAnswer t (shown clerk show) t answer × (answer ≡ closed_response (shown clerk show))
 
--- and for what is shown to the office
+-- the same for what is shown to the office
 abbrev pub IsConsoleAlike : ShowEntry → Type 0
 IsConsoleAlike show =
     (s t next : OfficeState) (answer : ResponseEntry) → IsAnswer s (console show) next answer → (next ≡ s) × IsAnswer t (console show) t answer × (answer ≡ closed_response (console show))
 
--- this response is ready to be written, and if the client's bytes are known, they ask exactly that
+-- this response is ready to be written, and if the client's bytes are known, it answers what they ask for
 pub record TellsClosed (settings : HttpSettingsEntry) (bytes : Option (List ℕ)) (response : Response) : Type 0 where
   pub asked : HttpRequestEntry
   pub asks : IfSome bytes (λ xs. Asks settings xs asked)
   pub tells : IsTold (closed_response asked) response
 
--- that; or the allocation for reading the request failed
+-- the same; or the allocation for reading the request failed
 abbrev pub ReadiesClosed : HttpSettingsEntry → Option (List ℕ) → Response → Type 0
 ReadiesClosed settings bytes response = TellsClosed settings bytes response ⊎ IsWritten (fault_response 101) response
 
 -- ---- one connection
 
--- the response to what a client asks is ready, with what it leaves; if the client's bytes are known, they ask exactly that
+-- the response to a client's request is ready, with the state that it leaves; if the client's bytes are known, they ask for exactly that
 pub record ReadiesAsked (settings : HttpSettingsEntry) (bytes : Option (List ℕ)) (s : OfficeState) (response : Response) (closed : Bool) (st : State) : Type 0 where
   pub asked : HttpRequestEntry
   pub asks : IfSome bytes (λ xs. Asks settings xs asked)
   pub readies : Readies s asked response closed st
 
--- that; or the allocation for reading the request failed, and the office was sent nothing
+-- the same; or the allocation for reading the request failed, and the office was sent nothing
 abbrev pub ReadiesFor : HttpSettingsEntry → Option (List ℕ) → OfficeState → Response → Bool → State → Type 0
 ReadiesFor settings bytes s response closed st = ReadiesAsked settings bytes s response closed st ⊎ (IsWritten (fault_response 101) response × IsOpenAt s closed st)
 
--- a response was written whole; or a beginning of it, if the writer failed
+-- a response was written completely, or only a prefix of it if the writer failed
 abbrev pub IsPut : Option (List ℕ) → Option (List ℕ) → Response → Served → Type 0
 IsPut old new response (Answered status) = (status ≡ response.status) × Appends old new (told_bytes response.bytes)
 IsPut old new response ReadFailed = ⊥
 IsPut old new response WriteFailed = AppendsBeginning old new (told_bytes response.bytes)
 
--- a response that was ready, and what was written of it
+-- a response that was ready, and the part of it that was written
 pub record IsServed (IsReady : Response → Type 0) (old new : Option (List ℕ)) (served : Served) : Type 0 where
   pub response : Response
   pub ready : IsReady response
   pub put : IsPut old new response served
 
--- how a connection ended: a response that was ready was written; or the reader failed
+-- how a connection ended: a response that was ready was written, or the reader failed
 abbrev pub EndsWith : (Response → Type 0) → Type 0 → Option (List ℕ) → Option (List ℕ) → Served → Type 0
 EndsWith IsReady ReadFailure old new (Answered status) = IsServed IsReady old new (Answered status)
 EndsWith IsReady ReadFailure old new ReadFailed = ReadFailure
 EndsWith IsReady ReadFailure old new WriteFailed = IsServed IsReady old new WriteFailed
 
--- what each outcome of a connection writes and leaves; if the reader failed, the office was sent nothing
+-- what is written and left by each outcome of a connection; if the reader failed, the office was sent nothing
 abbrev pub Serves : HttpSettingsEntry → Option (List ℕ) → Option (List ℕ) → Option (List ℕ) → OfficeState → Served → Bool → State → Type 0
 Serves settings bytes old new s served closed st = EndsWith (λ response. ReadiesFor settings bytes s response closed st) (IsOpenAt s closed st) old new served
 
--- what each outcome of a connection writes if the office is closed; if the reader failed, nothing was written
+-- what is written by each outcome of a connection if the office is closed; if the reader failed, nothing was written
 abbrev pub ServesClosed : HttpSettingsEntry → Option (List ℕ) → Option (List ℕ) → Option (List ℕ) → Served → Type 0
 ServesClosed settings bytes old new served = EndsWith (ReadiesClosed settings bytes) (new ≡ old) old new served
 
--- P, if a response was written whole
+-- P holds if a response was written completely
 abbrev pub OnAnswered : Served → Type 0 → Type 0
 OnAnswered (Answered status) P = P
 OnAnswered ReadFailed P = ⊤
 OnAnswered WriteFailed P = ⊤
 
--- P, if the reader failed
+-- P holds if the reader failed
 abbrev pub OnReadFailed : Served → Type 0 → Type 0
 OnReadFailed (Answered status) P = ⊤
 OnReadFailed ReadFailed P = P
 OnReadFailed WriteFailed P = ⊤
 
--- P, if the writer failed
+-- P holds if the writer failed
 abbrev pub OnWriteFailed : Served → Type 0 → Type 0
 OnWriteFailed (Answered status) P = ⊤
 OnWriteFailed ReadFailed P = ⊤

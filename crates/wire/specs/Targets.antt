@@ -1,4 +1,4 @@
--- What the targets of requests name: eight routes, as `matchit` finds them for the whole target, with numbers in them.
+-- What the targets of requests name: eight routes with numbers in them, matched against the whole target as `matchit` does.
 use Rattle.std.specs.Prelude.{◌≡◌, ◌↔◌, ◌++◌, List, [], Option, Some, None, Result, Ok, Err, bytes_eq, codes, if◌then◌else◌, option_and_then, option_map, ℕ}
 use Rattle.std.specs.Char.{is_ascii}
 use Rattle.std.specs.List.{list_all}
@@ -23,7 +23,7 @@ use Rattle.wire.specs.declared.target.Resource.TheVariants.{Candidates, Declarat
 use Rattle.wire.specs.declared.target.Target.{Target}
 use Rattle.wire.specs.declared.target.Target.TheVariants.{Keying, Leave, Office, Page, Public, Resource}
 
--- the routes with one more
+-- the routes, with one more added
 abbrev pub with_scanned : Result Scan InsertError → RouteTarget → RowsOf (RouteOf RouteTarget) → RowsOf (RouteOf RouteTarget)
 with_scanned (Ok scan) value routes = placed (scan.pattern, route_from scan value) routes
 with_scanned (Err e) value routes = routes
@@ -43,18 +43,18 @@ office_routes =
     (with_route (codes "/clerks/{c}/work") place.Work
     (with_route (codes "/clerks/{c}/batches/{b}/keying") place.Keying [])))))))
 
--- the parameters of a route in a target, each with its name
+-- the parameters of a route in a target, with their names
 abbrev pub Taken : Type 0
 Taken = List (List ℕ × List ℕ)
 
 abbrev pub taken_by : Params → Taken
 taken_by params = walk params.pattern.now params.text.now params.path.now params.names.now 0 0
 
--- the number in the parameter with this name
+-- the number in the parameter of this name
 abbrev pub parameter : List ℕ → Taken → Option ℕ
 parameter name taken = option_and_then number_in (named name taken)
 
--- what a target names, by its route and its parameters
+-- what a target names, given its route and its parameters
 abbrev pub named_at : RouteTarget → Taken → Option Target
 named_at place.Keying taken =
     option_and_then (λ clerk. option_map (λ batch. Keying clerk batch) (parameter (codes "b") taken)) (parameter (codes "c") taken)
@@ -68,7 +68,7 @@ named_at place.Work taken = option_map (λ clerk. Resource (Work clerk)) (parame
 named_at place.Sheet taken = option_map (λ ward. Resource (Sheet ward)) (parameter (codes "w") taken)
 named_at place.Declaration taken = option_map (λ ward. Resource (Declaration ward)) (parameter (codes "w") taken)
 
--- the route of a target; the routes are ASCII, and so is every target that matches one
+-- the route of a target; the routes are ASCII, and so is any target that matches one
 abbrev pub route_of : List ℕ → Option (RouteOf RouteTarget)
 route_of target = if list_all is_ascii target then first office_routes target else None
 
@@ -82,19 +82,19 @@ office_path office.ConsolePage = codes "/office/"
 office_path office.Leave = codes "/office/leave"
 office_path office.Orders = codes "/office/orders"
 
--- what of the console a target is
+-- the part of the console that a target names
 abbrev pub office_by : List ℕ → Option OfficeTarget
 office_by target =
     if bytes_eq target (office_path office.ConsolePage) then Some office.ConsolePage
     else (if bytes_eq target (office_path office.Leave) then Some office.Leave
     else (if bytes_eq target (office_path office.Orders) then Some office.Orders else None))
 
--- what a target names that isn't the console's: what is shown in public, or what its route leads to
+-- what a target outside the console names: what is shown in public, or what its route leads to
 abbrev pub public_or_routed : Option PublicTarget → List ℕ → Option Target
 public_or_routed (Some what) target = Some (Public what)
 public_or_routed None target = routed_by target
 
--- what a target names that isn't of the console itself: what the console reads, or what isn't the console's
+-- what a target other than the console itself names: what the console reads, or what is outside the console
 abbrev pub read_or_other : Option OfficeRead → List ℕ → Option Target
 read_or_other (Some read) target = Some (Resource (Reads read))
 read_or_other None target = public_or_routed (public_by target) target
@@ -109,7 +109,7 @@ named_by target = named_in (office_by target) target
 
 -- ---- the same in plain words
 
--- the target of something that is served: its path, with each number in 1 to 5 digits, the first not 0
+-- the target of something that is served: its path, with each number written in 1 to 5 digits, without leading zeros
 abbrev pub IsTargetOf : Target → List ℕ → Type 0
 IsTargetOf (Keying clerk batch) target =
     (c b : List ℕ) × (target ≡ codes "/clerks/" ++ (c ++ (codes "/batches/" ++ (b ++ codes "/keying")))) × (number_in c ≡ Some clerk) × (number_in b ≡ Some batch)
@@ -126,6 +126,6 @@ IsTargetOf (Public what) target = IsPublicTarget what target
 IsTargetOf (Resource (Reads read)) target = IsReadTarget read target
 IsTargetOf (Resource (Declaration ward)) target = (w : List ℕ) × (target ≡ codes "/wards/" ++ (w ++ codes "/result")) × (number_in w ≡ Some ward)
 
--- a target names exactly what it is the path of, and so no other target names that
+-- a target names exactly what it is the path of, so no other target names it
 abbrev pub NamesOnlyItsPath : List ℕ → Type 0
 NamesOnlyItsPath target = (there : Target) → (named_by target ≡ Some there) ↔ IsTargetOf there target

@@ -10,7 +10,7 @@ abbrev pub told_bytes : Bytes → List ℕ
 told_bytes (Fixed text) = text.now
 told_bytes (Made text) = string_bytes text
 
--- a response is this one
+-- a response has the status and the bytes of this one
 pub record IsWritten (entry : ResponseEntry) (response : Response) : Type 0 where
   pub status : response.status ≡ entry.status
   pub bytes : told_bytes response.bytes ≡ response_bytes entry

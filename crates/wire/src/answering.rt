@@ -1,4 +1,4 @@
-//! What the office is asked for a request, and the response.
+//! Asking the office on behalf of a request, and building the response.
 
 ghost use Rattle.std.specs.Prelude.{◌≡◌, false, map, true, string_bytes};
 ghost use Rattle.register.specs.Status.{paper_entry, work_entry};
@@ -30,7 +30,7 @@ use sqlite::Alter;
 use std::alloc::Global;
 use store::Fault;
 
-/// Returns the response with the office's answer to a keying.
+/// Returns the response that carries the office's answer to a keying.
 fn answered(alloc: Global, answer: &Answer) -> Response
     ensures { IsTold (told_response (told answer.now)) result }
 {
@@ -41,7 +41,7 @@ fn answered(alloc: Global, answer: &Answer) -> Response
     }
 }
 
-/// Sends a clerk's keying to the office, and returns the response. A closed office stays as it is.
+/// Sends a clerk's keying to the office and returns the response. A closed office stays as it is.
 pub fn answer_keying<S: Alter>(alloc: Global, office: &mut Office<S>, keying: Keying) -> Response
     ensures answers { HasCleanDisk (state S.Store office.new.held) → office.old.closed ≡ false → (s : OfficeState) → IsAt s (state S.Store office.old.held)
         → Readies s (http_request_entry (HttpRequest.Keying keying)) result office.new.closed (state S.Store office.new.held) }
@@ -106,7 +106,7 @@ fn answer_paper(alloc: Global, batch: u32, told: Result<BallotPaper, ReadError>)
     }
 }
 
-/// Reads a resource from the office, and returns the response.
+/// Reads a resource from the office and returns the response.
 fn answer_reading<S: Alter>(alloc: Global, office: &mut Office<S>, what: Resource) -> Response
     ensures answers { HasCleanDisk (state S.Store office.new.held) → office.old.closed ≡ false → (s : OfficeState) → IsAt s (state S.Store office.old.held)
         → Readies s (reading what) result office.new.closed (state S.Store office.new.held) }
@@ -128,7 +128,7 @@ fn answer_reading<S: Alter>(alloc: Global, office: &mut Office<S>, what: Resourc
     }
 }
 
-/// Processes a request in the office, and returns the response. An order isn't followed here: nothing is found at its target.
+/// Processes a request in the office and returns the response. Orders aren't carried out here; they get "not found".
 pub(crate) fn answer<S: Alter>(
     alloc: Global,
     office: &mut Office<S>,

@@ -1,4 +1,4 @@
-//! Authentication of a request at the gate, by the code that it has.
+//! Authentication of a request at the gate, by the code it carries.
 
 ghost use Rattle.std.specs.Prelude.{◌≡◌, List, length, map, option_map};
 ghost use Rattle.std.specs.List.{All};
@@ -21,14 +21,14 @@ const CLERKS: &[u8] = b"/clerks/";
 /// The prefix of every target that belongs to the officer's console.
 const OFFICE: &[u8] = b"/office/";
 
-/// The account whose code a request needs, and whether the request has a wrong code.
+/// The account whose code a request needs, and whether the request has the wrong code.
 #[derive(Clone, Copy)]
 pub struct Authentication {
     pub account: Account,
     pub is_wrong: bool,
 }
 
-/// Returns the clerk whose number is in a target, whether or not anything is served there.
+/// Returns the clerk whose number is in a target, whether or not anything is served at that target.
 fn clerk_under(target: &[u8]) -> Option<u32>
     ensures { result ≡ clerk_under target.now }
 {
@@ -61,7 +61,7 @@ pub(crate) fn account_at(gate: Option<Gate<'_>>, target: &[u8]) -> Option<Accoun
     }
 }
 
-/// Returns whether a value of `Authorization` is an account's.
+/// Returns whether an `Authorization` value matches an account's.
 fn has_code(gate: Gate<'_>, account: Account, value: &[u8]) -> bool
     ensures { result ≡ has_code (gate_entry gate.entry) account value.now }
 {
@@ -71,7 +71,7 @@ fn has_code(gate: Gate<'_>, account: Account, value: &[u8]) -> bool
     }
 }
 
-/// Returns why authentication failed, by the header fields, whose names and values are in a buffer; `None` if it succeeded.
+/// Returns why authentication failed, given the header fields, whose names and values are in a buffer; `None` if it succeeded.
 fn authentication_failure_by(
     gate: Gate<'_>,
     account: Account,
@@ -94,7 +94,7 @@ fn authentication_failure_by(
     }
 }
 
-/// Returns why authentication failed at the gate, by the account whose code the target needs, if it needs one.
+/// Returns why authentication failed at the gate, given the account whose code the target needs, if any.
 pub(crate) fn authentication_failure(
     gate: Option<Gate<'_>>,
     account: Option<Account>,
@@ -113,7 +113,7 @@ pub(crate) fn authentication_failure(
     }
 }
 
-/// Returns whether a code was sent, and is wrong.
+/// Returns whether a code was sent and is wrong.
 fn is_wrong_code(why: Option<RequestError>) -> bool
     ensures { result ≡ is_wrong_code why }
 {
@@ -124,8 +124,8 @@ fn is_wrong_code(why: Option<RequestError>) -> bool
     }
 }
 
-/// Returns the authentication of a request at a gate, by the account whose code its target needs, and by why authentication
-/// failed.
+/// Returns the authentication of a request at a gate, given the account whose code its target needs and the reason why
+/// authentication failed, if it did.
 pub(crate) fn authentication_by(
     gate: Option<Gate<'_>>,
     account: Option<Account>,

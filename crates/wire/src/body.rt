@@ -13,7 +13,7 @@ use serde_json::{Category, Map, Value};
 use std::alloc::{AllocError, Global};
 use streams::{Broken, Source};
 
-/// The body of a keying: its id, its round (a number of 32 bits, in range or not), and the marks text of each paper.
+/// The body of a keying: its id, its round (any 32-bit number, in range or not), and the marks text of each paper.
 #[derive(Drop)]
 pub(crate) struct KeyingBody {
     pub id: String,
@@ -21,7 +21,7 @@ pub(crate) struct KeyingBody {
     pub papers: Vec<String>,
 }
 
-/// Fills a buffer; returns false if the source ends before that.
+/// Fills a buffer. Returns false if the source ends first.
 fn fill<R: Source>(reader: &mut R, room: &mut [u8]) -> Result<bool, Broken>
     requires { R.failed reader.old < 2 ^ 64 - 1 }
     ensures full { IfOk result (λ full. full ≡ true → Consumes (R.held reader.old) (R.held reader.new) room.new) }
@@ -40,7 +40,7 @@ fn fill<R: Source>(reader: &mut R, room: &mut [u8]) -> Result<bool, Broken>
     Ok(true)
 }
 
-/// Returns a buffer of this size that begins with these bytes.
+/// Returns a buffer of the given size that begins with these bytes.
 fn buffer_from(alloc: Global, front: &[u8], size: usize) -> Result<Vec<u8>, AllocError>
     requires { length front.now ≤ size }
     ensures size { IfOk result (λ buffer. vec_len buffer ≡ size) }
@@ -52,10 +52,11 @@ fn buffer_from(alloc: Global, front: &[u8], size: usize) -> Result<Vec<u8>, Allo
     Ok(buffer)
 }
 
-/// Reads a body of this size, which begins with the bytes that were already read after the head. Returns `None` if the source
-/// ends before the body does.
+/// Reads a body of the given size. It begins with the bytes already read after the head. Returns `None` if the source ends
+/// before the body does.
 ///
-/// `Broken` comes only from the source, which counts one failure more, and only while the body isn't complete.
+/// `Broken` is returned only if the source fails, while the body is still incomplete; the source's failure count is then one
+/// higher.
 pub(crate) fn read_body<R: Source>(
     alloc: Global,
     reader: &mut R,
@@ -77,7 +78,7 @@ pub(crate) fn read_body<R: Source>(
     }
 }
 
-/// Returns the text of a value, if the value is a text.
+/// Returns the text in a value, if the value is a string.
 pub(crate) fn text_in(value: Value) -> Option<String>
     ensures { option_map string_bytes result ≡ as_str (view value) }
 {
@@ -87,7 +88,7 @@ pub(crate) fn text_in(value: Value) -> Option<String>
     }
 }
 
-/// Returns the round in a value, if the value is a number of 32 bits.
+/// Returns the round in a value, if the value is a 32-bit number.
 fn round_in(value: &Value) -> Option<u32>
     ensures { result ≡ round_in (view value.now) }
 {
@@ -95,7 +96,7 @@ fn round_in(value: &Value) -> Option<u32>
     u32::try_from(round).ok()
 }
 
-/// Returns the texts in a list of values, if all of them are texts.
+/// Returns the texts in a list of values, if all of them are strings.
 fn texts_in(alloc: Global, values: Vec<Value>) -> Result<Option<Vec<String>>, AllocError>
     ensures { IfOk result (λ found. option_map (λ texts. map string_bytes texts.items) found ≡ texts_in (items_view values.items)) }
 {
@@ -109,7 +110,7 @@ fn texts_in(alloc: Global, values: Vec<Value>) -> Result<Option<Vec<String>>, Al
     Ok(Some(texts))
 }
 
-/// Returns the texts in a value, if the value is a list of texts.
+/// Returns the texts in a value, if the value is a list of strings.
 pub(crate) fn list_in(alloc: Global, value: Value) -> Result<Option<Vec<String>>, AllocError>
     ensures { IfOk result (λ found. option_map (λ texts. map string_bytes texts.items) found ≡ list_in (view value)) }
 {
@@ -119,7 +120,7 @@ pub(crate) fn list_in(alloc: Global, value: Value) -> Result<Option<Vec<String>>
     }
 }
 
-/// Returns the values of the members `id`, `papers` and `round`, if an object has exactly these members.
+/// Returns the values of `id`, `papers` and `round`, if an object has exactly these members.
 fn key_members(mut members: Map<String, Value>) -> Option<(Value, Value, Value)>
     ensures { option_map (λ found. (view found.0, view found.1, view found.2)) result ≡ key_members (members_view members.entries) }
 {
@@ -136,7 +137,7 @@ fn key_members(mut members: Map<String, Value>) -> Option<(Value, Value, Value)>
     }
 }
 
-/// Returns the keying made of three values, if each of them has its type.
+/// Returns the keying made from three values, if each of them has the right type.
 fn keying_from(
     alloc: Global,
     id: Value,
@@ -157,7 +158,7 @@ fn keying_from(
     Ok(Some(KeyingBody { id, round, papers }))
 }
 
-/// Parses the JSON of a text. The only error is a failed allocation.
+/// Parses a text as JSON. The only error is a failed allocation.
 pub(crate) fn json_in(alloc: Global, text: &[u8]) -> Result<Option<Value>, AllocError>
     ensures { IfOk result (λ found. option_map view found ≡ json_in text.now) }
 {
@@ -180,7 +181,7 @@ pub(crate) fn members_in(value: Value) -> Option<Map<String, Value>>
     }
 }
 
-/// Parses a body, if it is the JSON of a keying. The only error is a failed allocation.
+/// Parses a body as the JSON of a keying; returns `None` if it isn't one. The only error is a failed allocation.
 pub(crate) fn keying_of(alloc: Global, body: &[u8]) -> Result<Option<KeyingBody>, AllocError>
     ensures { IfOk result (λ found. option_map body_entry found ≡ keying_of body.now) }
 {

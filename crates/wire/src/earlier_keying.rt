@@ -1,4 +1,4 @@
-//! The JSON of what a clerk keyed of a batch in an earlier round.
+//! The JSON of what a clerk keyed for a batch in an earlier round.
 
 ghost use Rattle.std.specs.Prelude.{◌≡◌, IfOk, map, option_map};
 ghost use Rattle.serde_json.specs.View.{view};
@@ -17,14 +17,14 @@ use serde_json::{Value, json};
 use std::alloc::{AllocError, Global};
 use store::KeyedRound;
 
-/// Returns the marks of a keyed paper, as a value.
+/// Returns the marks of a keyed paper, as a JSON value.
 fn marks_value(alloc: Global, keyed: &KeyedPaper) -> Result<Value, AllocError>
     ensures { IfOk result (λ value. view value ≡ marks_data (keyed_entry keyed.now)) }
 {
     json!(in alloc; keyed.marks.as_str())
 }
 
-/// Returns the marks of keyed papers, as a list of values.
+/// Returns the marks of keyed papers, as a list of JSON values.
 fn papers_value(alloc: Global, papers: &[KeyedPaper]) -> Result<Value, AllocError>
     ensures { IfOk result (λ value. view value ≡ list_data marks_data (map keyed_entry papers.now)) }
 {
@@ -35,7 +35,7 @@ fn papers_value(alloc: Global, papers: &[KeyedPaper]) -> Result<Value, AllocErro
     Ok(Value::Array(values))
 }
 
-/// Returns a round of a batch that a clerk keyed, as a value.
+/// Returns one round of a batch, as keyed by a clerk, as a JSON value.
 fn keyed_value(alloc: Global, batch: u32, keyed: &KeyedRound) -> Result<Value, AllocError>
     ensures { IfOk result (λ value. view value ≡ keyed_data batch (keyed_round_entry keyed.now)) }
 {
@@ -43,7 +43,7 @@ fn keyed_value(alloc: Global, batch: u32, keyed: &KeyedRound) -> Result<Value, A
     json!(in alloc; {"batch": batch, "papers": papers, "round": keyed.round})
 }
 
-/// Returns the response with what a clerk keyed of a batch in an earlier round. If the clerk keyed none, nothing is found.
+/// Returns the response with what a clerk keyed for a batch in an earlier round, or "not found" if there is no such round.
 fn answer_found(alloc: Global, batch: u32, found: Option<KeyedRound>) -> Response
     ensures { IsTold (earlier_response batch (option_map keyed_round_entry found)) result }
 {
@@ -53,7 +53,7 @@ fn answer_found(alloc: Global, batch: u32, found: Option<KeyedRound>) -> Respons
     }
 }
 
-/// Returns the response with what a clerk keyed of a batch in an earlier round, or with the refusal or fault.
+/// Returns the response with what a clerk keyed for a batch in an earlier round, or with the refusal or fault.
 pub(crate) fn answer_earlier(
     alloc: Global,
     batch: u32,

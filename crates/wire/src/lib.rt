@@ -1,29 +1,31 @@
-//! Keying and reading over HTTP, one request for each connection.
+//! Keying and reading over HTTP, one request per connection.
 //!
 //! Eight routes are served: `POST /clerks/{c}/batches/{b}/keying`, `GET /clerks/{c}/work`, `GET /wards/{w}/sheet` and
-//! `GET /wards/{w}/result`; and with codes also `GET /clerks/{c}/`, `GET /clerks/{c}/leave`,
-//! `GET /clerks/{c}/batches/{b}/candidates` and `GET /clerks/{c}/batches/{b}/keyed`. [`Routes`] has these eight, and a server makes it once. With a code of the office
-//! there are also `GET /office/`, `GET /office/leave`, `POST /office/orders` and the reads of the console, [`OfficeRead`]. If
-//! something is shown in public there are `GET /`, `GET /screen`, `GET /screen/wards` and `GET /wards/{w}/page`, [`PublicTarget`].
+//! `GET /wards/{w}/result`; and, if there are codes, also `GET /clerks/{c}/`, `GET /clerks/{c}/leave`,
+//! `GET /clerks/{c}/batches/{b}/candidates` and `GET /clerks/{c}/batches/{b}/keyed`. [`Routes`] holds these eight; a server
+//! builds it once. If the office has a code, `GET /office/`, `GET /office/leave`, `POST /office/orders` and the reads of the
+//! console, [`OfficeRead`], are served too. If anything is shown in public, so are `GET /`, `GET /screen`, `GET /screen/wards`
+//! and `GET /wards/{w}/page`; see [`PublicTarget`].
 //!
-//! [`parse`] parses the head of a request once. What it returns, [`Parsed`], says whether bytes are still lacking
-//! ([`Completeness`]), and whose code the request needs ([`Authentication`]). With the bytes it says what is asked,
-//! [`HttpRequest`], or why that is denied before the office is asked, [`RequestError`]. [`respond`] asks the office, and writes
-//! the response. A server that has a keying sends it by [`answer_keying`], and writes the response by [`write_response`]. It
-//! follows an order of the console itself ([`ConsoleOrder`]), and responds by `Response::of_order`. [`serve_one`] serves one
-//! connection from any reader: it reads what is asked ([`read_request`]) by the same head.
+//! [`parse`] parses the head of a request once. The result, [`Parsed`], says whether more bytes are needed ([`Completeness`])
+//! and whose code the request needs ([`Authentication`]). Given the bytes, it also says what is requested ([`HttpRequest`]), or
+//! why the request is rejected before the office is asked ([`RequestError`]). [`respond`] asks the office and writes the
+//! response. A server that has a keying hands it to [`answer_keying`] and writes the response with [`write_response`]. It
+//! carries out an order of the console itself ([`ConsoleOrder`]) and responds with `Response::of_order`. [`serve_one`] serves
+//! one connection from any reader; it reads the request ([`read_request`]) through the same `Head`.
 //!
-//! [`HttpSettings`] are the settings of HTTP: the [`Origin`] of pages that come through a proxy, the [`Gate`], and what is shown
-//! in public ([`Public`]), if any. [`without_settings`] serves a connection without any of them. A request with a header which shows that
-//! a page from elsewhere sent it is rejected. At a gate, everything under a clerk's number requires that clerk's code, and
-//! everything under `/office/` the office's. [`write_wait_response`] writes the response to a rate-limited client.
+//! [`HttpSettings`] are the HTTP settings: the [`Origin`] of pages that come through a proxy, the [`Gate`], and what is shown
+//! in public ([`Public`]), if any. [`without_settings`] serves a connection without any of them. A request with a header which
+//! shows that a page from another site sent it is rejected. At a gate, everything under a clerk's number requires that clerk's
+//! code, and everything under `/office/` requires the office's. [`write_wait_response`] writes the response to a rate-limited
+//! client.
 //!
-//! `specs/Requests.antt` defines what the bytes of a client ask, `specs/Completeness.antt` when they are a complete request, and
-//! `specs/Parsing.antt` what a parsed head says of them. `specs/Gates.antt` defines authentication, and `specs/Origins.antt`
-//! which headers show that a page from elsewhere sent the request. `specs/Targets.antt`, `specs/OfficeTargets.antt` and
-//! `specs/PublicTargets.antt` define what a target names, and `specs/Responses.antt` the bytes of a response.
-//! `specs/Serving.antt` defines the response at a state of the office, and what each outcome of a connection leaves;
-//! `specs/OfficeReplies.antt` the JSON of the console's reads, and `specs/PublicReplies.antt` what is shown in public.
+//! `specs/Requests.antt` defines what a client's bytes ask for, `specs/Completeness.antt` when they make a complete request,
+//! and `specs/Parsing.antt` what a parsed head says about them. `specs/Gates.antt` defines authentication, and
+//! `specs/Origins.antt` which headers show that a page from another site sent the request. `specs/Targets.antt`,
+//! `specs/OfficeTargets.antt` and `specs/PublicTargets.antt` define what a target names, and `specs/Responses.antt` the bytes
+//! of a response. `specs/Serving.antt` defines the response at each state of the office, and what each outcome of a connection
+//! leaves; `specs/OfficeReplies.antt` the JSON of the console's reads, and `specs/PublicReplies.antt` what is shown in public.
 //!
 //! ```text
 //! let parsed = parse(settings, &routes, got);

@@ -1,4 +1,4 @@
-//! The origin of a request: a page from elsewhere can't ask anything.
+//! The origin of a request. A page from another site can't ask for anything.
 
 ghost use Rattle.std.specs.Prelude.{◌≡◌, false, length, map};
 ghost use Rattle.std.specs.List.{All};
@@ -19,7 +19,7 @@ fn is_set_origin(given: Option<Origin<'_>>, value: &[u8]) -> bool
     }
 }
 
-/// Returns whether a value is the host of the origin in the settings, with the origin's port or without one.
+/// Returns whether a value is the host of the origin in the settings, with or without the origin's port.
 fn is_set_host(given: Option<Origin<'_>>, value: &[u8]) -> bool
     ensures { result ≡ is_set_host (origin_setting given.entry) value.now }
 {
@@ -29,7 +29,7 @@ fn is_set_host(given: Option<Origin<'_>>, value: &[u8]) -> bool
     }
 }
 
-/// Returns whether a value is the origin of a page that this machine serves, or the origin in the settings.
+/// Returns whether a value is the origin of a page served by this machine, or the origin in the settings.
 fn is_own_origin(given: Option<Origin<'_>>, value: &[u8]) -> bool
     ensures { result ≡ is_own_origin (origin_setting given.entry) value.now }
 {
@@ -38,7 +38,7 @@ fn is_own_origin(given: Option<Origin<'_>>, value: &[u8]) -> bool
         || is_set_origin(given, value)
 }
 
-/// Returns whether a value says that a page of the same origin sent the request, or the person at the browser.
+/// Returns whether a value says that the request was sent by a page of the same origin, or by the user directly.
 fn is_own_site(value: &[u8]) -> bool
     ensures { result ≡ is_own_site value.now }
 {
@@ -52,7 +52,7 @@ fn is_own_host(given: Option<Origin<'_>>, value: &[u8]) -> bool
     !value.contains(&b'.') || is_with_port(b"127.0.0.1", value) || is_set_host(given, value)
 }
 
-/// Returns whether a header shows that a page from elsewhere sent the request, or that the request came by a foreign name.
+/// Returns whether a header shows that a page from another site sent the request, or that it was addressed to a foreign host name.
 fn is_foreign_header(given: Option<Origin<'_>>, name: &[u8], value: &[u8]) -> bool
     ensures { result ≡ is_foreign_header (origin_setting given.entry) (name.now, value.now) }
 {
@@ -65,7 +65,7 @@ fn is_foreign_header(given: Option<Origin<'_>>, name: &[u8], value: &[u8]) -> bo
     is_named(name, b"host") && !is_own_host(given, value)
 }
 
-/// Returns whether one of these headers, whose names and values are in a buffer, shows that.
+/// Returns whether any of these headers, whose names and values are in a buffer, is foreign in that sense.
 pub(crate) fn is_foreign(given: Option<Origin<'_>>, buffer: &[u8], headers: &[HeaderSpan]) -> bool
     requires { All (IsHeaderWithin (length buffer.now)) headers.now }
     ensures { result ≡ is_foreign (origin_setting given.entry) (map (header_bytes buffer.now) headers.now) }

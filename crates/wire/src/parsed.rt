@@ -1,4 +1,4 @@
-//! A parsed request: its head is parsed once, and everything but the text of the body is decided from the result.
+//! A parsed request. Its head is parsed once, and everything except the text of the body is decided from the result.
 
 ghost use Rattle.std.specs.Prelude.{◌≡◌, ◌≤◌, ◌++◌, IfOk, IfSome, List, Some, ℕ, length, map, option_map, take};
 ghost use Rattle.httparse.specs.Spans.{IsRequestWithin, header_bytes, span_bytes};
@@ -28,9 +28,9 @@ use std::alloc::{AllocError, Global};
 /// A parsed head.
 #[derive(Clone, Copy)]
 pub struct Head {
-    /// What is asked for, or why the request is rejected.
+    /// What is requested, or why the request is rejected.
     pub(crate) wanted: Result<Target, RequestError>,
-    /// The authentication; `None` if the request needs no code, or comes from elsewhere.
+    /// The authentication; `None` if the request needs no code or comes from another site.
     pub(crate) authentication: Option<Authentication>,
     /// The length of the body in bytes, or why it isn't accepted.
     pub(crate) body: Result<usize, RequestError>,
@@ -38,18 +38,18 @@ pub struct Head {
     pub(crate) size: usize,
 }
 
-/// The result of parsing the bytes that were received of a request.
+/// The result of parsing the bytes received of a request.
 #[derive(Clone, Copy)]
 pub enum Parsed {
     /// The head is complete.
     Head(Head),
     /// The head isn't complete yet.
     Partial,
-    /// There is no head, whatever follows.
+    /// The bytes don't begin with a head, whatever follows.
     Malformed,
 }
 
-/// Parses a clerk's keying of a batch, by the length of its body and the bytes that follow the head.
+/// Parses a clerk's keying of a batch, given the length of its body and the bytes that follow the head.
 fn keying_in<'a>(
     alloc: Global,
     clerk: u32,
@@ -78,7 +78,7 @@ fn keying_in<'a>(
     }
 }
 
-/// Parses an order of the office, by the length of its body and the bytes that follow the head.
+/// Parses an order from the office, given the length of its body and the bytes that follow the head.
 fn order_in<'a>(
     alloc: Global,
     body: Result<usize, RequestError>,
@@ -100,7 +100,7 @@ fn order_in<'a>(
 }
 
 impl Head {
-    /// Returns what the head in a buffer says, by the spans of its parts there.
+    /// Returns what the head in a buffer says, given the spans of its parts.
     pub(crate) fn found(
         settings: HttpSettings<'_>,
         routes: &Routes,
@@ -138,7 +138,7 @@ impl Head {
         }
     }
 
-    /// Returns what is asked by this head and the bytes that follow it. The only error is a failed allocation.
+    /// Returns what this head and the bytes that follow it ask for. The only error is a failed allocation.
     pub(crate) fn asked_with<'a>(
         &self,
         alloc: Global,
@@ -164,7 +164,7 @@ impl Head {
         }
     }
 
-    /// Returns the resource that is read, if the request is a read.
+    /// Returns the resource to read, if the request is a read.
     fn reading(&self) -> Option<Resource>
         ensures { result ≡ read_in self.now.wanted }
     {
@@ -174,7 +174,8 @@ impl Head {
         }
     }
 
-    /// Returns how many bytes after the head are needed to know what is asked: the body of a keying or an order, and otherwise none.
+    /// Returns how many bytes after the head are needed to know what is requested: the length of the body for a keying or an
+    /// order, otherwise 0.
     fn needed(&self) -> usize
         ensures { result ≡ needed self.now.wanted self.now.body }
     {
@@ -188,9 +189,9 @@ impl Head {
     }
 }
 
-/// Parses the head of a request of which these bytes were received. Allocates nothing.
+/// Parses the head of a request, given the bytes received so far. Allocates nothing.
 ///
-/// If there are as many bytes as a head may have, more bytes don't change the result.
+/// Once there are as many bytes as a head may have, further bytes don't change the result.
 pub fn parse(settings: HttpSettings<'_>, routes: &Routes, got: &[u8]) -> Parsed
     ensures is { IsParsed (settings_entry settings.entry) got.now result }
     ensures lasts { MAX_HEAD_BYTES ≤ length got.now → (more : List ℕ) → IsParsed (settings_entry settings.entry) (got.now ++ more) result }
@@ -208,9 +209,9 @@ pub fn parse(settings: HttpSettings<'_>, routes: &Routes, got: &[u8]) -> Parsed
 }
 
 impl Parsed {
-    /// Returns whether the request is complete, if `come` bytes of it were received.
+    /// Returns whether the request is complete, given that `come` bytes of it were received.
     ///
-    /// The bytes of a complete request ask the same, whatever follows them.
+    /// What a complete request asks for doesn't depend on the bytes that follow it.
     pub fn completeness_of(&self, come: usize) -> Completeness
         ensures { (its : HttpSettingsEntry) (got : List ℕ) → length got ≡ come → IsParsed its got self.now → IsCompletenessOf its got result }
     {
@@ -228,8 +229,8 @@ impl Parsed {
         }
     }
 
-    /// Returns the authentication of the request: the account whose code it needs, and whether its code is wrong. `None` if it needs
-    /// no code, comes from elsewhere, or has no complete head.
+    /// Returns the authentication of the request: the account whose code it needs, and whether the code it carries is wrong.
+    /// `None` if it needs no code, comes from another site, or has no complete head.
     pub fn authentication(&self) -> Option<Authentication>
         ensures { (its : HttpSettingsEntry) (got : List ℕ) → IsParsed its got self.now → IsAuthentication its got (option_map authentication_entry result) }
     {
@@ -252,7 +253,7 @@ impl Parsed {
         }
     }
 
-    /// Returns what the request asks, by the bytes that were parsed. The only error is a failed allocation.
+    /// Returns what the request asks for, given the bytes that were parsed. The only error is a failed allocation.
     pub fn asked<'a>(
         &self,
         alloc: Global,
@@ -270,11 +271,11 @@ impl Parsed {
         }
     }
 
-    /// Returns how many bytes of the body are still to come, after so many bytes of the request. That is what the head says of the
-    /// body's length, or 1 MiB if that length isn't accepted. Without a complete head it is 0.
+    /// Returns how many bytes of the body are still to come once `come` bytes of the request were received. The length of the
+    /// body is the one in the head, or 1 MiB if that length isn't accepted. Returns 0 if there is no complete head.
     ///
-    /// The server reads that many bytes more before it closes the connection. Otherwise the system would reset the connection,
-    /// and a proxy would report that instead of the response.
+    /// The server reads that many more bytes before it closes the connection. Otherwise the system would reset the connection,
+    /// and a proxy would report the reset instead of the response.
     pub fn body_to_come(&self, come: usize) -> usize
         ensures { (its : HttpSettingsEntry) (got : List ℕ) → IsParsed its got self.now → result ≤ MAX_BODY_BYTES }
     {

@@ -1,4 +1,4 @@
-//! What is shown in public: each read of the office, and the response.
+//! What is shown in public: the reads of the office, and the responses.
 
 ghost use Rattle.std.specs.Prelude.{◌≡◌, IfOk, List, false, map, string_bytes, true, ℕ};
 ghost use Rattle.serde_json.specs.View.{view};
@@ -27,9 +27,9 @@ use sqlite::Alter;
 use std::alloc::{AllocError, Global};
 use store::WardOverview;
 
-/// The law of what is shown in public, for its callers. It depends on the table of wards and on the elections of sealed wards alone:
-/// two offices that have these alike show the same. So before the seal of a ward nothing that is nominated, given out, keyed or
-/// judged in it changes what is shown. The list of wards depends on the table of wards alone; before the seal of a ward it has the
+/// States, for callers, what the public pages depend on: the table of wards and the elections of sealed wards, and nothing
+/// else. Two offices that agree on these show the same. So until a ward is sealed, nothing that is nominated, given out, keyed
+/// or judged in it changes what is shown. The list of wards depends only on the table of wards; for an unsealed ward it has the
 /// ward's number, name and phase, and no stage.
 pub fn unsealed_wards_show_nothing()
     ensures alike { AlikeShowAlike }
@@ -37,7 +37,7 @@ pub fn unsealed_wards_show_nothing()
     ensures unsealed { ListsUnsealed }
 {}
 
-/// Returns what the screen shows of a ward in its list, as a value.
+/// Returns a ward's entry in the list on the screen, as a JSON value.
 fn ward_value(alloc: Global, overview: &WardOverview) -> Result<Value, AllocError>
     ensures { IfOk result (λ value. view value ≡ screen_ward_data (ward_view overview.now).ward) }
 {
@@ -45,7 +45,7 @@ fn ward_value(alloc: Global, overview: &WardOverview) -> Result<Value, AllocErro
     json!(in alloc; {"name": ward.name.as_str(), "phase": phase_word(ward.phase), "stages": ward.done, "ward": ward.number})
 }
 
-/// Returns wards, as a list of values.
+/// Returns wards, as a list of JSON values.
 fn list_value(alloc: Global, wards: &[WardOverview]) -> Result<Value, AllocError>
     ensures { IfOk result (λ value. view value ≡ list_data screen_ward_data (map (λ v. v.ward) (map ward_view wards.now))) }
 {
@@ -56,7 +56,7 @@ fn list_value(alloc: Global, wards: &[WardOverview]) -> Result<Value, AllocError
     Ok(Value::Array(values))
 }
 
-/// Returns the title of the election and all wards, as a value.
+/// Returns the title of the election and all wards, as a JSON value.
 fn screen_value(alloc: Global, title: &str, wards: &[WardOverview]) -> Result<Value, AllocError>
     ensures { IfOk result (λ value. view value ≡ screen_of title.now (map ward_view wards.now)) }
 {
@@ -64,7 +64,7 @@ fn screen_value(alloc: Global, title: &str, wards: &[WardOverview]) -> Result<Va
     json!(in alloc; {"title": title, "wards": wards})
 }
 
-/// Returns the response with the title and all wards, or with the refusal or fault.
+/// Returns the response with the title of the election and all wards, or with the refusal or fault.
 fn answer_wards(alloc: Global, title: &str, told: Result<Vec<WardOverview>, ReadError>) -> Response
     ensures { IsReadTold (λ views. data_response (screen_of title.now views)) (λ wards. map ward_view wards.items) told result }
 {
@@ -75,7 +75,7 @@ fn answer_wards(alloc: Global, title: &str, told: Result<Vec<WardOverview>, Read
     }
 }
 
-/// Returns the response with a page that an order prints, or with the refusal or fault.
+/// Returns the response for a page that an order prints, or with the refusal or fault.
 fn answer_printed(alloc: Global, told: Result<String, ReadError>) -> Response
     ensures { IsReadTold printed_response string_bytes told result }
 {
@@ -86,7 +86,7 @@ fn answer_printed(alloc: Global, told: Result<String, ReadError>) -> Response
     }
 }
 
-/// Shows something in public, and returns the response. A closed office stays as it is.
+/// Reads something that is shown in public and returns the response. A closed office stays as it is.
 pub(crate) fn answer_public<S: Alter>(
     alloc: Global,
     office: &mut Office<S>,

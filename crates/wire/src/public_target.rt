@@ -5,7 +5,7 @@ ghost use Rattle.wire.specs.PublicTargets.{page_after_prefix, public_by, ward_pa
 
 use crate::office_read::{after_digits, leading_number};
 
-/// The prefix of the target of a ward's page.
+/// The prefix of the targets of ward pages.
 const WARDS: &[u8] = b"/wards/";
 
 /// What is shown in public.
@@ -15,13 +15,13 @@ pub enum PublicTarget {
     Index,
     /// The page for the screen in the hall.
     Screen,
-    /// All wards, as that page reads them.
+    /// All wards, as read by that page.
     Wards,
     /// The page of a ward.
     Page { ward: u32 },
 }
 
-/// Returns the page of a ward, by what follows its prefix.
+/// Returns the page of a ward, given what follows the prefix.
 fn page_after_prefix(behind: &[u8]) -> Option<PublicTarget>
     ensures { result ≡ page_after_prefix behind.now }
 {
@@ -34,7 +34,7 @@ fn page_after_prefix(behind: &[u8]) -> Option<PublicTarget>
     None
 }
 
-/// Returns the page of a ward, if the target is one's.
+/// Returns the page of a ward, if the target is that of a ward page.
 fn ward_page_by(target: &[u8]) -> Option<PublicTarget>
     ensures { result ≡ ward_page_by target.now }
 {
@@ -44,7 +44,7 @@ fn ward_page_by(target: &[u8]) -> Option<PublicTarget>
     None
 }
 
-/// Returns what is shown in public at a target, if anything is.
+/// Returns what is shown in public at a target, if anything.
 pub(crate) fn public_by(target: &[u8]) -> Option<PublicTarget>
     ensures { result ≡ public_by target.now }
 {

@@ -1,4 +1,4 @@
-//! What a request asks.
+//! What a request asks for.
 
 ghost use Rattle.std.specs.Prelude.{◌≡◌, ◌≢◌, ◌-◌, ◌^◌, ◌<◌, ◌++◌, IfErr, IfOk, IfSome, List, Ok, OnOk, option_map, ℕ};
 ghost use Rattle.wire.specs.Requests.{Asks, AsksByHolder, AsksOneThing, ShowEntry, DeniesForeign, FailsAfter, IsUnread, IsIncomplete};
@@ -23,8 +23,8 @@ use httparse::spans::EMPTY_HEADER_SPAN;
 use std::alloc::Global;
 use streams::Source;
 
-/// A clerk's keying of a batch in a round: its id, and the marks text of each paper. Clerk and batch have 1 to 5 digits, and the
-/// round is any number of 32 bits. Whether they are in range is decided when the keying is handled.
+/// A clerk's keying of a batch in a round: its id, and the marks text of each paper. The numbers of the clerk and the batch
+/// have 1 to 5 digits, and the round is any 32-bit number. Whether they are in range is decided when the keying is handled.
 #[derive(Drop)]
 pub struct Keying {
     pub clerk: u32,
@@ -34,20 +34,20 @@ pub struct Keying {
     pub papers: Vec<String>,
 }
 
-/// What a request asks.
+/// What a request asks the server to do.
 #[derive(Drop)]
 pub enum HttpRequest<'a> {
     /// Nothing. The request is rejected, and the office isn't asked.
     Denied(RequestError),
-    /// To show a clerk the keying page, which is the same at every state of the office.
+    /// To show a clerk a page that doesn't depend on the state of the office.
     ClerkPage(u32, FixedPage<'a>),
-    /// To keep a clerk's keying.
+    /// To record a clerk's keying.
     Keying(Keying),
     /// To read a resource.
     Resource(Resource),
     /// To show the office its console, or that it is signed out.
     ConsolePage(FixedPage<'a>),
-    /// To follow an order of the office.
+    /// To carry out an order from the office.
     Order(ConsoleOrder),
     /// To show something in public.
     Public(Public<'a>, PublicTarget),
@@ -66,7 +66,7 @@ impl Verb {
 }
 
 impl Resource {
-    /// Returns whether it is served only at a gate.
+    /// Returns whether the resource is served only at a gate.
     fn needs_gate(&self) -> bool
         ensures { result ≡ reading_needs_gate self.now }
     {
@@ -80,7 +80,7 @@ impl Resource {
         }
     }
 
-    /// Returns whether it is served only if the office has a code.
+    /// Returns whether the resource is served only if the office has a code.
     fn needs_office(&self) -> bool
         ensures { result ≡ reading_needs_office self.now }
     {
@@ -89,7 +89,7 @@ impl Resource {
 }
 
 impl Target {
-    /// Returns the only method for the target.
+    /// Returns the only method allowed for the target.
     pub(crate) fn verb(&self) -> Verb
         ensures { result ≡ verb_of self.now }
     {
@@ -101,7 +101,7 @@ impl Target {
         }
     }
 
-    /// Returns whether it is served only at a gate.
+    /// Returns whether the target is served only at a gate.
     fn needs_gate(&self) -> bool
         ensures { result ≡ needs_gate self.now }
     {
@@ -115,7 +115,7 @@ impl Target {
         }
     }
 
-    /// Returns whether it is served only if the office has a code.
+    /// Returns whether the target is served only if the office has a code.
     fn needs_office(&self) -> bool
         ensures { result ≡ needs_office self.now }
     {
@@ -129,7 +129,7 @@ impl Target {
         }
     }
 
-    /// Returns whether it is served only if something is shown in public.
+    /// Returns whether the target is served only if something is shown in public.
     fn needs_public(&self) -> bool
         ensures { result ≡ needs_public self.now }
     {
@@ -137,7 +137,7 @@ impl Target {
     }
 }
 
-/// Returns what a target names, if it is served with this gate, or without a gate.
+/// Returns what a target names, if that is served with this gate, or without a gate.
 fn served_with_gate(gate: Option<Gate<'_>>, routes: &Routes, target: &[u8]) -> Option<Target>
     ensures { result ≡ served_with_gate (option_map gate_entry gate.entry) (named_by target.now) }
 {
@@ -149,7 +149,7 @@ fn served_with_gate(gate: Option<Gate<'_>>, routes: &Routes, target: &[u8]) -> O
     if is_served { Some(there) } else { None }
 }
 
-/// Returns what a target names, if it is served by these settings.
+/// Returns what a target names, if that is served under these settings.
 pub(crate) fn served_at(
     settings: HttpSettings<'_>,
     routes: &Routes,
@@ -164,7 +164,7 @@ pub(crate) fn served_at(
     Some(there)
 }
 
-/// Returns what is asked for, if the method is the target's own; and otherwise why the request is rejected.
+/// Returns what is requested, if the method is the one that the target allows; otherwise why the request is rejected.
 pub(crate) fn asked_for(method: &[u8], there: Option<Target>) -> Result<Target, RequestError>
     ensures { result ≡ asked_for method.now there }
 {
@@ -179,7 +179,7 @@ pub(crate) fn asked_for(method: &[u8], there: Option<Target>) -> Result<Target, 
     }
 }
 
-/// Returns the page of a gate, for a clerk; without a gate the request is rejected.
+/// Returns the request for a gate's page, shown to a clerk; without a gate, the request is rejected.
 pub(crate) fn page_at<'a>(gate: Option<Gate<'a>>, clerk: u32) -> HttpRequest<'a>
     ensures { http_request_entry result ≡ page_at (option_map gate_entry gate.entry) clerk }
 {
@@ -189,7 +189,7 @@ pub(crate) fn page_at<'a>(gate: Option<Gate<'a>>, clerk: u32) -> HttpRequest<'a>
     }
 }
 
-/// Returns the console of a gate; without a gate the request is rejected.
+/// Returns the request for a gate's console; without a gate, the request is rejected.
 pub(crate) fn console_at<'a>(gate: Option<Gate<'a>>) -> HttpRequest<'a>
     ensures { http_request_entry result ≡ console_at (option_map gate_entry gate.entry) }
 {
@@ -199,7 +199,7 @@ pub(crate) fn console_at<'a>(gate: Option<Gate<'a>>) -> HttpRequest<'a>
     }
 }
 
-/// Returns that something is shown in public; if nothing is, the request is rejected.
+/// Returns the request for something that is shown in public; if nothing is, the request is rejected.
 pub(crate) fn public_at<'a>(public: Option<Public<'a>>, what: PublicTarget) -> HttpRequest<'a>
     ensures { http_request_entry result ≡ public_at (option_map public_entry public.entry) what }
 {
@@ -209,7 +209,7 @@ pub(crate) fn public_at<'a>(public: Option<Public<'a>>, what: PublicTarget) -> H
     }
 }
 
-/// Reads the rest of a request whose head was parsed and is followed by these bytes, and returns what the request asks.
+/// Reads the rest of a request, given its parsed head and the bytes after it, and returns what the request asks for.
 fn read_body_after<'a, R: Source>(
     alloc: Global,
     settings: HttpSettings<'a>,
@@ -238,7 +238,7 @@ fn read_body_after<'a, R: Source>(
     }
 }
 
-/// Reads a request, and returns what it asks.
+/// Reads a request and returns what it asks for.
 fn read_from_head<'a, R: Source>(
     alloc: Global,
     settings: HttpSettings<'a>,
@@ -261,24 +261,26 @@ fn read_from_head<'a, R: Source>(
     read_body_after(alloc, settings, reader, &head, &read[front.spans.len..])
 }
 
-/// Reads a request, and returns what it asks, by the settings: the origin of pages that come through a proxy, the gate, and what is
-/// shown in public, if any.
+/// Reads a request and returns what it asks for under the given settings: the origin of pages that come through a proxy, the
+/// gate, and what is shown in public, if any.
 ///
-/// A request with a header which shows that a page from elsewhere sent it, or that it came by a foreign name, is `Forbidden`,
-/// whatever else it asks. At a gate a request whose target begins with a clerk's number, such as `/clerks/4/`, is let in only
-/// with that clerk's code; and one whose target begins with `/office/` only with the office's, if the office has one. Otherwise it
-/// is `Unauthorized`, or a `WrongCode`, whatever else it asks. So what is asked under a clerk's number is asked by the holder of
-/// that clerk's code, and what is asked of the console by the holder of the office's. Every other request needs no such check.
-/// The response to a rejected request is the same at every state of the office, and so is what is `ClerkPage`, and the `ConsolePage`.
-/// What is shown in public needs no code, and is there only if the settings have it.
+/// A request with a header which shows that a page from another site sent it, or that it was addressed to a foreign host name,
+/// is `Forbidden`, whatever it asks for. At a gate, a request whose target begins with a clerk's number, such as `/clerks/4/`,
+/// is accepted only with that clerk's code. A request whose target begins with `/office/` is accepted only with the office's
+/// code, if the office has one. Otherwise it is `Unauthorized` or `WrongCode`, whatever it asks for. So only the holder of a
+/// clerk's code can ask for anything under that clerk's number, and only the holder of the office's code can ask for anything
+/// on the console. No other request is checked in this way. The response to a rejected request is the same at every state of
+/// the office, and so are those to a `ClerkPage` and a `ConsolePage`. What is shown in public needs no code, and is served only
+/// if the settings have it.
 ///
-/// `Broken` comes only from the source, which then counts one failure more. It comes only while what was read doesn't say yet
-/// what is asked. Once it does, nothing more is read, because the client may wait for its response. Some of the bytes that follow
-/// the request may have been read.
+/// `Broken` is returned only if the source fails, while what was read doesn't yet determine what is requested; the source's
+/// failure count is then one higher. Once the request is known, nothing more is read, because the client may be waiting for its
+/// response. Some of the bytes that follow the request may have been read.
 ///
-/// What is asked for depends only on the target, which names exactly what it is the path of. That is one of the eight routes of
-/// this crate, with numbers of 1 to 5 digits in it, the first not 0; or `/office/`, `/office/leave`, `/office/orders` or the path of
-/// a read of the console. It may also be `/`, `/screen`, `/screen/wards` or the path of a ward's page. Any other target names nothing.
+/// What is requested depends only on the target, which names exactly what it is the path of. That path is one of the eight
+/// routes of this crate, with numbers of 1 to 5 digits without leading zeros; or `/office/`, `/office/leave`, `/office/orders`
+/// or the path of a read of the console; or `/`, `/screen`, `/screen/wards` or the path of a ward's page. Any other target
+/// names nothing.
 pub fn read_request<'a, R: Source>(
     alloc: Global,
     settings: HttpSettings<'a>,

@@ -1,17 +1,17 @@
-//! The settings of HTTP.
+//! The HTTP settings.
 
 use codes::Codes;
 use origins::Origin;
 
-/// A page, and its policy, which says what a browser lets it do.
+/// A page, and its policy, which says what the page may do in a browser.
 #[derive(Clone, Copy)]
 pub struct Page<'a> {
     pub text: &'a str,
     pub policy: &'a str,
 }
 
-/// The gate, which requires codes: the codes of clerks and of the office, the page on which clerks key, and the officer's console,
-/// which is served only if the office has a code.
+/// The gate, which requires codes: the codes of the clerks and of the office, the page on which clerks key, and the officer's
+/// console, which is served only if the office has a code.
 #[derive(Clone, Copy)]
 pub struct Gate<'a> {
     pub codes: &'a Codes,
@@ -34,11 +34,11 @@ pub struct HttpSettings<'a> {
     pub public: Option<Public<'a>>,
 }
 
-/// What is shown to a clerk, to the office or in public, independently of the office's state.
+/// What is shown to a clerk, to the office or in public, whatever the state of the office.
 #[derive(Clone, Copy)]
 pub enum FixedPage<'a> {
-    /// The page on which the clerk keys, the console, or the page for the screen in the hall.
+    /// The keying page, the console, or the page for the screen in the hall.
     Page(Page<'a>),
-    /// That the clerk or the office is signed out. The browser is to forget the code.
+    /// The clerk or the office is signed out. The browser should forget the code.
     SignedOut,
 }

@@ -1,4 +1,4 @@
-//! What the target of a request names.
+//! What a request's target names.
 
 ghost use Rattle.std.specs.Prelude.{◌≡◌, IfOk};
 ghost use Rattle.matchit.specs.Params.{AllText};
@@ -20,13 +20,13 @@ pub enum Resource {
     Work { clerk: u32 },
     /// The candidates on the papers of a batch that a clerk keys.
     Candidates { clerk: u32, batch: u32 },
-    /// What a clerk keyed of a batch in an earlier round.
+    /// What a clerk keyed for a batch in an earlier round.
     Keyed { clerk: u32, batch: u32 },
     /// The stage sheet of a ward.
     Sheet { ward: u32 },
     /// The declaration of a ward.
     Declaration { ward: u32 },
-    /// What the officer's console reads.
+    /// A read of the officer's console.
     Office(OfficeRead),
 }
 
@@ -35,30 +35,30 @@ pub enum Resource {
 pub(crate) enum OfficeTarget {
     /// The console.
     ConsolePage,
-    /// The signing out of the office.
+    /// Signing the office out.
     Leave,
-    /// The orders, to be sent.
+    /// The orders, to be submitted.
     Orders,
 }
 
 /// What a target names.
 #[derive(Clone, Copy)]
 pub(crate) enum Target {
-    /// A clerk's keying of a batch, to be sent.
+    /// A clerk's keying of a batch, to be submitted.
     Keying { clerk: u32, batch: u32 },
     /// The page on which a clerk keys.
     Page { clerk: u32 },
-    /// The signing out of a clerk.
+    /// Signing a clerk out.
     Leave { clerk: u32 },
     /// A resource that can be read.
     Resource(Resource),
-    /// Something of the officer's console.
+    /// A part of the officer's console.
     Office(OfficeTarget),
     /// Something that is shown in public.
     Public(PublicTarget),
 }
 
-/// Where a route leads.
+/// The destination of a route.
 #[derive(Clone, Copy)]
 enum RouteTarget {
     Keying,
@@ -90,7 +90,7 @@ fn office_router(alloc: Global) -> Result<Router<RouteTarget>, InsertError>
     Ok(router)
 }
 
-/// Returns the number in a parameter, if it has one.
+/// Returns the number in a parameter, if it is one.
 fn parameter(params: &Params<'_, '_>, name: &str) -> Option<u32>
     requires { AllText (taken_by params.now) }
     ensures { result ≡ parameter name.now (taken_by params.now) }
@@ -98,7 +98,7 @@ fn parameter(params: &Params<'_, '_>, name: &str) -> Option<u32>
     number_in(params.get(name)?)
 }
 
-/// Returns what a target names, by its route and its parameters.
+/// Returns what a target names, given its route and its parameters.
 fn named_at(place: RouteTarget, params: &Params<'_, '_>) -> Option<Target>
     requires { AllText (taken_by params.now) }
     ensures { result ≡ named_at place (taken_by params.now) }
@@ -142,7 +142,7 @@ fn named_at(place: RouteTarget, params: &Params<'_, '_>) -> Option<Target>
     }
 }
 
-/// Returns what of the officer's console a target names, if it names anything there.
+/// Returns the part of the officer's console that a target names, if any.
 fn office_by(target: &[u8]) -> Option<OfficeTarget>
     ensures { result ≡ office_by target.now }
 {
@@ -158,7 +158,7 @@ fn office_by(target: &[u8]) -> Option<OfficeTarget>
     None
 }
 
-/// The eight routes. A server makes them once.
+/// The eight routes. A server builds them once.
 #[derive(Drop)]
 pub struct Routes {
     router: Router<RouteTarget>,
@@ -190,7 +190,7 @@ impl Routes {
         }
     }
 
-    /// Returns what a target names that isn't the console's: what is shown in public, or what its route leads to.
+    /// Returns what a target outside the console names: what is shown in public, or what its route leads to.
     fn public_or_routed(&self, target: &[u8]) -> Option<Target>
         ensures { result ≡ public_or_routed (public_by target.now) target.now }
     {
@@ -200,7 +200,7 @@ impl Routes {
         }
     }
 
-    /// Returns what a target names that isn't of the console itself: what the console reads, or what isn't the console's.
+    /// Returns what a target other than the console itself names: what the console reads, or what is outside the console.
     fn read_or_other(&self, target: &[u8]) -> Option<Target>
         ensures { result ≡ read_or_other (read_by target.now) target.now }
     {

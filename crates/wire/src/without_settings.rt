@@ -1,4 +1,4 @@
-//! One connection to an office without settings for its clients: no origin, and no codes.
+//! One connection to an office that has no settings for its clients: neither an origin nor codes.
 
 ghost use Rattle.std.specs.Prelude.{◌≡◌, ◌+◌, ◌-◌, ◌^◌, ◌<◌, true, false};
 ghost use Rattle.sqlite.specs.State.{HasCleanDisk};
@@ -16,9 +16,9 @@ use sqlite::Alter;
 use std::alloc::Global;
 use streams::{Sink, Source};
 
-/// Serves one connection: reads a request, processes it in the office, and writes the response. It is
-/// [`serve_one`](crate::serve_one) without settings: requests of pages on other machines are rejected, and a clerk is known by
-/// number alone.
+/// Serves one connection: reads a request, processes it in the office, and writes the response. This is
+/// [`serve_one`](crate::serve_one) without settings: requests from pages on other machines are rejected, and a clerk is
+/// identified by number alone.
 pub fn serve_one<R: Source, W: Sink, S: Alter>(
     alloc: Global,
     reader: &mut R,

@@ -14,7 +14,7 @@ use serde_json::{Value, json};
 use std::alloc::{AllocError, Global};
 use store::Differences;
 
-/// Returns the papers on which the keyings of a batch differ, as a value.
+/// Returns the papers on which the keyings of a batch differ, as a JSON value.
 fn differences_value(alloc: Global, batch: u32, found: &Differences) -> Result<Value, AllocError>
     ensures { IfOk result (λ value. view value ≡ differences_data batch (differences_view found.now)) }
 {

@@ -1,4 +1,4 @@
-//! Reads of the console that ask the office more than once. No read changes the state, so all of them are of one state.
+//! Reads of the console that ask the office more than once. No read changes the state, so they all see the same state.
 
 ghost use Rattle.std.specs.Prelude.{◌≡◌, Err, true};
 ghost use Rattle.sqlite.specs.Held.{state};
@@ -32,7 +32,7 @@ pub(crate) struct WardPapers {
     pub doubtful: DoubtfulPapers,
 }
 
-/// What is read of one ward.
+/// Everything that is read about one ward.
 #[derive(Drop)]
 pub(crate) struct WardRead {
     pub progress: WardProgress,
@@ -75,7 +75,7 @@ fn read_papers<S: Alter>(office: &mut Office<S>, ward: u32) -> Result<WardPapers
     Ok(WardPapers { batches, doubtful })
 }
 
-/// Returns what is read of one ward.
+/// Returns everything read about one ward.
 pub(crate) fn read_ward<S: Alter>(office: &mut Office<S>, ward: u32) -> Result<WardRead, ReadError>
     ensures reads { ReadWhenOpen (state S.Store) office.old office.new ward_read_view (λ s. ward_read_told s ward) result }
     ensures closed { office.old.closed ≡ true → (result ≡ Err (ReadError.Fault Fault.Closed)) × (office.new ≡ office.old) }

@@ -14,7 +14,7 @@ use register::Receipt;
 use serde_json::{Value, json};
 use std::alloc::{AllocError, Global};
 
-/// Returns a receipt, as a value.
+/// Returns a receipt, as a JSON value.
 fn receipt_value(alloc: Global, receipt: &Receipt) -> Result<Value, AllocError>
     ensures { IfOk result (λ value. view value ≡ receipt_data (receipt_entry receipt.now)) }
 {
@@ -23,7 +23,7 @@ fn receipt_value(alloc: Global, receipt: &Receipt) -> Result<Value, AllocError>
     })
 }
 
-/// Returns receipts, as a list of values.
+/// Returns receipts, as a list of JSON values.
 fn list_value(alloc: Global, receipts: &[Receipt]) -> Result<Value, AllocError>
     ensures { IfOk result (λ value. view value ≡ list_data receipt_data (map receipt_entry receipts.now)) }
 {
@@ -34,7 +34,7 @@ fn list_value(alloc: Global, receipts: &[Receipt]) -> Result<Value, AllocError>
     Ok(Value::Array(values))
 }
 
-/// Returns receipts, as a value.
+/// Returns receipts, as a JSON value.
 fn receipts_value(alloc: Global, receipts: &[Receipt]) -> Result<Value, AllocError>
     ensures { IfOk result (λ value. view value ≡ receipts_data (map receipt_entry receipts.now)) }
 {

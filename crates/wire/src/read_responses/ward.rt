@@ -21,7 +21,7 @@ use serde_json::{Value, json};
 use std::alloc::{AllocError, Global};
 use store::{BatchOverview, BatchStanding, Fault, WardOverview};
 
-/// Returns the sizes of batches, added up.
+/// Returns the total size of the batches.
 fn given_out(batches: &[BatchOverview]) -> u64
     ensures { result ≡ given_out (map batch_view batches.now) }
 {
@@ -32,7 +32,7 @@ fn given_out(batches: &[BatchOverview]) -> u64
     papers
 }
 
-/// Returns the size of a batch, if it is taken, and otherwise 0.
+/// Returns the size of a batch if it is taken, otherwise 0.
 fn size_in(standing: BatchStanding, size: u32) -> u32
     ensures { result ≡ size_in standing size }
 {
@@ -43,7 +43,7 @@ fn size_in(standing: BatchStanding, size: u32) -> u32
     }
 }
 
-/// Returns the sizes of the taken ones, added up.
+/// Returns the total size of the taken batches.
 fn agreed_in(batches: &[BatchOverview]) -> u64
     ensures { result ≡ agreed_in (map batch_view batches.now) }
 {
@@ -55,7 +55,7 @@ fn agreed_in(batches: &[BatchOverview]) -> u64
     papers
 }
 
-/// Returns a ward with its next step and its papers, as a value.
+/// Returns a ward with its next step and its papers, as a JSON value.
 fn read_value(
     alloc: Global,
     ward: &WardOverview,
@@ -73,7 +73,7 @@ fn read_value(
     })
 }
 
-/// Returns the ward with this number among others.
+/// Returns the ward with this number from a list of wards.
 fn ward_in(wards: &[WardOverview], number: u32) -> Option<&WardOverview>
     ensures { option_map (λ w. ward_view w.now) result ≡ find (λ (w : WardView). w.ward.number == number) (map ward_view wards.now) }
 {
@@ -85,7 +85,7 @@ fn ward_in(wards: &[WardOverview], number: u32) -> Option<&WardOverview>
     None
 }
 
-/// Returns the response that there is no such ward.
+/// Returns the response saying that the ward doesn't exist.
 fn no_such_ward(alloc: Global) -> Response
     ensures { IsTold (refused_for Reason.NoSuchWard) result }
 {
@@ -95,7 +95,7 @@ fn no_such_ward(alloc: Global) -> Response
     }
 }
 
-/// Returns the response with a ward, if it was found.
+/// Returns the response with a ward, if it was found, or else that it doesn't exist.
 fn answer_found(alloc: Global, ward: Option<&WardOverview>, found: &WardRead) -> Response
     ensures { IsTold (found_response (ward_read_view found.now) (option_map (λ w. ward_view w.now) ward.entry)) result }
 {

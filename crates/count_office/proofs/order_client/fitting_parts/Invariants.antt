@@ -1,4 +1,4 @@
--- The invariant of the loop in `fitting_parts`: the pieces so far have a spelling.
+-- The loop invariant of `fitting_parts`: the parts so far can be encoded.
 use Rattle.std.specs.List.{AllByRecursion}
 use Rattle.order_protocol.specs.Messages.{PieceFits, message_part_entries}
 use Rattle.count_office.proofs.order_client.fitting_parts.Given as goal
