@@ -1,4 +1,4 @@
--- What a clerk observes of the requests to an office; what the clerk sees as a result; and the decisions on the clerk's own requests.
+-- What a clerk observes of the requests to an office, what they see as a result, and the decisions on their own requests.
 use Rattle.std.specs.Prelude.{◌≡◌, ℕ, ◌==◌, ◌&&◌, ◌||◌, not, Bool, true, false, if◌then◌else◌, List, [], ◌∷◌, ◌++◌, map, string_bytes}
 use Rattle.std.specs.List.{filter, list_all}
 use Rattle.register.specs.declared.command.Command.{Command}
@@ -121,13 +121,12 @@ OwnAreObserved =
     (clerk : ℕ) (s : OfficeState) (rs : List Request) → list_all (λ (r : Request). not (is_office r.actor)) rs ≡ true
     → observed_by clerk s rs ≡ map asked (filter (λ (r : Request). r.actor == clerk) rs)
 
--- A clerk can't tell two courses of events apart: the rulings on the clerk's own requests are the same in both, and the two offices look the same to the
--- clerk.
+-- A clerk can't tell two courses of events apart: the rulings on their own requests are the same in both, and the two offices look the same to them.
 pub record CannotTell (clerk : ℕ) (s t : OfficeState) (rs qs : List Request) : Type 0 where
   pub decided : own_rulings clerk s rs ≡ own_rulings clerk t qs
   pub alike : AreAlikeTo clerk (after s rs) (after t qs)
 
--- If two offices look the same to a clerk, and the clerk observes the same of the requests to each, the clerk can't tell them apart, whatever other clerks
+-- If two offices look the same to a clerk, and the clerk observes the same of the requests to each, they can't tell the two apart, whatever other clerks
 -- keyed in either.
 abbrev pub ClerksAreBlind : Type 0
 ClerksAreBlind =
