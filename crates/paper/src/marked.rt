@@ -51,7 +51,7 @@ pub enum Keyed {
 }
 
 impl Keyed {
-    /// Returns the only text that parses as this paper. `AllocError` if an allocation fails.
+    /// Returns the only text that parses as this paper. Returns `AllocError` if an allocation fails.
     pub fn text(&self, alloc: Global) -> Result<String, AllocError>
         ensures is { IfOk result (λ text. string_bytes text ≡ spelling self.now) }
         ensures reads_back { ReadsBack self.now }
@@ -64,7 +64,7 @@ impl Keyed {
 }
 
 impl Marked {
-    /// Returns the fields of the columns in order, separated by commas. `AllocError` if an allocation fails.
+    /// Returns the fields of the columns in order, separated by commas. Returns `AllocError` if an allocation fails.
     fn text(&self, alloc: Global) -> Result<String, AllocError>
         ensures is { IfOk result (λ text. string_bytes text ≡ spelling (Keyed.Marked self.now)) }
         ensures marking { IsMarking self.now }

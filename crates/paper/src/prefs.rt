@@ -39,7 +39,7 @@ impl Model for Prefs {
 }
 
 impl Prefs {
-    /// Returns the preferences in a list. `None` if and only if the list is empty, contains a number outside 1 to
+    /// Returns the preferences in a list, or `None` if and only if the list is empty, contains a number outside 1 to
     /// `MAX_CANDIDATES`, or contains a number twice.
     #[tactic(auto, using(crate::proofs::Rankings::rankings))]
     pub fn from_slice(list: &[u8]) -> Option<Prefs>

@@ -16,7 +16,8 @@ use count::{Bundles, NextStage, Placed, Stage, StoredCount, figures_of};
 use paper::Columns;
 use std::alloc::{AllocError, Global};
 
-/// Returns the bundles of a ward whose places have changed, with their new places. `AllocError` if an allocation fails.
+/// Returns the bundles of a ward whose places have changed, with their new places. Returns `AllocError` if an allocation
+/// fails.
 fn moved_bundles(
     alloc: Global,
     ward: u32,
@@ -44,7 +45,7 @@ fn moved_bundles(
     Ok(moved)
 }
 
-/// Returns the figures of the latest stage of a ward. `AllocError` if an allocation fails.
+/// Returns the figures of the latest stage of a ward. Returns `AllocError` if an allocation fails.
 fn last_figures(
     alloc: Global,
     ward: u32,
@@ -63,7 +64,8 @@ fn last_figures(
     Ok(figures)
 }
 
-/// Returns what the first stage of a ward's count adds: the ward's entire tabulation. `AllocError` if an allocation fails.
+/// Returns what the first stage of a ward's count adds: the ward's entire tabulation. Returns `AllocError` if an
+/// allocation fails.
 fn first_addition(
     alloc: Global,
     ward: u32,
@@ -90,7 +92,7 @@ fn first_addition(
 }
 
 /// Returns what a later stage of a ward's count adds: the bundles whose places have changed, and the stage's figures.
-/// `AllocError` if an allocation fails.
+/// Returns `AllocError` if an allocation fails.
 fn later_addition(
     alloc: Global,
     ward: u32,
@@ -107,7 +109,7 @@ fn later_addition(
 }
 
 /// Returns what the next stage of a ward's count adds: the stage's figures; and at the first stage all bundles, at a later
-/// stage those whose places have changed. Empty if no action is due. `AllocError` if an allocation fails.
+/// stage those whose places have changed. Empty if no action is due. Returns `AllocError` if an allocation fails.
 pub(crate) fn addition_of(alloc: Global, ward: u32, count: &Count) -> Result<Addition, AllocError>
     ensures { IfOk result (λ addition. IsAddedTo ward count.now addition) }
 {

@@ -136,7 +136,7 @@ pub(crate) fn reply_to(
     }
 }
 
-/// Returns the effect of a command on the state. `AllocError` if an allocation fails.
+/// Returns the effect of a command on the state. Returns `AllocError` if an allocation fails.
 pub(crate) fn effect_of(
     command: &CandidateCommand,
     part: &CommandInput,

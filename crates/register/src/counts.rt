@@ -342,8 +342,8 @@ pub(crate) fn effect_of(command: &CountCommand, part: &CommandInput) -> Effect
 }
 
 /// Returns what an accepted command adds to the tabulation: an Advance adds the next stage of the given count, any other
-/// command nothing. If a stage is due, a count is always given; if none is due, nothing is added. `AllocError` if an allocation
-/// fails.
+/// command nothing. If a stage is due, a count is always given; if none is due, nothing is added. Returns `AllocError` if an
+/// allocation fails.
 pub(crate) fn addition_of(
     alloc: Global,
     command: &CountCommand,

@@ -97,8 +97,8 @@ pub fn is_in_count(ward: &Ward, candidates: &[Candidate]) -> bool
 }
 
 #[tactic(auto, unfolding(crate::specs::StateConditions::is_lot))]
-/// Returns a lot in the form that the count uses: its stage, counted from 1, and its candidate. None if a number is out of
-/// range, which never happens in an office.
+/// Returns a lot in the form that the count uses: its stage, counted from 1, and its candidate. Returns `None` if a number
+/// is out of range, which never happens in an office.
 fn lot_pair(lot: &DrawnLot) -> Option<(u8, u8)>
     ensures is { IfSome result (λ pair. pair ≡ lot_pair (lot_entry lot.now)) }
     ensures some { is_lot (lot_entry lot.now) ≡ true → IsSome result }
@@ -109,8 +109,8 @@ fn lot_pair(lot: &DrawnLot) -> Option<(u8, u8)>
     None
 }
 
-/// Returns lots in the form that the count uses, in the same order. None if a number is out of range, which never happens in
-/// an office. `AllocError` if an allocation fails.
+/// Returns lots in the form that the count uses, in the same order. Returns `None` if a number is out of range, which never
+/// happens in an office. Returns `AllocError` if an allocation fails.
 pub fn lot_pairs(alloc: Global, lots: &[DrawnLot]) -> Result<Option<Vec<(u8, u8)>>, AllocError>
     ensures is { IfOk result (λ found. IfSome found (λ pairs. pairs.items ≡ map lot_pair (map lot_entry lots.now))) }
     ensures some { IfOk result (λ found. list_all is_lot (map lot_entry lots.now) ≡ true → IsSome found) }
@@ -126,7 +126,7 @@ pub fn lot_pairs(alloc: Global, lots: &[DrawnLot]) -> Result<Option<Vec<(u8, u8)
 }
 
 /// Returns a new book of these bundles if they make a contest that can be counted; the bundles of every contested ward of an
-/// office do. `AllocError` if an allocation fails.
+/// office do. Returns `AllocError` if an allocation fails.
 pub fn book_of<'a>(
     alloc: Global,
     columns: Columns,
@@ -167,8 +167,8 @@ impl Count {
 }
 
 impl Election {
-    /// Returns the poll of the ward. None if its number of seats is 0 or above the limit, which never happens in an office.
-    /// Allocates nothing.
+    /// Returns the poll of the ward, or `None` if its number of seats is 0 or above the limit, which never happens in an
+    /// office. Allocates nothing.
     pub fn poll(&self) -> Option<PollTally>
         ensures is { IfSome result (λ poll. (e : ElectionEntry) → IsElection self.now e → poll_entry poll ≡ poll_of e.ward.seats e.ballots) }
         ensures some { 1 ≤ self.now.ward.seats → self.now.ward.seats ≤ max_seats → IsSome result }
@@ -185,8 +185,9 @@ impl Election {
         })
     }
 
-    /// Returns the ward with its count at the start, with no stage done, and how many of its papers are rejected. None if
-    /// its number of seats is above the limit, which never happens in an office. `AllocError` if an allocation fails.
+    /// Returns the ward with its count at the start, with no stage done, and how many of its papers are rejected. Returns
+    /// `None` if its number of seats is above the limit, which never happens in an office. Returns `AllocError` if an
+    /// allocation fails.
     pub fn begin(self, alloc: Global) -> Result<Option<WardSheet>, AllocError>
         ensures same { IfOk result (λ found. IfSome found (λ begun. (begun.counted.ward ≡ self.ward) × (begun.counted.candidates ≡ self.candidates))) }
         ensures is { IfOk result (λ found. IfSome found (λ begun. (e : ElectionEntry) → IsElection self e → e.ward.done ≡ 0 → IsContest (contest_of e) → IsCount e begun.counted.count)) }

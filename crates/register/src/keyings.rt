@@ -138,7 +138,7 @@ fn keyed_papers(
     Ok(papers)
 }
 
-/// Returns the effect of the command on the state. `AllocError` if an allocation fails.
+/// Returns the effect of the command on the state. Returns `AllocError` if an allocation fails.
 pub(crate) fn effect_of(
     alloc: Global,
     actor: u32,

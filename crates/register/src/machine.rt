@@ -69,7 +69,7 @@ fn reply_to(alloc: Global, command: &Command, part: &CommandInput) -> Result<Str
     }
 }
 
-/// Returns the effect of a command on the state. `AllocError` if an allocation fails.
+/// Returns the effect of a command on the state. Returns `AllocError` if an allocation fails.
 fn effect_of(
     alloc: Global,
     actor: u32,

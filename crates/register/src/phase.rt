@@ -25,7 +25,7 @@ impl Phase {
         }
     }
 
-    /// Returns the phase with this number. None if the number isn't 1 to 4.
+    /// Returns the phase with this number, or `None` if the number isn't 1 to 4.
     pub fn from_number(n: u32) -> Option<Phase>
         ensures found { IfSome result (λ phase. phase_number phase ≡ n) }
         ensures none { IfNone result ((phase : Phase) → phase_number phase ≢ n) }

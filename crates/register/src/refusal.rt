@@ -154,7 +154,7 @@ impl Model for Refusal {
 }
 
 impl Refusal {
-    /// Returns a refusal for this reason, with its text. `AllocError` if an allocation fails.
+    /// Returns a refusal for this reason, with its text. Returns `AllocError` if an allocation fails.
     pub fn new(alloc: Global, reason: Reason) -> Result<Refusal, AllocError>
         ensures { IfOk result (λ refusal. refusal ≡ reason) }
     {

@@ -54,7 +54,7 @@ fn has_subject(receipts: &[Receipt], subject: &str) -> bool
 }
 
 /// Returns whether a candidate with this number has withdrawn from a ward, according to the returning officer's receipts.
-/// `AllocError` if an allocation fails.
+/// Returns `AllocError` if an allocation fails.
 pub fn has_withdrawn(
     alloc: Global,
     receipts: &[Receipt],

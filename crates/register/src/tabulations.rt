@@ -84,8 +84,8 @@ impl Tabulation {
         }
     }
 
-    /// Adds the count of a ward, as far as it is done: its bundles in their places, and the figures of its stages. `AllocError` if
-    /// an allocation fails; then part of the count may have been added.
+    /// Adds the count of a ward, as far as it is done: its bundles in their places, and the figures of its stages. Returns
+    /// `AllocError` if an allocation fails; then part of the count may have been added.
     pub fn add(
         &mut self,
         alloc: Global,
@@ -105,7 +105,7 @@ impl Tabulation {
     }
 }
 
-/// Returns a bundle of a ward with its place. `AllocError` if an allocation fails.
+/// Returns a bundle of a ward with its place. Returns `AllocError` if an allocation fails.
 pub(crate) fn placed_bundle(
     alloc: Global,
     ward: u32,
@@ -204,7 +204,7 @@ pub fn tabulations_are_ordered()
 {}
 
 /// Adds a bundle to others. Returns false if it can't be added: because its list isn't one of preferences, it has no papers, or the
-/// papers would exceed `MAX_PAPERS`. `AllocError` if an allocation fails.
+/// papers would exceed `MAX_PAPERS`. Returns `AllocError` if an allocation fails.
 fn add_bundle(bundles: &mut Bundles, bundle: &PlacedBundle) -> Result<bool, AllocError>
     ensures ok { IfOk result (λ added. added ≡ true → bundles.new ≡ with_papers bundles.old bundle.now.list.items bundle.now.papers) }
     ensures fits { IfOk result (λ added. IsBundle (bundle_of (placed_entry bundle.now)) → length (papers_of bundles.old) + bundle.now.papers ≤ max_papers → added ≡ true) }
@@ -220,7 +220,8 @@ fn add_bundle(bundles: &mut Bundles, bundle: &PlacedBundle) -> Result<bool, Allo
     Ok(true)
 }
 
-/// Returns the bundles of a ward. None if these aren't valid bundles, or have too many papers. `AllocError` if an allocation fails.
+/// Returns the bundles of a ward, or `None` if these aren't valid bundles, or have too many papers. Returns `AllocError` if an
+/// allocation fails.
 fn bundles_of(alloc: Global, tabulated: &[PlacedBundle]) -> Result<Option<Bundles>, AllocError>
     ensures is { IfOk result (λ found. IfSome found (λ bundles. AreBundles (map bundle_of (map placed_entry tabulated.now)) → bundles ≡ map bundle_of (map placed_entry tabulated.now))) }
     ensures some { IfOk result (λ found. AreBundles (map bundle_of (map placed_entry tabulated.now))
@@ -235,7 +236,8 @@ fn bundles_of(alloc: Global, tabulated: &[PlacedBundle]) -> Result<Option<Bundle
     Ok(Some(bundles))
 }
 
-/// Returns the places of a ward's bundles. None if a holder isn't a candidate's number. `AllocError` if an allocation fails.
+/// Returns the places of a ward's bundles, or `None` if a holder isn't a candidate's number. Returns `AllocError` if an allocation
+/// fails.
 fn places_of(alloc: Global, tabulated: &[PlacedBundle]) -> Result<Option<Vec<Placed>>, AllocError>
     ensures is { IfOk result (λ found. IfSome found (λ places. places.items ≡ map placed_of (map placed_entry tabulated.now))) }
     ensures some { IfOk result (λ found. AllByRecursion (λ (at : Placed). at.holder ≤ max_candidates) (map placed_of (map placed_entry tabulated.now)) → IsSome found) }
@@ -253,7 +255,7 @@ fn places_of(alloc: Global, tabulated: &[PlacedBundle]) -> Result<Option<Vec<Pla
     Ok(Some(places))
 }
 
-/// Returns the figures of a ward in the count's own form, stage by stage. `AllocError` if an allocation fails.
+/// Returns the figures of a ward in the count's own form, stage by stage. Returns `AllocError` if an allocation fails.
 fn figures_shown(alloc: Global, tabulated: &[StageFigure]) -> Result<Vec<Figure>, AllocError>
     ensures { IfOk result (λ figures. figures.items ≡ map shown_of (map figure_entry tabulated.now)) }
 {
@@ -268,8 +270,8 @@ fn figures_shown(alloc: Global, tabulated: &[StageFigure]) -> Result<Vec<Figure>
     Ok(figures)
 }
 
-/// Returns the count of a ward, as determined by its tabulated bundles and figures. None if they don't belong to any count.
-/// `AllocError` if an allocation fails.
+/// Returns the count of a ward, as determined by its tabulated bundles and figures. Returns `None` if they don't belong to any
+/// count. Returns `AllocError` if an allocation fails.
 pub fn count_of(
     alloc: Global,
     candidates: Columns,

@@ -154,7 +154,7 @@ pub(crate) fn reply_to(
 }
 
 /// Returns the effect of a command on the state. When nominations close, a contested ward enters keying, and an uncontested one is
-/// sealed. `AllocError` if an allocation fails.
+/// sealed. Returns `AllocError` if an allocation fails.
 pub(crate) fn effect_of(command: &WardCommand, part: &CommandInput) -> Result<Effect, AllocError>
     ensures { IfOk result (λ effect. effect_entry effect ≡ effect_of command.now (input_entries part.now)) }
 {

@@ -83,7 +83,8 @@ fn is_declared(phase: Phase) -> bool
 }
 
 /// Counts the stages done of a ward in a new book, or as many of them as there are. Returns whether there are as many stages as
-/// the ward claims, every lot was needed, and if the ward is declared, nothing more is due. `AllocError` if an allocation fails.
+/// the ward claims, every lot was needed, and if the ward is declared, nothing more is due. Returns `AllocError` if an allocation
+/// fails.
 fn count_done(
     alloc: Global,
     ward: &Ward,
@@ -103,8 +104,8 @@ fn count_done(
     Ok(counted & (drawn & (!is_declared(ward.phase) | finished)))
 }
 
-/// Adds the bundles and the figures of a ward's count to the tabulation, if any stage is done. `AllocError` if an allocation
-/// fails.
+/// Adds the bundles and the figures of a ward's count to the tabulation, if any stage is done. Returns `AllocError` if an
+/// allocation fails.
 fn add_stages(
     alloc: Global,
     ward: &Ward,
@@ -132,7 +133,7 @@ fn add_stages(
 }
 
 /// Adds the count of a ward, as far as it is done, to the tabulation. Returns whether the count is right: it has the stages done,
-/// every lot was needed, and if the ward is declared, nothing more is due. `AllocError` if an allocation fails.
+/// every lot was needed, and if the ward is declared, nothing more is due. Returns `AllocError` if an allocation fails.
 fn add_from_ballots(
     alloc: Global,
     ward: &Ward,
@@ -157,7 +158,7 @@ fn add_from_ballots(
     Ok(true)
 }
 
-/// Does the same as `add_from_ballots`, with the papers and lots of a ward in count. `AllocError` if an allocation fails.
+/// Does the same as `add_from_ballots`, with the papers and lots of a ward in count. Returns `AllocError` if an allocation fails.
 fn add_in_count(
     alloc: Global,
     rows: &Rows,
@@ -189,7 +190,7 @@ fn is_uncounted(rows: &Rows, ward: &Ward) -> bool
 }
 
 /// Adds the count of a ward, as far as it is done, to the tabulation. Returns whether the count is right; a ward without a count
-/// must have no stages done and no lots. `AllocError` if an allocation fails.
+/// must have no stages done and no lots. Returns `AllocError` if an allocation fails.
 fn add_count(
     alloc: Global,
     rows: &Rows,
@@ -208,8 +209,8 @@ fn add_count(
     Ok(is_uncounted(rows, ward))
 }
 
-/// Returns the tabulation of these wards' counts if all of them are right; none if any of them isn't. `AllocError` if an
-/// allocation fails.
+/// Returns the tabulation of these wards' counts if all of them are right, or `None` if any of them isn't. Returns `AllocError`
+/// if an allocation fails.
 fn tabulation_in(
     alloc: Global,
     rows: &Rows,
@@ -245,7 +246,7 @@ fn are_of_wards(rows: &Rows, lots: &[DrawnLot]) -> bool
 /// lots must be for a stage, no later than the next one, that needed or needs a lot, and must name one of the candidates tied. If
 /// the ward is declared, the count must be finished. In any other ward, no stage may be done and no lot recorded. This is the
 /// seventh condition on the rows of an office, given that its tables are in key order without duplicates and meet the first and
-/// the fourth condition. `AllocError` if an allocation fails.
+/// the fourth condition. Returns `AllocError` if an allocation fails.
 pub fn all_counted(alloc: Global, rows: &Rows) -> Result<Option<Tabulation>, AllocError>
     requires rise { MapsAreSorted (state_of rows.now) }
     requires in_range { all_in_range (state_of rows.now) ≡ true }

@@ -7,8 +7,8 @@ ghost use Rattle.std.specs.Str.Parse.{digits_value};
 ghost use Rattle.register.specs.Ranges.{is_between};
 ghost use Rattle.register.specs.Subjects.{is_plain_number, are_plain_numbers, is_space};
 
-/// Returns the number that digits represent. None if there are other bytes or the number exceeds `most`. Stops reading
-/// once the number exceeds `most`.
+/// Returns the number that digits represent, or `None` if there are other bytes or the number exceeds `most`. Stops
+/// reading once the number exceeds `most`.
 fn number_up_to(most: u32, digits: &[u8]) -> Option<u32>
     requires { most < 10000 }
     ensures { result ≡ (if all_ascii_digits digits.now && nat_le (digits_value 10 digits.now) most then Some (digits_value 10 digits.now) else None) }

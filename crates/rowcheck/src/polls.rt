@@ -96,7 +96,7 @@ pub fn all_agreed(rows: &Rows) -> bool
     are_agreed(rows, &rows.wards)
 }
 
-/// Adds the papers of a batch to those of its ward. `AllocError` if an allocation fails.
+/// Adds the papers of a batch to those of its ward. Returns `AllocError` if an allocation fails.
 fn add_batch(
     rows: &Rows,
     ballots: &mut Ballots<Bundles>,
@@ -118,7 +118,7 @@ fn add_batch(
     )
 }
 
-/// Returns the papers of those batches that belong to this ward. `AllocError` if an allocation fails.
+/// Returns the papers of those batches that belong to this ward. Returns `AllocError` if an allocation fails.
 fn ballots_among(
     alloc: Global,
     rows: &Rows,
@@ -138,7 +138,7 @@ fn ballots_among(
     Ok(ballots)
 }
 
-/// Returns the papers of a ward, read with these columns. `AllocError` if an allocation fails.
+/// Returns the papers of a ward, read with these columns. Returns `AllocError` if an allocation fails.
 pub(crate) fn ballots_of(
     alloc: Global,
     rows: &Rows,

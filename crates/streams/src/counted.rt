@@ -36,8 +36,8 @@ impl<T> Counted<T> {
     }
 }
 
-/// Returns how many of `len` bytes a writer accepted, given the result of a write. `None` for a failure: an error, or no bytes
-/// accepted although there are some.
+/// Returns how many of `len` bytes a writer accepted, given the result of a write. Returns `None` for a failure: an error, or no
+/// bytes accepted although there are some.
 fn taken(answer: io::Result<usize>, len: usize) -> Option<usize>
     ensures { result ≡ taken_of len answer }
 {
@@ -47,7 +47,7 @@ fn taken(answer: io::Result<usize>, len: usize) -> Option<usize>
     }
 }
 
-/// Returns how many bytes a reader supplied, given the result of a read. `None` for an error, which is a failure.
+/// Returns how many bytes a reader supplied, given the result of a read. Returns `None` for an error, which is a failure.
 fn count_read(answer: io::Result<usize>) -> Option<usize>
     ensures { result ≡ given_of answer }
 {
