@@ -1,4 +1,4 @@
--- What holds if a command has no objections.
+-- What holds if there is no objection to a command.
 use Rattle.std.proofs.Common.{◌≡◌, ℕ, zero, suc, Bool, true, false, not, ◌==◌, List, [], ◌∷◌, get_or, Option, Some, None, is_some, refl}
 use Rattle.register.specs.declared.phase.Phase.{Phase}
 use Rattle.register.specs.declared.phase.Phase.TheVariants.{Nominations, Keying, Sealed, Declared}

@@ -1,4 +1,4 @@
--- Commands for batches that have no objections lead from a state to a state, and leave a receipt in range.
+-- If there is no objection to a command for a batch, it leads from a state to a state, and leaves a receipt in range.
 use Rattle.std.proofs.Common.{rules, inl, inr, ◌≡◌, ℕ, suc, Bool, true, false, cond, not, ◌&&◌, ◌||◌, ◌==◌, ◌++◌, nat_le, codes, List, [], Option, Some, None, is_some, option_map, refl, sym}
 use Rattle.std.proofs.Common.{ap, subst, ◌∙◌, arith}
 use Rattle.std.specs.Fmt.{decimal}

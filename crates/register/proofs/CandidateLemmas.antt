@@ -1,4 +1,4 @@
--- Commands for candidates that have no objections lead from a state to a state, and leave a receipt in range.
+-- If there is no objection to a command for a candidate, it leads from a state to a state, and leaves a receipt in range.
 use Rattle.std.proofs.Common.{rules, ◌≡◌, ℕ, ◌<◌, true, ◌&&◌, ◌++◌, codes, List, None, string_bytes, refl, arith}
 use Rattle.std.specs.Fmt.{decimal}
 use Rattle.std.proofs.lemmas.Bool.{and_parts, and_from}
@@ -41,7 +41,7 @@ module _ (ward candidate : ℕ) (good : is_ward_number ward ≡ true) (fine : is
       in
       line_reply (line_append (words (codes "candidate ") (search rules) refl) numbered) (omega (arith, short))
 
--- every command that has no objections
+-- every command, if there is no objection to it
 pub candidate_fits : (s : OfficeState) (actor : ℕ) (command : CandidateCommand) → IsState s → first_reason (objections actor command (part_of s actor command)) ≡ None
     → IsFit s actor (effect_of command (part_of s actor command)) (subject_of command) (reply_to command (part_of s actor command))
 unfolding subject_of reply_to is_candidate

@@ -1,4 +1,4 @@
--- Commands for a count that have no objections lead from a state to a state, and leave a receipt in range.
+-- If there is no objection to a command for a count, it leads from a state to a state, and leaves a receipt in range.
 use Rattle.std.proofs.Common.{◌≡◌, ℕ, zero, suc, ◌+◌, ◌≤◌, Bool, true, false, cond, not, ◌&&◌, ◌==◌, ◌++◌, nat_le, nat_lt, nat_eq, codes, List, length, filter, Option, Some, None, is_some}
 use Rattle.std.proofs.Common.{refl, sym, ap, subst, ◌∙◌, arith}
 use Rattle.std.specs.Fmt.{decimal}

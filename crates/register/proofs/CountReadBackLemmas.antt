@@ -123,7 +123,7 @@ module _ (e : ElectionEntry) (candidates : List ℕ) (seats : ℕ) (bundles : Li
   pub right_so_far : IsRightForSome (contest_of e) (stages_of e)
   right_so_far = record { lots = e.lots; right = stages_right (contest_of e) e.lots e.ward.done }
 
-  -- what is read back is what was stored of the count
+  -- what is read back is what was stored about the count
   pub kept_again : (kept : List Bundle) (places : List Placed) (stages : List Stage) → kept ≡ map bundle_of bundles → places ≡ map placed_of bundles → stages ≡ reverse (stages_of e)
       → IsStoredCountOf (contest_of e) (stages_of e) (record { candidates = candidates; seats = seats; bundles = kept; places = places; stages = stages })
   kept_again kept places stages same lie done = record {

@@ -1,4 +1,4 @@
--- The tabulation of a state and what an accepted request adds together are the tabulation of the next state.
+-- The tabulation of a state and what an accepted request adds together make up the tabulation of the next state.
 use Rattle.std.proofs.Common.{◌≡◌, ℕ, ◌+◌, Bool, true, false, cond, List, Option, Some, None, Result, Ok, Err, option_map, string_bytes, refl, sym, ap, subst, ◌∙◌}
 use Rattle.std.specs.Result.{IfOk}
 use Rattle.std.specs.Str.{bytes_eq}
@@ -59,7 +59,7 @@ module _ (s : OfficeState) (actor : ℕ) (id : List ℕ) (command : Command) whe
   abbrev own_change : ChangeEntry
   own_change = record { effect = effect_of actor command (part_of s actor command); receipt = receipt_for actor id command (part_of s actor command) }
 
-  -- a request is accepted: its id has no receipt, its command has no objections, and this is the change
+  -- a request is accepted: its id has no receipt, there is no objection to its command, and this is the change
   record IsAccepted (change : ChangeEntry) : Type 0 where
     new : receipt_at s actor id ≡ None
     free : first_reason (objections actor command (part_of s actor command)) ≡ None

@@ -204,7 +204,7 @@ receipt_stays s r good new is =
     maps m = maps_of is m
 
 -- An effect that leads to a state, with the same tabulation unless it counts a stage, and with a subject and a reply that the actor's receipt may have:
--- the result of every command that has no objections.
+-- the result of every command to which there is no objection.
 pub record IsFit (s : OfficeState) (actor : ℕ) (effect : EffectEntry) (subject reply : List ℕ) : Type 0 where
   pub state : IsState (with_effect effect s)
   pub tabulated : KeepsTabulation s effect

@@ -1,4 +1,4 @@
--- A clerk's command that has no objections leads from a state to a state, and leaves a receipt in range.
+-- If there is no objection to a clerk's command, it leads from a state to a state, and leaves a receipt in range.
 use Rattle.std.proofs.Common.{rules, inl, inr, ◌≡◌, ◌⊎◌, ℕ, suc, ◌+◌, ◌<◌, ◌≤◌, Bool, true, false, not, ◌&&◌, ◌||◌, ◌==◌, ◌++◌, nat_le, codes, List, [], ◌∷◌, length, map, filter, Option}
 use Rattle.std.proofs.Common.{Some, None, Result, Ok, Err, string_bytes, refl, sym, ap, subst, ◌∙◌, arith}
 use Rattle.std.specs.Fmt.{decimal}

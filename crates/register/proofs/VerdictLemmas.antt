@@ -1,4 +1,4 @@
--- A command for a doubtful paper that has no objections leads from a state to a state, and leaves a receipt in range.
+-- If there is no objection to a command for a doubtful paper, it leads from a state to a state, and leaves a receipt in range.
 use Rattle.std.proofs.Common.{rules, ◌≡◌, ℕ, Bool, true, false, ◌&&◌, ◌==◌, ◌++◌, codes, List, [], ◌∷◌, filter, Option, Some, None, is_some, string_bytes, refl, sym, ap, ◌∙◌, arith, cond}
 use Rattle.std.specs.Fmt.{decimal}
 use Rattle.std.specs.List.{list_all}

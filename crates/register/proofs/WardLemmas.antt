@@ -1,4 +1,4 @@
--- Commands for wards that have no objections lead from a state to a state, and leave a receipt in range.
+-- If there is no objection to a command for a ward, it leads from a state to a state, and leaves a receipt in range.
 use Rattle.std.proofs.Common.{rules, ◌≡◌, ℕ, Bool, true, false, cond, ◌&&◌, ◌==◌, ◌++◌, codes, List, Some, None, string_bytes, refl, sym, ap, ◌∙◌, arith}
 use Rattle.std.specs.Fmt.{decimal}
 use Rattle.std.proofs.lemmas.Bool.{and_parts, and_from}

@@ -1,4 +1,4 @@
--- The commands for candidates: for each, the part of the state that it needs, its objections, subject, reply and effect.
+-- The commands for candidates: for each, the part of the state that it needs, the objections to it, and its subject, reply and effect.
 use Rattle.std.specs.Prelude.{ℕ, Bool, not, ◌&&◌, List, [], ◌∷◌, ◌++◌, codes, string_bytes, Option, is_some, is_none}
 use Rattle.std.specs.Fmt.{decimal}
 use Rattle.register.specs.declared.phase.Phase.TheVariants.{Nominations}

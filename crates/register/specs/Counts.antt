@@ -1,4 +1,4 @@
--- The commands for a ward's count: for each, the part of the state that it needs, its objections, subject, reply and effect.
+-- The commands for a ward's count: for each, the part of the state that it needs, the objections to it, and its subject, reply and effect.
 use Rattle.std.specs.Prelude.{ℕ, ◌+◌, Bool, false, not, ◌&&◌, ◌==◌, nat_le, if◌then◌else◌, List, [], ◌∷◌, ◌++◌, codes, Option, Some, None, is_none, option_map}
 use Rattle.std.specs.Fmt.{decimal}
 use Rattle.votes.specs.Text.{votes_text}

@@ -1,4 +1,4 @@
--- The command that clerks send: the part of the state that it needs, its objections, subject, reply and effect.
+-- The command that clerks send: the part of the state that it needs, the objections to it, and its subject, reply and effect.
 use Rattle.std.specs.Prelude.{ℕ, ◌+◌, ◌^◌, ◌<◌, Bool, not, ◌&&◌, ◌==◌, List, [], ◌∷◌, ◌++◌, length, map, codes, string_bytes, Option}
 use Rattle.std.specs.Fmt.{decimal}
 use Rattle.register.specs.declared.refusal.Reason.{Reason}

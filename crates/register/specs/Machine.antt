@@ -29,7 +29,7 @@ part_of s actor (Keying command) = keyings.part_of s actor command
 part_of s actor (Verdict command) = verdicts.part_of s actor command
 part_of s actor (Count command) = counts.part_of s actor command
 
--- its objections, ordered by reason number
+-- the objections to a command, ordered by reason number
 abbrev pub objections : ℕ → Command → CommandInputEntries → List (Option Reason)
 objections actor (Ward command) part = wards.objections actor command part
 objections actor (Candidate command) part = candidates.objections actor command part
@@ -38,12 +38,12 @@ objections actor (Keying command) part = keyings.objections actor command part
 objections actor (Verdict command) part = verdicts.objections actor command part
 objections actor (Count command) part = counts.objections actor command part
 
--- its papers, if it has any, can be numbered
+-- the papers of a command, if it has any, can be numbered
 abbrev pub IsNumbered : Command → Type 0
 IsNumbered (Keying command) = keyings.IsNumbered command
 IsNumbered command = ⊤
 
--- the subject of its receipt
+-- the subject of a command's receipt
 abbrev pub subject_of : Command → List ℕ
 subject_of (Ward command) = wards.subject_of command
 subject_of (Candidate command) = candidates.subject_of command
@@ -52,7 +52,7 @@ subject_of (Keying command) = keyings.subject_of command
 subject_of (Verdict command) = verdicts.subject_of command
 subject_of (Count command) = counts.subject_of command
 
--- the reply to it if it is accepted
+-- the reply to a command if it is accepted
 abbrev pub reply_to : Command → CommandInputEntries → List ℕ
 reply_to (Ward command) part = wards.reply_to command part
 reply_to (Candidate command) part = candidates.reply_to command part
@@ -61,7 +61,7 @@ reply_to (Keying command) part = keyings.reply_to command
 reply_to (Verdict command) part = verdicts.reply_to command
 reply_to (Count command) part = counts.reply_to command part
 
--- its effect if it is accepted
+-- the effect of a command if it is accepted
 abbrev pub effect_of : ℕ → Command → CommandInputEntries → EffectEntry
 effect_of actor (Ward command) part = wards.effect_of command part
 effect_of actor (Candidate command) part = candidates.effect_of command part
@@ -82,7 +82,7 @@ pub data Ruling : Type 0 where
 abbrev pub receipt_for : ℕ → List ℕ → Command → CommandInputEntries → ReceiptEntry
 receipt_for actor id command part = record { actor = actor; id = id; subject = subject_of command; reply = reply_to command part }
 
--- a new request is refused for its first objection, or accepted if it has none
+-- a new request is refused for the first objection to it, or accepted if there is none
 abbrev pub judged : ℕ → List ℕ → Command → CommandInputEntries → Option Reason → Ruling
 judged actor id command part (Some why) = refuses why
 judged actor id command part None = accepts (record { effect = effect_of actor command part; receipt = receipt_for actor id command part }) (reply_to command part)

@@ -1,4 +1,4 @@
--- Whether a request differs from what an office has stored of an earlier one. A receipt contains the request's id and subject, and nothing else that the
+-- Whether a request differs from what an office has stored about an earlier one. A receipt contains the request's id and subject, and nothing else that the
 -- request said, so a request that is repeated under the same id may say something different and still get the same reply.
 use Rattle.std.specs.Prelude.{ℕ, Bool, true, false, not, ◌&&◌, ◌==◌, List, [], ◌∷◌, string_bytes, Option, Some, None}
 use Rattle.std.specs.List.{list_any, filter}
@@ -75,7 +75,7 @@ is_ward_otherwise s (wards.Close ward) = false
 abbrev pub has_withdrawn : OfficeState → ℕ → ℕ → Bool
 has_withdrawn s ward candidate = list_any (has_subject (subject_of (candidates.Withdraw ward candidate))) (office_receipts s)
 
--- for a candidate: the name. If a candidate with this number has withdrawn, nothing is stored of that candidate, and any candidate who has the number
+-- for a candidate: the name. If a candidate with this number has withdrawn, nothing is stored about that candidate, and any candidate who has the number
 -- since then is a different one.
 abbrev pub is_candidate_otherwise : OfficeState → CandidateCommand → Bool
 is_candidate_otherwise s (candidates.Add ward candidate name) =

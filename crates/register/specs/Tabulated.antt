@@ -155,11 +155,11 @@ placed_of b = record { holder = b.holder; value = b.value }
 abbrev pub shown_of : FigureEntry → Figure
 shown_of f = record { candidate = f.candidate; units = f.units; mark = f.mark }
 
--- the old tabulation and the addition of a change together are the new tabulation
+-- the old tabulation and the addition of a change together make up the new tabulation
 abbrev pub IsTabulated : OfficeState → Change → Type 0
 IsTabulated s change = SameTabulation (with_addition (addition_entries change.addition) (tabulation_of s)) (tabulation_of (with_change (change_entry change) s))
 
--- the old tabulation and the addition of an accepted request together are the new tabulation
+-- the old tabulation and the addition of an accepted request together make up the new tabulation
 abbrev pub AddsWhatIsCounted : OfficeState → Decision → Type 0
 AddsWhatIsCounted s (Accepted change reply) = IsTabulated s change
 AddsWhatIsCounted s (Kept reply) = ⊤

@@ -1,4 +1,4 @@
--- The command for a doubtful paper: the part of the state that it needs, its objections, subject, reply and effect.
+-- The command for a doubtful paper: the part of the state that it needs, the objections to it, and its subject, reply and effect.
 use Rattle.std.specs.Prelude.{ℕ, Bool, not, ◌&&◌, List, [], ◌∷◌, ◌++◌, codes, string_bytes, Option, None, is_some}
 use Rattle.std.specs.Fmt.{decimal}
 use Rattle.register.specs.declared.refusal.Reason.{Reason}

@@ -1,4 +1,4 @@
--- The commands for wards: for each, the part of the state that it needs, its objections, subject, reply and effect.
+-- The commands for wards: for each, the part of the state that it needs, the objections to it, and its subject, reply and effect.
 use Rattle.std.specs.Prelude.{ℕ, Bool, false, not, ◌&&◌, if◌then◌else◌, List, [], ◌∷◌, ◌++◌, codes, string_bytes, Option, Some, None, is_some}
 use Rattle.std.specs.Fmt.{decimal}
 use Rattle.register.specs.declared.phase.Phase.{Phase}

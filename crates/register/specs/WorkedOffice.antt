@@ -264,7 +264,7 @@ pub record UncontestedRows : Type 0 where
   pub all_elected : step (with_quay Sealed both_there (told_of_both ++ told_closed ∷ [])) 0 (codes "z1") (commands.Count (counts.Declare 8))
       ≡ accepted (with_quay Declared both_there (told_of_both ++ told_closed ∷ told (codes "z1") (codes "declare 8") (codes "ward 8 declared: 1, 2") ∷ [])) (codes "ward 8 declared: 1, 2")
 
--- A repeated command either matches what is stored of it or differs: in seats, name, size, third clerk, marks or verdict. Nothing is stored of a
+-- A repeated command either matches what is stored about it or differs: in seats, name, size, third clerk, marks or verdict. Nothing is stored about a
 -- withdrawn candidate, and a later candidate with the same number is a different one. A command that its subject describes completely never differs.
 pub record RepeatRows : Type 0 where
   pub same_ward : Written (codes "Harbour") (λ name. is_otherwise (in_nominations [] []) 0 (adds_ward 7 2 name) ≡ false)

@@ -54,7 +54,7 @@ fn last_figures(
 ) -> Result<Vec<StageFigure>, AllocError>
     ensures { IfOk result (λ figures. map figure_entry figures.items ≡ last_figures ward candidates.now stages.now) }
 {
-    // more stages than fit into a `u32` don't fit into memory
+    // more stages than a `u32` can count can't fit into memory
     let Ok(stage) = u32::try_from(stages.len()) else {
         return Err(AllocError);
     };

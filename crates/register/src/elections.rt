@@ -125,7 +125,7 @@ pub fn lot_pairs(alloc: Global, lots: &[DrawnLot]) -> Result<Option<Vec<(u8, u8)
     Ok(Some(pairs))
 }
 
-/// Returns a new book of these bundles if they make a contest that can be counted; the bundles of every contested ward of an
+/// Returns a new book of these bundles if they form a contest that can be counted; the bundles of every contested ward of an
 /// office do. Returns `AllocError` if an allocation fails.
 pub fn book_of<'a>(
     alloc: Global,

@@ -18,9 +18,9 @@ pub mod command;
 // State.
 pub mod phase;
 pub mod receipt;
-// What the machine sees of the state,
+// What the machine sees of the state.
 pub mod view;
-// and what it decides.
+// What the machine decides.
 pub mod decision;
 pub mod refusal;
 // Ranges of numbers and texts.
@@ -33,10 +33,10 @@ pub mod elections;
 pub mod next_steps;
 pub mod polls;
 pub mod status;
-// What is stored of the counts, and what a stage adds to it.
+// What is stored about the counts, and what a stage adds to it.
 mod additions;
 pub mod tabulations;
-// Numbers in words.
+// Lists of numbers as text.
 mod texts;
 // The commands, by subject.
 pub mod batches;
@@ -45,7 +45,7 @@ pub mod counts;
 pub mod keyings;
 pub mod verdicts;
 pub mod wards;
-// What the state keeps of a request, compared with a repeated one.
+// Comparing a repeated request with what is stored about the original.
 pub mod repeats;
 // The machine, which dispatches on the subject.
 mod machine;

@@ -114,7 +114,7 @@ fn refused(alloc: Global, reason: Reason) -> Result<Decision, AllocError>
     Ok(Decision::Refused(Refusal::new(alloc, reason)?))
 }
 
-/// Accepts a command that has no objections; returns its change and its reply.
+/// Accepts a command to which there is no objection; returns its change and its reply.
 fn accepted(
     alloc: Global,
     view: &View<'_>,
@@ -175,7 +175,7 @@ fn decided(alloc: Global, view: &View<'_>, command: &Command) -> Result<Decision
 /// of the ward and leaves the earlier ones unchanged; an accepted Lot or Declare leaves all of them unchanged. Returns
 /// `AllocError` if an allocation fails; then nothing is decided.
 ///
-/// The old tabulation of the counts and the addition of an accepted request together are the new tabulation, up to the order
+/// The old tabulation of the counts and the addition of an accepted request together make up the new tabulation, up to the order
 /// of the entries. An Advance adds the figures of the next stage. At the first stage it also adds all bundles of the ward;
 /// at a later stage it adds exactly the bundles whose papers have moved. No other request adds anything.
 ///
@@ -224,7 +224,7 @@ pub fn paper_is_seen()
 /// A ward is added once. Three candidates contest its two seats, and its batches are assigned. Two clerks' keyings of a
 /// batch agree, and its doubtful paper is judged; or they differ, and the batch is keyed again, or by a third clerk as well.
 /// In a ward with as many candidates as seats, all are elected. A repeated request is compared with what the state has
-/// stored of the original.
+/// stored about the original.
 pub fn rows_are_worked()
     ensures wards { WardRows }
     ensures nominations { NominationRows }

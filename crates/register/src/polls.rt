@@ -28,7 +28,7 @@ pub enum Judgement {
     /// Rejected, with this code: 1 no first preference, 2 more than one, 3 no official mark, 4 voter identifiable, 5 void
     /// for uncertainty.
     Rejected(u32),
-    /// Doubtful, with no verdict yet.
+    /// Awaiting a verdict.
     Open,
 }
 

@@ -55,8 +55,7 @@ pub enum Reason {
     NotDoubtful,
     /// The paper already has a verdict.
     AlreadyJudged,
-    /// The paper is accepted as doubtful or with marks that make it invalid, or is rejected with a code other than 3, 4 or
-    /// 5.
+    /// The paper is accepted as doubtful or with marks that invalidate it, or rejected with a code other than 3, 4 or 5.
     BadVerdict,
     /// A batch of the ward isn't taken, or a doubtful paper has no verdict.
     NotReady,

@@ -1,4 +1,4 @@
-//! Compares a request that is repeated under the same id with what the state has stored of the original.
+//! Compares a request that is repeated under the same id with what the state has stored about the original.
 //!
 //! A receipt contains the id and the subject of its request, and nothing else that the request said. Whether a repeated
 //! request is the same is therefore determined from the entry that the original made. After a candidate has withdrawn,

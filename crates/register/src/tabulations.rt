@@ -178,7 +178,7 @@ fn add_figures(
     ensures { OnOk result (map figure_entry to.new.items ≡ map figure_entry to.old.items ++ figures_to ward candidates.now (reverse stages.now)) }
 {
     for done in 0..stages.len() {
-        // so many stages don't fit into memory
+        // this many stages can't fit into memory
         let Ok(stage) = u32::try_from(done + 1) else {
             return Err(AllocError);
         };
@@ -190,7 +190,7 @@ fn add_figures(
 
 /// The laws of the tabulation, for callers. In a state, the bundles are ordered by ward and list, and the figures by ward, stage
 /// and candidate, without duplicates. The bundles and figures of a ward are those of its election. If a ward's count has at least
-/// one stage, the count can be read back from them. For an election worked out by hand they are as expected: before the first stage
+/// one stage, the count can be read back from them. For an election worked out by hand, they are as expected: before the first stage
 /// there are none; from then on there is each bundle in its place, at its value, and the figures of each stage.
 pub fn tabulations_are_ordered()
     ensures rise { (s : OfficeState) → IsState s → TabulationRises (tabulation_of s) }
@@ -203,8 +203,8 @@ pub fn tabulations_are_ordered()
     ensures worked { WorkedTabulation }
 {}
 
-/// Adds a bundle to others. Returns false if it can't be added: because its list isn't one of preferences, it has no papers, or the
-/// papers would exceed `MAX_PAPERS`. Returns `AllocError` if an allocation fails.
+/// Adds a bundle to others. Returns false if its list isn't one of preferences, it has no papers, or the total number of papers
+/// would exceed `MAX_PAPERS`. Returns `AllocError` if an allocation fails.
 fn add_bundle(bundles: &mut Bundles, bundle: &PlacedBundle) -> Result<bool, AllocError>
     ensures ok { IfOk result (λ added. added ≡ true → bundles.new ≡ with_papers bundles.old bundle.now.list.items bundle.now.papers) }
     ensures fits { IfOk result (λ added. IsBundle (bundle_of (placed_entry bundle.now)) → length (papers_of bundles.old) + bundle.now.papers ≤ max_papers → added ≡ true) }

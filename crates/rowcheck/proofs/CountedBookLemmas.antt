@@ -1,5 +1,5 @@
 -- What a book has counted of an election, on the bundles of its papers, is the tabulation of that election's count; and the tabulations of all wards
--- together are the tabulation of the state.
+-- together make up the tabulation of the state.
 use Rattle.std.proofs.Common.{◌≡◌, ◌≢◌, ℕ, ◌==◌, true, List, [], ◌∷◌, map, refl, sym, ap, subst, ◌∙◌, arith}
 use Rattle.std.specs.List.{flat_map}
 use Rattle.std.specs.List.Sorted.{IsPermutation}
@@ -59,7 +59,7 @@ module _ (e : ElectionEntry) (ward : WardEntry) (columns : List ℕ) (bundles : 
         ∙ ap (figures_to e.ward.number (columns_of e.candidates)) (are ∙ has.stages_are)
         ∙ sym (rw staged refl)
 
--- the counts of all wards in the rows together are the tabulation of the state
+-- the counts of all wards in the rows together make up the tabulation of the state
 pub tabulation-by_ward : (rows : Rows) (t : TabulationEntries) (wards : List Ward) → wards ≡ rows.wards.items
     → t.bundles ≡ flat_map (λ (w : Ward). bundles_in (election_of (state_of rows) (ward_entry w))) wards
     → t.figures ≡ flat_map (λ (w : Ward). figures_in (election_of (state_of rows) (ward_entry w))) wards
