@@ -1,4 +1,4 @@
--- The papers that a batch is taken with.
+-- The agreed papers of a batch.
 use Rattle.std.proofs.Common.{◌≡◌, ◌&&◌, ◌||◌, Bool, true, false, cond, List, [], ◌∷◌, map, filter, Option, Some, None, refl, sym, ap, ◌∙◌}
 use Rattle.std.specs.List.{list_all, list_any}
 use Rattle.std.specs.Ordering.{nat_cmp, is_lt}
@@ -7,7 +7,7 @@ use Rattle.register.specs.Offices.{BatchEntry, ThirdEntry, KeyedEntry, OfficeSta
 use Rattle.register.specs.Agreement.{is_keyed, of_three, same_marks, agreed, are_taken, clerks, taken_papers, is_taken}
 use Rattle.register.specs.Polls.{settled_with, settled_papers}
 
--- ---- of two and of three keyings
+-- ---- two and three keyings
 
 -- of two keyings, which may be empty, the first is agreed if both are equal
 agreed_two : (b c : List KeyedEntry) → agreed (filter is_keyed (b ∷ c ∷ [])) ≡ cond (is_keyed b && same_marks b c) b []
@@ -41,7 +41,7 @@ two_taken b c taken = agreed_two b c ∙ go (is_keyed b && same_marks b c) (ap i
     go true keyed = refl
     go false keyed = absurd (cc)
 
--- ---- of any number of keyings
+-- ---- any number of keyings
 
 -- the agreed keying passes a test if every keying does and, in case no two agree, the empty keying does too
 pub agreed_passes : (p : List KeyedEntry → Bool) (ks : List (List KeyedEntry)) → list_all p ks ≡ true → (are_taken ks ≡ false → p [] ≡ true) → p (agreed ks) ≡ true

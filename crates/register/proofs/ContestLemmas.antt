@@ -183,7 +183,7 @@ few_by (j ∷ js) = omega (arith, length-append (preferences_by j) (flat_map pre
     one (Rejected code) = omega arith
     one Open = omega arith
 
--- a batch isn't taken with more papers than its size
+-- a batch doesn't have more agreed papers than its size
 whole_few : (size : ℕ) (ks : List (List KeyedEntry)) → list_all (is_whole size) ks ≡ true → length (agreed ks) ≤ size
 whole_few size [] whole = omega arith
 whole_few size (k ∷ ks) whole = elim (list_any (same_marks k) ks) as (λ b. length (cond b k (agreed ks)) ≤ size) [

@@ -36,7 +36,7 @@ use Rattle.register.proofs.CountLemmas.{HasStageDue, advance_due}
 use Rattle.register.proofs.AdditionLemmas.{stage_tabulated}
 use Rattle.register.proofs.MachineLemmas.{fits, ruling_on}
 
--- two facts of a value, combined
+-- two facts about a value, combined
 pub IfOk-both : {X Y : Type 0} (r : Result X Y) (P Q R : X → Type 0) → ((x : X) → P x → Q x → R x) → IfOk r P → IfOk r Q → IfOk r R
 IfOk-both (Ok x) P Q R both first second = both x first second
 IfOk-both (Err y) P Q R both first second = tt

@@ -28,7 +28,7 @@ last_first true false = refl
 last_first false true = refl
 last_first false false = refl
 
--- some rounds are right exactly if the last one is, and those before it are
+-- the rounds up to n + 1 are right exactly if the last one is and the rounds before it are
 pub rounds_more : (s : OfficeState) (b : BatchEntry) (n : ℕ) → are_rounds_to s b (suc n) ≡ (is_round_of s b (suc n) && are_rounds_to s b n)
 unfolding are_rounds_to
 rounds_more s b n =
@@ -38,7 +38,7 @@ rounds_more s b n =
     ∙ last_first (list_all (is_round_of s b) (range_with_len 1 n)) (is_round_of s b (1 + n))
     ∙ ap (λ (k : ℕ). is_round_of s b k && list_all (is_round_of s b) (range_with_len 1 n)) e
 
--- if all of some rounds are right, the last one is
+-- if the rounds up to n are right, round n is
 pub round_at : (s : OfficeState) (b : BatchEntry) (n : ℕ) → 1 ≤ n → are_rounds_to s b n ≡ true → is_round_of s b n ≡ true
 round_at s b zero low all = absurd (omega (arith, low))
 round_at s b (suc n) low all = (and_parts _ _ (sym (rounds_more s b n) ∙ all)).0

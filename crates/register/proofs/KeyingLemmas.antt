@@ -263,7 +263,7 @@ module _ (s : OfficeState) (b : BatchEntry) (actor : ℕ) (texts : List (List �
             in
             ap (λ (ks : List (List KeyedEntry)). list_all (is_whole b.size) ks && (nat_le b.round m || differ ks)) same ∙ holds
 
-    -- a doubtful paper among those that the batch is taken with remains one
+    -- a doubtful paper among the batch's agreed papers remains one
     doubtful_kept : list_all (is_whole b.size) (keyings_now s b) ≡ true → (paper : ℕ) → has_doubtful (taken_papers s b) paper ≡ true
         → has_doubtful (taken_papers (with_papers s b actor texts) b) paper ≡ true
     doubtful_kept whole paper was =

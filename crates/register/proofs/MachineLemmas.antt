@@ -55,7 +55,7 @@ pub ruling_on : (s : OfficeState) (actor : ℕ) (id : List ℕ) (command : Comma
     → decided actor id command receipt part ≡ ruling_at s actor id command
 ruling_on s actor id command receipt part same_receipt same_part = rw same_receipt (alike actor id command (receipt_at s actor id) part (part_of s actor command) same_part)
 
--- such a decision makes the step of that state
+-- the outcome of such a decision is the step in that state
 pub step_on : (s : OfficeState) (actor : ℕ) (id : List ℕ) (command : Command) (receipt : Option ReceiptEntry) (part : CommandInputEntries) → receipt ≡ receipt_at s actor id
     → (receipt_at s actor id ≡ None → part ≡ part_of s actor command)
     → outcome_at s (decided actor id command receipt part) ≡ step s actor id command

@@ -199,7 +199,7 @@ module _ (p size : ℕ) where
       go true s was = was
       go false s was = absurd (cc)
 
-  -- a doubtful paper among those that a batch is taken with remains one when another clerk keys
+  -- a doubtful paper among a batch's agreed papers remains one when another clerk keys
   pub doubtful_still : (a b c x y z : List KeyedEntry) → Grows a x → Grows b y → Grows c z → list_all (is_whole size) (of_three x y z) ≡ true
       → has_doubtful (agreed (of_three a b c)) p ≡ true → has_doubtful (agreed (of_three x y z)) p ≡ true
   doubtful_still a b c x y z (inl i) (inl j) (inl k) all was = rw (i, j, k) was

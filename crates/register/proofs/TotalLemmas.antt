@@ -261,7 +261,7 @@ all_readable s b clerk (k ∷ ks) there keyed = go ((k.batch == b.number) && ((k
     go true is later = and_from _ _ (here (and_parts (k.batch == b.number) _ is).0) later
     go false is later = later
 
--- the marks on the papers that the batch is taken with can be read
+-- the marks on a batch's agreed papers can be read
 taken_readable : (s : OfficeState) (b : BatchEntry) → batch_at s b.number ≡ Some b → list_all (λ k. is_keyed_for s k (batch_at s k.batch)) s.keyings ≡ true
     → list_all (λ k. is_readable (columns_for s b) k.marks) (taken_papers s b) ≡ true
 taken_readable s b there keyed = agreed_passes reads (keyings_now s b) (kept_all reads is_keyed (map (keying_of s b.number b.round) (clerks_of s b)) (each (clerks_of s b))) (λ untaken. refl)

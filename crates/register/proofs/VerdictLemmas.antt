@@ -43,8 +43,8 @@ put_kept {X} cmp p q x (y ∷ ys) good all = elim (is_lt (cmp x y)) as (λ b. li
     go true later each = and_from _ _ (and_parts _ _ each).0 (later (and_parts _ _ each).1)
     go false later each = later each
 
--- adding a verdict that is in range, on a doubtful paper among those that a batch is taken with, which has no verdict
--- so far, leads to a state
+-- adding a verdict that is in range, on a doubtful paper among a batch's agreed papers, which has no verdict so far, leads to
+-- a state
 judged_stays : (s : OfficeState) (v : JudgedEntry) (b : BatchEntry) → is_judged_paper v ≡ true → batch_at s v.batch ≡ Some b → is_verdict_for s b v ≡ true
     → verdict_at s v.batch v.paper ≡ None → IsBeforeCount s (paper_judged v) → IsState s → IsState (with_effect (paper_judged v) s)
 judged_stays s v b good found on new before is =

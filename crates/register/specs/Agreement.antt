@@ -21,7 +21,7 @@ same_marks [] [] = true
 same_marks (j ∷ js) (k ∷ ks) = bytes_eq j.marks k.marks && same_marks js ks
 same_marks js ks = false
 
--- the first keying that a later one equals: the papers that the batch is taken with; empty if no two are equal
+-- the first keying that a later one equals, which is the agreed one; empty if no two are equal
 abbrev pub agreed : List (List KeyedEntry) → List KeyedEntry
 agreed [] = []
 agreed (k ∷ ks) = if list_any (same_marks k) ks then k else agreed ks
@@ -90,7 +90,7 @@ keyings_in s b round = filter is_keyed (map (keying_of s b.number round) (clerks
 abbrev pub keyings_now : OfficeState → BatchEntry → List (List KeyedEntry)
 keyings_now s b = keyings_in s b b.round
 
--- the papers that the batch is taken with; empty if it isn't taken
+-- the agreed papers of the batch; empty if it isn't taken
 abbrev pub taken_papers : OfficeState → BatchEntry → List KeyedEntry
 taken_papers s b = agreed (keyings_now s b)
 

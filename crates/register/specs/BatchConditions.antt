@@ -61,7 +61,7 @@ are_rounds_to s b rounds = list_all (is_round_of s b) (range_with_len 1 rounds)
 abbrev pub is_verdict_on : List ℕ → List KeyedEntry → JudgedEntry → Bool
 is_verdict_on columns keying v = has_doubtful keying v.paper && (((v.code == 0) && is_valid columns v.marks) || (is_rejection_code v.code && (length v.marks == 0)))
 
--- a verdict on a doubtful paper among those that a batch is taken with; a batch that isn't taken has none
+-- a verdict on a doubtful paper among a batch's agreed papers; a batch that isn't taken has none
 abbrev pub is_verdict_for : OfficeState → BatchEntry → JudgedEntry → Bool
 is_verdict_for s b v = is_verdict_on (columns_for s b) (taken_papers s b) v
 

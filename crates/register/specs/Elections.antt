@@ -1,5 +1,4 @@
--- The election in a ward and its count, which are determined by the ward, its candidates, its papers and its lots
--- alone.
+-- The election in a ward and its count, determined by nothing but the ward, its candidates, papers and lots.
 use Rattle.std.specs.Prelude.{◌≡◌, ℕ, ◌+◌, ◌-◌, Bool, true, false, not, ◌&&◌, ◌||◌, ◌==◌, nat_le, nat_eq, if◌then◌else◌, List, map, length, Option, Some, None}
 use Rattle.std.specs.List.{list_all, list_any}
 use Rattle.count.specs.Law.Contest.{Contest, History, contest_for}

@@ -51,7 +51,7 @@ by_reading doubtful (Err fault) = Open
 by_reading doubtful (Ok Doubtful) = doubtful
 by_reading doubtful (Ok (Marked marking)) = by_rejection marking (rejection_of marking)
 
--- the judgement by a verdict: by the marks that the paper is accepted with, or rejected with a code
+-- the judgement by a verdict: that of the marks that the paper is accepted with, or a rejection with a code
 abbrev pub by_verdict : List ℕ → Option JudgedEntry → Judgement
 by_verdict columns None = Open
 by_verdict columns (Some v) = if v.code == 0 then by_reading Open (reading columns v.marks) else Rejected v.code
@@ -64,7 +64,7 @@ judgement_on columns verdicts k = by_reading (by_verdict columns (find (λ (v : 
 abbrev pub judgements_on : List ℕ → List JudgedEntry → List KeyedEntry → List Judgement
 judgements_on columns verdicts keying = map (judgement_on columns verdicts) keying
 
--- the judgements on the papers that a batch is taken with; none if it isn't taken
+-- the judgements on a batch's agreed papers; none if it isn't taken
 abbrev pub judgements_in : List ℕ → Pile → List Judgement
 judgements_in columns pile = judgements_on columns pile.verdicts (agreed pile.keyings)
 
@@ -78,8 +78,8 @@ judgements columns piles = flat_map (judgements_in columns) piles
 abbrev pub lower_clerk : BatchEntry → ℕ
 lower_clerk b = if is_lt (nat_cmp b.first_clerk b.second_clerk) then b.first_clerk else b.second_clerk
 
--- the papers of a settled batch: without a third clerk, those of the lower-numbered clerk, since the two keyings are equal; with a third clerk, those that
--- the batch is taken with
+-- the papers of a settled batch: without a third clerk, those of the lower-numbered clerk, since the two keyings are equal; with a third clerk, the
+-- agreed papers
 abbrev pub settled_with : OfficeState → BatchEntry → Option ThirdEntry → List KeyedEntry
 settled_with s b None = keying_of s b.number b.round (lower_clerk b)
 settled_with s b (Some t) = taken_papers s b

@@ -1,5 +1,5 @@
--- Whether a request differs from what an office has stored about an earlier one. A receipt contains the request's id and subject, and nothing else that the
--- request said, so a request that is repeated under the same id may say something different and still get the same reply.
+-- Whether a request differs from what an office has stored about an earlier one. A receipt contains the request's id and subject and none of its
+-- other contents, so a request that is repeated under the same id may have different contents and still get the same reply.
 use Rattle.std.specs.Prelude.{ℕ, Bool, true, false, not, ◌&&◌, ◌==◌, List, [], ◌∷◌, string_bytes, Option, Some, None}
 use Rattle.std.specs.List.{list_any, filter}
 use Rattle.std.specs.Str.{bytes_eq}
@@ -60,7 +60,7 @@ has_texts ks texts = false
 abbrev pub is_judged_alike : JudgedEntry → JudgedEntry → Bool
 is_judged_alike other v = (v.code == other.code) && bytes_eq v.marks other.marks
 
--- a lot for this stage that drew this candidate
+-- a lot for this stage that names this candidate
 abbrev pub is_drawn : ℕ → ℕ → LotEntry → Bool
 is_drawn stage candidate l = (l.stage == stage) && (l.candidate == candidate)
 

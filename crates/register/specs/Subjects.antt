@@ -6,7 +6,7 @@ use Rattle.std.specs.Str.Parse.{digits_value}
 use Rattle.paper.specs.Columns.{max_candidates}
 use Rattle.register.specs.Ranges.{is_between, last_ward, last_batch, most_papers, last_round, first_lot_stage, last_lot_stage}
 
--- a number in plain notation: digits, the first not 0
+-- a number in plain notation: digits, the first of which isn't 0
 unfoldable pub is_plain_number : ℕ → ℕ → List ℕ → Bool
 is_plain_number low high t = not (slice_index t 0 == 48) && (all_ascii_digits t && is_between low high (digits_value 10 t))
 

@@ -1,4 +1,4 @@
--- What an office tabulates of its counts: the place of each bundle of equal ballot papers, and every figure of every stage.
+-- The tabulation of an office's counts: the place of each bundle of equal ballot papers, and every figure of every stage.
 use Rattle.std.specs.Prelude.{◌≡◌, ⊤, ℕ, ◌+◌, Bool, true, false, not, ◌&&◌, ◌==◌, if◌then◌else◌, List, [], ◌∷◌, ◌++◌, map, fold, length, Option, Some, None}
 use Rattle.std.specs.List.{flat_map}
 use Rattle.std.specs.List.Sorted.{IsStrictlySortedBy, IsPermutation}

@@ -1,4 +1,4 @@
--- An example office, worked out by hand, request by request from the empty office: the reply to each request, and the state that it leads to. Where a row
+-- An example office, worked out by hand, request by request from the empty office: the reply to each request, and the state that it leads to. If a row
 -- follows another, it starts from the state that the other row leads to.
 use Rattle.std.specs.Prelude.{◌≡◌, ℕ, true, false, List, [], ◌∷◌, ◌++◌, map, codes, string_bytes}
 use Rattle.std.specs.declared.string.String.{String}

@@ -35,8 +35,8 @@ fn same_marks(first: &[KeyedPaper], second: &[KeyedPaper]) -> bool
 }
 
 #[tactic(auto, using(crate::proofs::AgreedLemmas::agreed_three))]
-/// Returns the first of three clerks' keyings of a round, ordered by clerk number, that equals a later one: the papers that the
-/// batch is taken with. A missing keying is empty; if no two keyings are equal, the result is empty as well.
+/// Returns the first of three clerks' keyings of a round, ordered by clerk number, that equals a later one: the agreed papers of
+/// the batch. A missing keying is empty; if no two keyings are equal, the result is empty as well.
 pub fn agreed<'a>(
     first: &'a [KeyedPaper],
     second: &'a [KeyedPaper],

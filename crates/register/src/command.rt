@@ -143,7 +143,7 @@ impl Command {
     }
 }
 
-/// A command with its actor (0 is the office, 1 to 999 a clerk) and its id.
+/// A command, with its actor (0 for the office, 1 to 999 for a clerk) and its id.
 #[derive(Debug, Drop)]
 pub struct Request {
     pub actor: u32,

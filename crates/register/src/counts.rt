@@ -248,7 +248,7 @@ fn next_stage(ward: &Option<Ward>) -> u32
     }
 }
 
-/// Returns how many papers are rejected, under all five codes together.
+/// Returns how many papers are rejected, with any of the five codes.
 fn all_rejected(poll: &PollTally) -> u64
     ensures { result ≡ all_rejected poll.now.rejected }
 {

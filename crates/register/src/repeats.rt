@@ -1,7 +1,7 @@
 //! Compares a request that is repeated under the same id with what the state has stored about the original.
 //!
-//! A receipt contains the id and the subject of its request, and nothing else that the request said. Whether a repeated
-//! request is the same is therefore determined from the entry that the original made. After a candidate has withdrawn,
+//! A receipt contains the id and the subject of its request, and none of its other contents. Whether a repeated request is
+//! the same is therefore determined from the entry that the original made. After a candidate has withdrawn,
 //! there is no entry left to compare with.
 
 ghost use Rattle.std.specs.Prelude.{◌≡◌, map, option_map, string_bytes, IfOk};
@@ -117,7 +117,7 @@ pub fn is_judged_alike(found: &Option<JudgedPaper>, command: &VerdictCommand) ->
     }
 }
 
-/// Returns whether one of these lots is for this stage and drew this candidate.
+/// Returns whether one of these lots is for this stage and names this candidate.
 pub fn is_drawn(lots: &[DrawnLot], stage: u32, candidate: u32) -> bool
     ensures { result ≡ list_any (is_drawn stage candidate) (map lot_entry lots.now) }
 {

@@ -1,4 +1,4 @@
-//! What an office tabulates of its counts: the place of each bundle of equal ballot papers, and every figure of every stage.
+//! The tabulation of an office's counts: the place of each bundle of equal ballot papers, and every figure of every stage.
 
 ghost use Rattle.std.specs.Prelude.{◌≡◌, ◌==◌, ◌+◌, ◌≤◌, [], ◌++◌, ℕ, List, map, reverse, length, true, Some, IfOk, IfSome, IsSome, OnOk};
 ghost use Rattle.std.specs.List.{AllByRecursion, filter};

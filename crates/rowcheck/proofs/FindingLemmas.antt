@@ -78,7 +78,7 @@ module _ {Y : Type 0} (n : Y → ℕ) (key : ℕ) where
   pub follows_key : Follows (on n nat_cmp) (λ y. nat_cmp (n y) key)
   follows_key y z less = follows (λ a b. Less) y z (rw less refl)
 
--- rows in key order are in the order of such a comparison
+-- rows in key order are also ordered by such a comparison
 pub stand_in_order : {X Y : Type 0} (f : X → Y) (cmp : Y → Y → Ordering) (o : Y → Ordering) → Follows cmp o → (xs : List X) → IsStrictlySortedBy cmp (map f xs)
     → IsNonDecreasingBy (λ x. ordering_index (o (f x))) xs
 unfolding IsStrictlySortedBy

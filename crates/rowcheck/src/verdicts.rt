@@ -47,7 +47,7 @@ fn are_verdicts_on(columns: Columns, papers: &[KeyedPaper], verdicts: &[JudgedPa
         .all(|judged| is_verdict_on(columns, papers, judged))
 }
 
-/// Returns the papers that a batch is taken with; empty if it isn't taken.
+/// Returns the agreed papers of a batch; empty if it isn't taken.
 fn taken_papers<'a>(rows: &'a Rows, batch: &Batch) -> &'a [KeyedPaper]
     requires { MapsAreSorted (state_of rows.now) }
     ensures { map keyed_entry result.now ≡ taken_papers (state_of rows.now) (batch_entry batch.now) }
@@ -56,7 +56,7 @@ fn taken_papers<'a>(rows: &'a Rows, batch: &Batch) -> &'a [KeyedPaper]
     agreed(keyings.first, keyings.second, keyings.third)
 }
 
-/// Returns whether every verdict on a paper of a batch is on a doubtful paper among those that the batch is taken with.
+/// Returns whether every verdict on a paper of a batch is on a doubtful paper among the batch's agreed papers.
 fn is_judged(rows: &Rows, batch: &Batch) -> bool
     requires { MapsAreSorted (state_of rows.now) }
     ensures { result ≡ is_judged (state_of rows.now) (batch_entry batch.now) (verdicts_of (state_of rows.now) batch.now.number) }
