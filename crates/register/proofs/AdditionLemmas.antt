@@ -1,5 +1,5 @@
--- Another stage of a ward's count: the old tabulation and what the stage adds together are the new
--- tabulation.
+-- Another stage of a ward's count: the old tabulation and what the stage adds together make up the
+-- new tabulation.
 use Rattle.std.proofs.Common.{◌≡◌, ℕ, suc, ◌+◌, ◌==◌, true, false, cond, not, List, [], ◌∷◌, ◌++◌, length, map, Some, refl, sym, ap, subst, ◌∙◌, append_assoc, arith}
 use Rattle.std.specs.List.{flat_map}
 use Rattle.std.specs.List.Sorted.{IsPermutation}

@@ -244,7 +244,7 @@ few_batches bs fine up = omega (arith, few_rising 0 bs (omega arith) (some bs fi
     some [] good = tt
     some (c ∷ cs) good = (number_some c (and_parts _ _ good).0, some cs (and_parts _ _ good).1)
 
--- a ward has no more papers than 9999 batches of 500 papers do
+-- a ward has at most as many papers as 9999 batches of 500
 pub papers_are_few : (s : OfficeState) (columns : List ℕ) (ward : ℕ) → list_all is_batch s.batches ≡ true → list_all (λ b. are_rounds_to s b b.round) s.batches ≡ true
     → IsStrictlySortedBy batch_cmp s.batches
     → length (ballots_in columns (piles_of s ward)).papers ≤ max_papers
@@ -262,7 +262,7 @@ papers_are_few s columns ward fine rounds up =
 
 -- ---- the contest
 
--- the limits of a ward: at least one seat, and no more seats and papers than the limits
+-- a ward has at least one seat, and no more seats or papers than the limits allow
 pub seats_and_papers_are_few : (s : OfficeState) (w : WardEntry) → all_in_range s ≡ true → all_keyed s ≡ true → MapsAreSorted s → ward_at s w.number ≡ Some w
     → (1 ≤ w.seats) × (w.seats ≤ max_seats) × (length (election_of s w).ballots.papers ≤ max_papers)
 unfolding is_ward

@@ -1,4 +1,4 @@
--- A count is read back from its tabulation, and the tabulation of a state is one that this works for.
+-- Reading a count back from its tabulation, which works for the tabulation of any state.
 use Rattle.std.proofs.Common.{◌≡◌, ℕ, suc, ◌+◌, ◌<◌, ◌≤◌, not, ◌==◌, true, List, [], ◌∷◌, ◌++◌, length, map, fold, replicate, drop, get_or, reverse, Some, refl, sym, subst, ap, ◌∙◌}
 use Rattle.std.proofs.Common.{append_assoc, arith, length-append, drop-cons, add-one}
 use Rattle.std.specs.List.{AllByRecursion}

@@ -11,7 +11,7 @@ use Rattle.register.specs.Elections.{is_counted_right}
 use Rattle.register.specs.StateConditions.{all_agreed, all_counted, IsState}
 use Rattle.register.proofs.MapLemmas.{list_all_weaker, list_all_both, filter_none, found_passes}
 
--- ---- the sixth and the seventh condition, for one ward
+-- ---- the sixth and seventh conditions, for one ward
 
 -- an election is sound: its batches are settled if it is in count, and its count is right
 abbrev pub is_sound : ElectionEntry → Bool

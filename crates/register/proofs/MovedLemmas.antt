@@ -157,7 +157,7 @@ module _ (n : ℕ) where
             ∙ keeps_others (placed_at n b (after b.0)) ms (map (λ (b : Bundle). placed_at n b (before b.0)) bs) (apart_before b (after b.0) bs up.0)
             ∙ ap (λ (ys : List PlacedEntry). placed_at n b (after b.0) ∷ ys) later
 
-    -- comparing the old and the new places one by one finds those that have changed
+    -- comparing the old and new places one by one finds those that have changed
     pub walked-moves : (bs : List Bundle) → moved_bundles n bs (map (λ (b : Bundle). placed (before b.0)) bs) (map (λ (b : Bundle). placed (after b.0)) bs)
         ≡ map (λ (b : Bundle). placed_at n b (after b.0)) (filter (λ (b : Bundle). not (stays b)) bs)
     walked-moves [] = refl

@@ -1,4 +1,4 @@
--- The valid and the rejected papers of a ward together are all of its papers.
+-- The valid and rejected papers of a ward together make up all of its papers.
 use Rattle.std.proofs.Common.{◌≡◌, ℕ, zero, suc, ◌+◌, ◌<◌, ◌==◌, ◌&&◌, ◌||◌, nat_le, Bool, true, false, not, cond, List, [], ◌∷◌, length, map, filter, find, Some, Result, Ok, Err, codes}
 use Rattle.std.proofs.Common.{refl, sym, ap, subst, ◌∙◌, arith, length-append}
 use Rattle.std.specs.Prelude.{sum_by}
@@ -70,7 +70,7 @@ one_each (Valid prefs) decided = refl
 one_each (Rejected code) decided = omega (arith, one_code code decided)
 one_each Open decided = absurd (cc)
 
--- the numbers of valid and of rejected papers add up to the number of judgements
+-- the numbers of valid and rejected papers add up to the number of judgements
 each_counted_once : (js : List Judgement) → list_all is_decided js ≡ true
     → length (flat_map preferences_by js) + (rejected_with js 1 + (rejected_with js 2 + (rejected_with js 3 + (rejected_with js 4 + rejected_with js 5)))) ≡ length js
 each_counted_once [] decided = refl
@@ -301,7 +301,7 @@ ward_counts s is ward (b ∷ bs) there fine rounds judged = go (b.ward == ward) 
     go true of later = (subst (λ n. Counts s (columns_of (candidates_of s n)) b) (eqb-true b.ward ward of) (batch_counts s is b there.0 good.0 all.0 on.0), later)
     go false of later = later
 
--- in a state, once a ward's batches are settled, its valid papers and the papers rejected with each code are all the papers of its batches
+-- in a state, once a ward's batches are settled, its valid papers and the papers rejected with each code add up to all the papers of its batches
 pub polls_add_up : (s : OfficeState) (w : WardEntry) → IsState s → (election_of s w).ballots.settled ≡ true
     → length (election_of s w).ballots.papers + all_rejected (election_of s w).ballots.rejected ≡ sum_by (λ (b : BatchEntry). b.size) (batches_of s w.number)
 polls_add_up s w is settled =

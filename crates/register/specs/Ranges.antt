@@ -31,7 +31,7 @@ most_papers = 500
 abbrev pub last_round : ℕ
 last_round = 99
 
--- the first and the last stage of a count for which a lot may be drawn
+-- the first and last stages of a count for which a lot may be drawn
 abbrev pub first_lot_stage : ℕ
 first_lot_stage = 2
 

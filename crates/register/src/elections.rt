@@ -68,8 +68,8 @@ pub struct Progress {
 
 /// The laws of an office's elections, for callers. They hold if numbers are in range, keyings are whole and entries are in
 /// key order. Then every contested ward has an election that can be counted, and no ward exceeds the limits on seats and
-/// papers. In a state, once every batch of a ward is settled, its valid and rejected papers together are all the papers of
-/// its batches.
+/// papers. In a state, once every batch of a ward is settled, its valid and rejected papers together make up all the
+/// papers of its batches.
 pub fn elections_are_fair()
     ensures fair { (s : OfficeState) (w : WardEntry) → all_in_range s ≡ true → all_keyed s ≡ true → MapsAreSorted s → ward_at s w.number ≡ Some w
         → is_contested w (candidates_of s w.number) ≡ true → IsContest (contest_of (election_of s w)) }

@@ -246,7 +246,7 @@ fn are_of_wards(rows: &Rows, lots: &[DrawnLot]) -> bool
 /// lots must be for a stage, no later than the next one, that needed or needs a lot, and must name one of the candidates tied. If
 /// the ward is declared, the count must be finished. In any other ward, no stage may be done and no lot recorded. This is the
 /// seventh condition on the rows of an office, given that its tables are in key order without duplicates and meet the first and
-/// the fourth condition. Returns `AllocError` if an allocation fails.
+/// fourth conditions. Returns `AllocError` if an allocation fails.
 pub fn all_counted(alloc: Global, rows: &Rows) -> Result<Option<Tabulation>, AllocError>
     requires rise { MapsAreSorted (state_of rows.now) }
     requires in_range { all_in_range (state_of rows.now) ≡ true }
