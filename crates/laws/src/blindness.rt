@@ -11,10 +11,10 @@ use register::{Command, CountCommand, Request};
 /// office's requests that clerks see: changes to wards, phases, candidates, batches, rounds and third clerks. A clerk
 /// observes nothing of another clerk's requests.
 ///
-/// What a clerk sees after any requests, and the decisions on the clerk's own requests, follow from what the clerk saw at
-/// first and has observed since. So consider two offices that look the same to a clerk, and any list of requests to each. If
-/// the clerk observes the same of both lists, the clerk's requests get the same replies in both offices, and the two offices
-/// still look the same to the clerk in the end, whatever other clerks keyed.
+/// What a clerk sees after any requests, and the decisions on their own requests, follow from what they saw at first and have
+/// observed since. So consider two offices that look the same to a clerk, and any list of requests to each. If the clerk
+/// observes the same of both lists, their requests get the same replies in both offices, and the two offices still look the
+/// same to them in the end, whatever other clerks keyed.
 ///
 /// To a teller, this means: if your colleagues had keyed anything else, and the office had still made the same changes, you
 /// would have read exactly the same, to the letter. The law doesn't say that the office's changes tell you nothing: if a

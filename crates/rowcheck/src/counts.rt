@@ -239,8 +239,8 @@ fn are_of_wards(rows: &Rows, lots: &[DrawnLot]) -> bool
     lots.iter().all(|lot| has_ward(rows, lot.ward))
 }
 
-/// Returns the tabulation of the counts of all wards, for comparison by `is_tabulated`, if lots belong to existing wards and the
-/// counts are as the rows claim; none otherwise.
+/// Returns the tabulation of the counts of all wards, for comparison by `is_tabulated`, or `None` unless lots belong to existing
+/// wards and the counts are as the rows claim.
 ///
 /// In each contested ward that was sealed, the count of its papers with its lots must have the stages that are done. Each of its
 /// lots must be for a stage, no later than the next one, that needed or needs a lot, and must name one of the candidates tied. If

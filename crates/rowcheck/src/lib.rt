@@ -12,7 +12,8 @@
 //! two exceptions: all batches are scanned once per ward in count, of which there are at most 99; and the papers of a batch, of
 //! which there are at most 500, are scanned once per verdict on one of them.
 //!
-//! The conditions also have numbers, which documents use to refer to them: `item1` to `item8`, each of which returns a `bool`.
+//! The conditions also have numbers, which documents use to refer to them: `item1` to `item8`. Each returns a `bool`; that of
+//! `item7` and `item8` is in a `Result`.
 //!
 //! `are_same` compares the rows of two offices, and `finding` returns the rows with a key to callers that iterate over an
 //! office.

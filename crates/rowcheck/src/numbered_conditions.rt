@@ -25,7 +25,7 @@ pub fn item7(alloc: Global, rows: &Rows) -> Result<bool, AllocError>
 }
 
 /// Returns whether the bundles and figures are those of the counts: the eighth condition, for rows that meet the first,
-/// fourth and seventh conditions. Recounts; a caller that has already counted can use
+/// fourth and seventh conditions. This counts again; a caller that has already counted can use
 /// [`is_tabulated`](crate::is_tabulated) instead. Returns `AllocError` if an allocation fails.
 pub fn item8(alloc: Global, rows: &Rows) -> Result<bool, AllocError>
     requires rise { MapsAreSorted (state_of rows.now) }
