@@ -10,7 +10,7 @@ use Rattle.register.specs.Offices.{ward_at}
 use Rattle.register.specs.CommandInputs.{is_in_phase}
 use Rattle.register.specs.Batches.{ward_for}
 
--- if there is no first objection, there is no objection at any place
+-- if there is no first objection, there is no objection anywhere in the list
 pub no_objection : (os : List (Option Reason)) → first_reason os ≡ None → (place : ℕ) → get_or os place None ≡ None
 no_objection [] none place = refl
 no_objection (None ∷ os) none zero = refl

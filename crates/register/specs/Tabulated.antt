@@ -199,7 +199,7 @@ pub record IsCountedWard (e : ElectionEntry) (found : CountedWard) : Type 0 wher
   pub candidates_are : map candidate_entry found.candidates.items ≡ e.candidates
   pub count_is : IsCountIn e found.count
 
--- the same, and if the election is in count, the numbers of its papers rejected
+-- the same, and if the election is in count, the numbers of its rejected papers
 pub record IsSheetOf (e : ElectionEntry) (sheet : WardSheet) : Type 0 where
   pub counted_is : IsCountedWard e sheet.counted
   pub rejected_are : is_in_count e ≡ true → sheet.rejected ≡ e.ballots.rejected

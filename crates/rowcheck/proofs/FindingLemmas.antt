@@ -1,4 +1,4 @@
--- Rows in key order are in the order in which they compare with a key, or with a prefix of one; and what is found in them is what the state
+-- Rows in key order are also ordered by how they compare with a key, or with a prefix of one; and what is found in them is what the state
 -- contains.
 use Rattle.std.proofs.Common.{◌≡◌, ℕ, ◌<◌, ◌≤◌, ◌==◌, Bool, true, false, ◌&&◌, cond, nat_lt, List, [], ◌∷◌, map, length, get_or, filter, find, slice_get, Option, Some, None, option_map}
 use Rattle.std.proofs.Common.{option_copied, is_some, Bor, zero, suc, refl, sym, ap, ◌∙◌, arith, inl, inr, eq-eqb}
