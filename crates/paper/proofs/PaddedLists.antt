@@ -28,7 +28,7 @@ pub listed-append_zeros : (xs : List ℕ) (n : ℕ) → AllByRecursion (λ x. 1 
 listed-append_zeros [] n some = listed-zeros n
 listed-append_zeros (x ∷ xs) n some = listed-cons x (xs ++ replicate n 0) some.0 ∙ ap (λ l. x ∷ l) (listed-append_zeros xs n some.1)
 
--- a list is the prefix of its array with the same length
+-- the list stored in an array is the prefix of the array with the same length
 pub listed-take : (numbers : List ℕ) → take (length (listed numbers)) numbers ≡ listed numbers
 listed-take numbers = ap (λ n. take n numbers) (length-prefix_len (λ n. not (n == 0)) numbers)
 

@@ -95,7 +95,7 @@ stand_in_order f cmp o along (x ∷ xs) up (suc i) (suc j) d low high = stand_in
 
 -- ---- what is found
 
--- two numbers compare as equal in either direction
+-- whether two numbers compare as equal doesn't depend on their order
 pub equal_either_way : (m n : ℕ) → is_eq (nat_cmp m n) ≡ is_eq (nat_cmp n m)
 equal_either_way m n =
     unsigned_tied m n
