@@ -10,16 +10,16 @@ use Rattle.register.specs.Elections.{election_of, is_counted, is_declared, stage
 use Rattle.register.specs.StateConditions.{IsState}
 use Rattle.register.specs.Machine.{after}
 
--- a ward of a state, past its keying
+-- a ward that exists in a state and is past keying
 pub record IsSealedIn (s : OfficeState) (w : WardEntry) : Type 0 where
   pub state : IsState s
   pub there : ward_at s w.number ≡ Some w
   pub sealed : is_counted w.phase ≡ true
 
--- A sealed ward in a later state. It still exists, with its number, seats and name, and is still sealed. Its candidates are the same. So are the keyings
--- of each of its batches in the current round, and the verdicts on their papers; and so are the preferences of each valid paper, and the numbers of
--- rejected ones. The stages that were done are the first of those now done. The lots that were drawn are among those now drawn. If the ward was declared,
--- its election is identical, including its result.
+-- A sealed ward in a later state. It still exists, has the same number, seats and name, and is still sealed. These are unchanged: its candidates; the
+-- keyings of each of its batches in the current round, and the verdicts on their papers; the preferences of each valid paper; and the numbers of papers
+-- rejected with each code. The stages that were done are the first of the stages done now. The lots that were drawn are among the lots drawn now. If the
+-- ward was declared, its election is identical, including the result.
 pub record StaysSealed (s later : OfficeState) (w : WardEntry) : Type 0 where
   pub ward : WardEntry
   pub there : ward_at later w.number ≡ Some ward
@@ -38,7 +38,7 @@ pub record StaysSealed (s later : OfficeState) (w : WardEntry) : Type 0 where
 abbrev pub SealedWardsStay : Type 0
 SealedWardsStay = (s : OfficeState) (w : WardEntry) (requests : List Request) → IsSealedIn s w → StaysSealed s (after s requests) w
 
--- If a ward is sealed after some requests, its papers result in the same ballots after any further ones.
+-- If a ward is sealed after some requests, its papers still produce the same ballots after any further requests.
 abbrev pub SealedPapersStay : Type 0
 SealedPapersStay =
     (earlier further : List Request) (w : WardEntry) → ward_at (after empty_office earlier) w.number ≡ Some w → is_counted w.phase ≡ true

@@ -1,4 +1,4 @@
--- Bytes sort as the number that they denote, most significant byte first.
+-- Bytes sort in the same order as the number that they represent, most significant byte first.
 use Rattle.std.proofs.Common.{◌≡◌, ℕ, suc, zero, ◌+◌, ◌*◌, ◌^◌, ◌<◌, ◌≤◌, inl, inr, List, [], ◌∷◌, length, take, get_or, min, refl, sym, ap, ◌∙◌, arith}
 use Rattle.std.specs.Cmp.{nat_cmp_is}
 use Rattle.std.specs.Cmp.Lexicographic.{slice_cmp}
@@ -20,14 +20,14 @@ bytes-take (suc k) [] bytes i = omega arith
 bytes-take (suc k) (x ∷ xs) bytes zero = bytes 0
 bytes-take (suc k) (x ∷ xs) bytes (suc i) = bytes-take k xs (λ j. bytes (suc j)) i
 
--- the number that bytes denote is below the least one with one more byte
+-- the number that bytes represent is less than the smallest number with one more byte
 number-below : (xs : List ℕ) → AreBytes xs → number_of xs < 256 ^ length xs
 number-below [] bytes = omega arith
 number-below (x ∷ xs) bytes =
     let within : x * 256 ^ length xs ≤ 255 * 256 ^ length xs = mul-le-mul_right (256 ^ length xs) (omega (arith, bytes 0)) in
     omega (arith, within, number-below xs (λ i. bytes (suc i)), pow-suc 256 (length xs))
 
--- adding a constant to numbers preserves their order
+-- adding the same number to two numbers preserves their order
 order_shifted : (a m n : ℕ) (o : Ordering) → MatchOrdering o (m < n) (m ≡ n) (n < m) → MatchOrdering o (a + m < a + n) (a + m ≡ a + n) (a + n < a + m)
 order_shifted a m n Less is = omega (arith, is)
 order_shifted a m n Equal is = ap (λ k. a + k) is
@@ -67,7 +67,7 @@ number-order (x ∷ xs) (y ∷ ys) bytes others long =
           sym (nat_cmp_is (number_of (x ∷ xs)) (number_of (y ∷ ys)) Greater more) ∙ ap (λ o. ordering_then o (slice_cmp nat_cmp xs ys)) (nat_cmp_is x y Greater above)
     ]
 
--- if the first elements of two lists differ, they decide
+-- if the first elements of two lists differ, they decide the order of the lists
 decides_then : (o rest whole : Ordering) → (ordering_then o rest ≡ Equal → ⊥) → ((rest ≡ Equal → ⊥) → whole ≡ rest) → ordering_then o whole ≡ ordering_then o rest
 decides_then Less rest whole apart later = refl
 decides_then Equal rest whole apart later = later apart
@@ -84,7 +84,7 @@ first-decides (suc k) (x ∷ xs) (y ∷ ys) apart =
 equal_numbers : (m n : ℕ) → nat_cmp m n ≡ Equal → m ≡ n
 equal_numbers m n is = ranked m n Equal (sym is)
 
--- so the numbers denoted by the first bytes decide, if they differ
+-- so the numbers that the first bytes represent decide, if they differ
 pub beginnings-order : (k : ℕ) (xs ys : List ℕ) (own other : ℕ) (o : Ordering) → AreBytes xs → AreBytes ys → length xs ≡ length ys → own ≡ number_of (take k xs) → other ≡ number_of (take k ys) →
     (own ≡ other → ⊥) → o ≡ nat_cmp own other → o ≡ slice_cmp nat_cmp xs ys
 beginnings-order k xs ys own other o bytes others long own_is other_is apart is =

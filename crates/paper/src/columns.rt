@@ -11,7 +11,8 @@ use std::marker::Model;
 /// The maximum number of candidates in a ward; candidates are numbered from 1 to this number.
 pub const MAX_CANDIDATES: usize = 30;
 
-/// A set of candidate numbers, 1 to `MAX_CANDIDATES`, modelled as the list of them in ascending order.
+/// A set of candidate numbers, from 1 to `MAX_CANDIDATES`, modelled as the list of its numbers in ascending
+/// order.
 // The numbers, followed by zeros.
 #[derive(Clone, Copy, Debug, PartialEq, Eq)]
 pub struct Columns {
@@ -44,7 +45,7 @@ impl Columns {
         }
     }
 
-    /// Returns the set with one more number, 1 to `MAX_CANDIDATES`.
+    /// Returns the set extended by a number from 1 to `MAX_CANDIDATES`.
     pub fn with(self, c: u8) -> Columns
         requires some { 1 ≤ c }
         requires few { c ≤ max_candidates }
@@ -63,7 +64,7 @@ impl Columns {
         }
     }
 
-    /// Returns how many numbers of the set are below a number.
+    /// Returns how many numbers in the set are less than this number.
     fn count_below(&self, c: u8) -> usize
         ensures is { result ≡ prefix_len (λ d. nat_lt d c) self.now }
         ensures within { result ≤ length self.now }
@@ -86,7 +87,7 @@ impl Columns {
         self.as_slice().len()
     }
 
-    /// Returns the numbers in ascending order.
+    /// Returns the numbers of the set, in ascending order.
     pub fn as_slice(&self) -> &[u8]
         ensures is { result.now ≡ self.now }
         ensures set { IsCandidateSet self.now }
@@ -95,7 +96,7 @@ impl Columns {
     }
 }
 
-/// Returns the array of a list, followed by a number and another list.
+/// Returns the array that stores a list, followed by a number and another list.
 fn inserted(below: &[u8], c: u8, above: &[u8]) -> [u8; MAX_CANDIDATES]
     requires { length below.now + length above.now < max_candidates }
     ensures { result ≡ padded (below.now ++ c ∷ above.now) }

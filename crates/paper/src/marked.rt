@@ -12,11 +12,11 @@ use std::alloc::{AllocError, Global};
 use std::fmt::Write;
 use std::marker::Model;
 
-/// The number of marks to look for: 0, and one for each preference.
+/// The number of marks that matter for the preferences: 0, and one for each preference.
 pub(crate) const NUMBERS: usize = MAX_CANDIDATES + 1;
 
-/// The marks on a ballot paper: each candidate's number with the mark in the candidate's field, 1 to 99, or 0 if the field is
-/// empty. In ascending order of the candidates.
+/// The marks on a ballot paper: each candidate's number with the mark in the candidate's field, from 1 to 99, or 0 if the
+/// field is empty. In ascending order of candidate numbers.
 #[derive(Clone, Copy, Debug, PartialEq, Eq)]
 pub struct Marked {
     columns: Columns,
@@ -51,7 +51,7 @@ pub enum Keyed {
 }
 
 impl Keyed {
-    /// Returns the only text that parses to this paper; `AllocError` if an allocation fails.
+    /// Returns the only text that parses as this paper. Returns `AllocError` if an allocation fails.
     pub fn text(&self, alloc: Global) -> Result<String, AllocError>
         ensures is { IfOk result (λ text. string_bytes text ≡ spelling self.now) }
         ensures reads_back { ReadsBack self.now }
@@ -64,7 +64,7 @@ impl Keyed {
 }
 
 impl Marked {
-    /// Returns the fields of the columns in order, separated by commas; `AllocError` if an allocation fails.
+    /// Returns the fields of the columns in order, separated by commas. Returns `AllocError` if an allocation fails.
     fn text(&self, alloc: Global) -> Result<String, AllocError>
         ensures is { IfOk result (λ text. string_bytes text ≡ spelling (Keyed.Marked self.now)) }
         ensures marking { IsMarking self.now }
@@ -76,7 +76,7 @@ impl Marked {
         Ok(text)
     }
 
-    /// Returns the marks of these columns, in order.
+    /// Returns the marks in these columns, in order.
     pub(crate) fn new(columns: Columns, marks: [u8; MAX_CANDIDATES]) -> Marked
         requires columns { candidates_of (zip columns marks) ≡ columns }
         requires marks { padded (marks_of (zip columns marks)) ≡ marks }
@@ -86,7 +86,7 @@ impl Marked {
         Marked { columns, marks }
     }
 
-    /// Returns, for each mark from 0 to the highest that a preference can have, the candidates who bear it.
+    /// Returns which candidates have each mark, from 0 to the highest that a preference can have.
     pub(crate) fn bearers(&self) -> [Bearers; NUMBERS]
         ensures is { AreBearers self.now result }
         ensures marking { IsMarking self.now }
@@ -102,7 +102,7 @@ impl Marked {
     }
 }
 
-/// Appends a field to a text, with a comma before every field but the first.
+/// Appends a field to a text; every field but the first is preceded by a comma.
 fn push_field(text: &mut String, i: usize, mark: u8) -> Result<(), AllocError>
     ensures { OnOk result (string_bytes text.new ≡ string_bytes text.old ++ field_text i mark) }
 {
@@ -115,7 +115,7 @@ fn push_field(text: &mut String, i: usize, mark: u8) -> Result<(), AllocError>
     Ok(())
 }
 
-/// The candidates who bear one mark.
+/// The candidates who have a particular mark.
 #[derive(Clone, Copy, PartialEq, Eq)]
 pub(crate) enum Bearers {
     Nobody,
@@ -124,7 +124,7 @@ pub(crate) enum Bearers {
 }
 
 impl Bearers {
-    /// Returns the bearers after adding one candidate.
+    /// Returns the bearers after one more candidate.
     fn and(self, c: u8) -> Bearers
         ensures { result ≡ one_more self c }
     {

@@ -1,4 +1,4 @@
--- If there is no objection to a command, each of its conditions is met.
+-- If there is no objection to a command, all of its conditions are met.
 use Rattle.std.proofs.Common.{◌≡◌, ◌==◌, ℕ, zero, suc, Bool, true, false, not, List, [], ◌∷◌, get_or, Option, Some, None, is_some, is_none, refl}
 use Rattle.register.specs.declared.phase.Phase.{Phase}
 use Rattle.register.specs.declared.phase.Phase.TheVariants.{Nominations, Keying, Sealed, Declared}
@@ -8,7 +8,7 @@ use Rattle.register.specs.Reasons.{objection, first_reason}
 use Rattle.register.specs.Offices.{WardEntry}
 use Rattle.register.specs.CommandInputs.{is_in_phase}
 
--- if there is no first objection, there is none in any place
+-- if there is no first objection, there is no objection anywhere in the list
 pub no_objection : (os : List (Option Reason)) → first_reason os ≡ None → (place : ℕ) → get_or os place None ≡ None
 no_objection [] none place = refl
 no_objection (None ∷ os) none zero = refl
@@ -33,13 +33,13 @@ one_phase Sealed Sealed same = refl
 one_phase Declared Declared same = refl
 one_phase p q same = absurd (cc)
 
--- a ward exists and is in a phase
+-- a ward exists and is in this phase
 pub record IsThere (phase : Phase) (found : Option WardEntry) : Type 0 where
   pub ward : WardEntry
   pub is : found ≡ Some ward
   pub phased : ward.phase ≡ phase
 
--- the ward that a command needs in a phase exists if there is no objection to its absence or its phase
+-- the ward that a command requires in this phase exists, if there is no objection to its absence or its phase
 pub there : (phase : Phase) (found : Option WardEntry) (why : Reason) → objection (not (is_in_phase phase found)) why ≡ None → IsThere phase found
 there phase None why none = absurd (cc)
 there phase (Some w) why none = record { ward = w; is = refl; phased = one_phase w.phase phase (asked (is_in_phase phase (Some w)) why none) }
@@ -49,12 +49,12 @@ pub unasked : (b : Bool) (why : Reason) → objection b why ≡ None → b ≡ f
 unasked true why none = absurd (cc)
 unasked false why none = refl
 
--- a required entry
+-- a required entry was found
 pub record IsFound {X : Type 0} (found : Option X) : Type 0 where
   pub it : X
   pub is : found ≡ Some it
 
--- it exists if there is no objection to its absence
+-- a required entry exists if there is no objection to its absence
 pub present : {X : Type 0} (o : Option X) (why : Reason) → objection (is_none o) why ≡ None → IsFound o
 present None why none = absurd (cc)
 present (Some x) why none = record { it = x; is = refl }

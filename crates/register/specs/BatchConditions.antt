@@ -11,12 +11,12 @@ use Rattle.register.specs.Verdicts.{is_rejection_code}
 
 -- ---- batches
 
--- a ward exists, past its nominations and contested
+-- a ward exists, is past its nominations, and is contested
 abbrev pub is_polled : Option WardEntry → List CandidateEntry → Bool
 is_polled None candidates = false
 is_polled (Some w) candidates = not (phase_number w.phase == phase_number Nominations) && is_contested w candidates
 
--- a batch of such a ward, with two clerks
+-- a batch of such a ward, with two different clerks
 abbrev pub is_given_out : OfficeState → BatchEntry → Bool
 is_given_out s b = not (b.first_clerk == b.second_clerk) && is_polled (ward_at s b.ward) (candidates_of s b.ward)
 
@@ -31,7 +31,8 @@ is_third_for t (Some b) = not (t.clerk == b.first_clerk) && not (t.clerk == b.se
 abbrev pub columns_for : OfficeState → BatchEntry → List ℕ
 columns_for s b = columns_of (candidates_of s b.ward)
 
--- a paper keyed in a round up to the batch's current one by one of its clerks, with marks that can be read by its columns
+-- a paper keyed in a round no later than the batch's current one, by one of the batch's clerks, with marks that can be read
+-- with its columns
 abbrev pub is_keyed_for : OfficeState → KeyedEntry → Option BatchEntry → Bool
 is_keyed_for s k None = false
 is_keyed_for s k (Some b) = nat_le k.round b.round && (is_its_clerk k.clerk b (third_at s b.number) && is_readable (columns_for s b) k.marks)
@@ -41,28 +42,29 @@ unfoldable pub are_numbered : ℕ → List KeyedEntry → Bool
 are_numbered paper [] = true
 are_numbered paper (k ∷ ks) = (k.paper == paper) && are_numbered (paper + 1) ks
 
--- a keying with exactly the papers from 1 to this number, in order
+-- a keying that has exactly the papers from 1 to this number, in order
 abbrev pub is_whole : ℕ → List KeyedEntry → Bool
 is_whole size keying = (length keying == size) && are_numbered 1 keying
 
--- a round of a batch: every keying is whole, and in a round before the current one there are at least two and no two are equal
+-- a valid round of a batch: every keying is whole, and if the round is an earlier one, it has at least two keyings, no two of
+-- them equal
 abbrev pub is_round_of : OfficeState → BatchEntry → ℕ → Bool
 is_round_of s b round = list_all (is_whole b.size) (keyings_in s b round) && (nat_le b.round round || differ (keyings_in s b round))
 
--- every round from the first to this one
+-- every round from the first to this one is valid
 unfoldable pub are_rounds_to : OfficeState → BatchEntry → ℕ → Bool
 are_rounds_to s b rounds = list_all (is_round_of s b) (range_with_len 1 rounds)
 
 -- ---- verdicts
 
--- a verdict on a doubtful paper of a keying: accepted with marks by which the paper is valid, or rejected without marks
+-- a verdict on a doubtful paper of a keying: accepted with marks that make the paper valid, or rejected without marks
 abbrev pub is_verdict_on : List ℕ → List KeyedEntry → JudgedEntry → Bool
 is_verdict_on columns keying v = has_doubtful keying v.paper && (((v.code == 0) && is_valid columns v.marks) || (is_rejection_code v.code && (length v.marks == 0)))
 
--- a verdict on a doubtful paper of those that a batch is taken with; a batch that isn't taken has none
+-- a verdict on a doubtful paper among a batch's agreed papers; a batch that isn't taken has none
 abbrev pub is_verdict_for : OfficeState → BatchEntry → JudgedEntry → Bool
 is_verdict_for s b v = is_verdict_on (columns_for s b) (taken_papers s b) v
 
--- every verdict on a paper of a batch is such a verdict
+-- all these verdicts on a batch's papers are such verdicts
 abbrev pub is_judged : OfficeState → BatchEntry → List JudgedEntry → Bool
 is_judged s b verdicts = list_all (is_verdict_for s b) verdicts

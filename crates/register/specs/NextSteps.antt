@@ -10,16 +10,16 @@ use Rattle.register.specs.Elections.{election_of, due_of}
 use Rattle.register.specs.Status.{StatusEntry, status_of, status_entry}
 use Rattle.register.specs.Counts.{stage_after}
 
--- The next step in a ward. During nominations it is to close them, with this number of candidates for this number of seats so far. During keying it is the
--- rest of the papers, with this status. During the count it is what is due, at the stage with this number, with the ward's candidates. Once the ward is
--- declared, there is none.
+-- The next step in a ward. During nominations: to close them; there are this many candidates so far, for this many seats. During keying: the remaining
+-- work on the papers, with this status. During the count: what is due, with the number of the stage and the ward's candidates. Once the ward is declared:
+-- nothing.
 pub data NextStepEntry : Type 0 where
   nominations_end : ℕ → ℕ → NextStepEntry
   papers_stand : StatusEntry → NextStepEntry
   count_goes : ℕ → Due → List CandidateEntry → NextStepEntry
   nothing_comes : NextStepEntry
 
--- the next step in a ward of a state, by its phase
+-- the next step in a ward of a state, depending on its phase
 abbrev pub next_in : Phase → OfficeState → WardEntry → NextStepEntry
 next_in Nominations s w = nominations_end (length (candidates_of s w.number)) w.seats
 next_in Keying s w = papers_stand (status_of s w)

@@ -1,4 +1,4 @@
--- The state of an office: maps of entries, each in the order of its keys.
+-- The state of an office: maps of entries, each in key order.
 use Rattle.std.specs.Prelude.{ℕ, not, ◌==◌, ◌&&◌, if◌then◌else◌, List, [], ◌∷◌, map, find, fold, Option, string_bytes}
 use Rattle.std.specs.List.{filter}
 use Rattle.std.specs.List.Sorted.{IsStrictlySortedBy}
@@ -17,7 +17,7 @@ use Rattle.register.specs.declared.receipt.Receipt.{Receipt}
 
 -- ---- entries
 
--- a ward: its number, its seats, the phase of its election, the number of stages done in its count, its name
+-- a ward: its number, its number of seats, the phase of its election, the number of stages done in its count, and its name
 pub record WardEntry : Type 0 where
   pub number : ℕ
   pub seats : ℕ
@@ -25,13 +25,13 @@ pub record WardEntry : Type 0 where
   pub done : ℕ
   pub name : List ℕ
 
--- a candidate: the ward, the candidate's number in it, the name
+-- a candidate: the ward, the candidate's number in the ward, and the name
 pub record CandidateEntry : Type 0 where
   pub ward : ℕ
   pub number : ℕ
   pub name : List ℕ
 
--- a batch of ballot papers: its number, its ward, its number of papers, the two clerks assigned to it first, and its current round
+-- a batch of ballot papers: its number, its ward, its number of papers, the two clerks first assigned to it, and its current round
 pub record BatchEntry : Type 0 where
   pub number : ℕ
   pub ward : ℕ
@@ -53,14 +53,15 @@ pub record KeyedEntry : Type 0 where
   pub paper : ℕ
   pub marks : List ℕ
 
--- a doubtful ballot paper as judged by the returning officer: its batch, its number there, and 0 with the marks that it is accepted with, or the code of its rejection
+-- a doubtful ballot paper as judged by the returning officer: its batch, its number in the batch, and either 0 with the marks that it is accepted with, or
+-- its rejection code
 pub record JudgedEntry : Type 0 where
   pub batch : ℕ
   pub paper : ℕ
   pub code : ℕ
   pub marks : List ℕ
 
--- a lot that was drawn: its ward, the stage of the count, and the candidate whose surplus is transferred or who is excluded
+-- a drawn lot: its ward, the stage of the count, and the candidate whose surplus is transferred or who is excluded
 pub record LotEntry : Type 0 where
   pub ward : ℕ
   pub stage : ℕ
@@ -107,7 +108,7 @@ receipt_entry r = record { actor = r.actor; id = string_bytes r.id; subject = st
 
 -- ---- maps of entries of any type
 
--- an entry inserted into others in the order of their keys
+-- an entry inserted into others, in key order
 abbrev pub put : {X : Type 0} → (X → X → Ordering) → X → List X → List X
 put cmp x [] = x ∷ []
 put cmp x (y ∷ ys) = if is_lt (cmp x y) then x ∷ y ∷ ys else y ∷ put cmp x ys
@@ -124,14 +125,14 @@ entry_at compared xs = find (λ x. is_eq (compared x)) xs
 abbrev pub without : {X : Type 0} → (X → Ordering) → List X → List X
 without compared xs = filter (λ x. not (is_eq (compared x))) xs
 
--- the entries, with the one whose key compares as equal changed
+-- the entries, with a change made to the one whose key compares as equal
 abbrev pub changed : {X : Type 0} → (X → Ordering) → (X → X) → List X → List X
 changed compared change xs = map (λ x. if is_eq (compared x) then change x else x) xs
 
 -- ---- the state
 
--- The state of an office, as maps. Wards are keyed by number, candidates by ward and number. Batches are keyed by number, third clerks by batch, keyed
--- papers by batch, round, clerk and number, and judged papers by batch and number. Lots are keyed by ward and stage, receipts by actor and id.
+-- The state of an office, as maps. Wards are keyed by number; candidates by ward and number; batches by number; third clerks by batch; keyed papers by
+-- batch, round, clerk and number; judged papers by batch and number; lots by ward and stage; and receipts by actor and id.
 pub record OfficeState : Type 0 where
   pub wards : List WardEntry
   pub candidates : List CandidateEntry
@@ -142,45 +143,45 @@ pub record OfficeState : Type 0 where
   pub lots : List LotEntry
   pub receipts : List ReceiptEntry
 
--- the office before any request
+-- the state of the office before any request
 abbrev pub empty_office : OfficeState
 empty_office = record { wards = []; candidates = []; batches = []; thirds = []; keyings = []; verdicts = []; lots = []; receipts = [] }
 
--- the order of wards: by number
+-- wards are ordered by number
 abbrev pub ward_cmp : WardEntry → WardEntry → Ordering
 ward_cmp = on (λ (w : WardEntry). w.number) nat_cmp
 
--- the order of candidates: by ward, and then by number
+-- candidates are ordered by ward, then by number
 abbrev pub candidate_cmp : CandidateEntry → CandidateEntry → Ordering
 candidate_cmp = then_cmp (on (λ (c : CandidateEntry). c.ward) nat_cmp) (on (λ (c : CandidateEntry). c.number) nat_cmp)
 
--- the order of batches: by number
+-- batches are ordered by number
 abbrev pub batch_cmp : BatchEntry → BatchEntry → Ordering
 batch_cmp = on (λ (b : BatchEntry). b.number) nat_cmp
 
--- the order of third clerks: by batch
+-- third clerks are ordered by batch
 abbrev pub third_cmp : ThirdEntry → ThirdEntry → Ordering
 third_cmp = on (λ (t : ThirdEntry). t.batch) nat_cmp
 
--- the order of keyed papers: by batch, by round, by clerk, and then by number
+-- keyed papers are ordered by batch, round, clerk, and then number
 abbrev pub keyed_cmp : KeyedEntry → KeyedEntry → Ordering
 keyed_cmp =
     then_cmp (on (λ (k : KeyedEntry). k.batch) nat_cmp) (then_cmp (on (λ (k : KeyedEntry). k.round) nat_cmp)
     (then_cmp (on (λ (k : KeyedEntry). k.clerk) nat_cmp) (on (λ (k : KeyedEntry). k.paper) nat_cmp)))
 
--- the order of judged papers: by batch, and then by number
+-- judged papers are ordered by batch, then by number
 abbrev pub judged_cmp : JudgedEntry → JudgedEntry → Ordering
 judged_cmp = then_cmp (on (λ (v : JudgedEntry). v.batch) nat_cmp) (on (λ (v : JudgedEntry). v.paper) nat_cmp)
 
--- the order of lots: by ward, and then by stage
+-- lots are ordered by ward, then by stage
 abbrev pub lot_cmp : LotEntry → LotEntry → Ordering
 lot_cmp = then_cmp (on (λ (l : LotEntry). l.ward) nat_cmp) (on (λ (l : LotEntry). l.stage) nat_cmp)
 
--- the order of receipts: by actor, and then by id
+-- receipts are ordered by actor, then by id
 abbrev pub receipt_cmp : ReceiptEntry → ReceiptEntry → Ordering
 receipt_cmp = then_cmp (on (λ (r : ReceiptEntry). r.actor) nat_cmp) (on (λ (r : ReceiptEntry). r.id) (slice_cmp nat_cmp))
 
--- a ward, compared with a number
+-- compares a number with that of a ward
 abbrev pub ward_compared : ℕ → WardEntry → Ordering
 ward_compared number w = nat_cmp number w.number
 
@@ -188,7 +189,7 @@ ward_compared number w = nat_cmp number w.number
 abbrev pub ward_at : OfficeState → ℕ → Option WardEntry
 ward_at s number = entry_at (ward_compared number) s.wards
 
--- a candidate, compared with a ward and a number
+-- compares a ward and a number with those of a candidate
 abbrev pub candidate_compared : ℕ → ℕ → CandidateEntry → Ordering
 candidate_compared ward number c = ordering_then (nat_cmp ward c.ward) (nat_cmp number c.number)
 
@@ -196,11 +197,11 @@ candidate_compared ward number c = ordering_then (nat_cmp ward c.ward) (nat_cmp 
 abbrev pub candidate_at : OfficeState → ℕ → ℕ → Option CandidateEntry
 candidate_at s ward number = entry_at (candidate_compared ward number) s.candidates
 
--- the candidates of a ward, in the order of their numbers
+-- the candidates of a ward, ordered by number
 abbrev pub candidates_of : OfficeState → ℕ → List CandidateEntry
 candidates_of s ward = filter (λ (c : CandidateEntry). c.ward == ward) s.candidates
 
--- a batch, compared with a number
+-- compares a number with that of a batch
 abbrev pub batch_compared : ℕ → BatchEntry → Ordering
 batch_compared number b = nat_cmp number b.number
 
@@ -208,7 +209,7 @@ batch_compared number b = nat_cmp number b.number
 abbrev pub batch_at : OfficeState → ℕ → Option BatchEntry
 batch_at s number = entry_at (batch_compared number) s.batches
 
--- a third clerk, compared with a batch
+-- compares a batch number with that of a third clerk's batch
 abbrev pub third_compared : ℕ → ThirdEntry → Ordering
 third_compared batch t = nat_cmp batch t.batch
 
@@ -220,7 +221,7 @@ third_at s batch = entry_at (third_compared batch) s.thirds
 abbrev pub keying_of : OfficeState → ℕ → ℕ → ℕ → List KeyedEntry
 keying_of s batch round clerk = filter (λ (k : KeyedEntry). (k.batch == batch) && ((k.round == round) && (k.clerk == clerk))) s.keyings
 
--- a judged paper, compared with a batch and a number
+-- compares a batch and a number with those of a judged paper
 abbrev pub judged_compared : ℕ → ℕ → JudgedEntry → Ordering
 judged_compared batch paper v = ordering_then (nat_cmp batch v.batch) (nat_cmp paper v.paper)
 
@@ -228,11 +229,11 @@ judged_compared batch paper v = ordering_then (nat_cmp batch v.batch) (nat_cmp p
 abbrev pub verdict_at : OfficeState → ℕ → ℕ → Option JudgedEntry
 verdict_at s batch paper = entry_at (judged_compared batch paper) s.verdicts
 
--- the verdicts on papers of a batch, in the order of the papers
+-- the verdicts on the papers of a batch, in paper order
 abbrev pub verdicts_of : OfficeState → ℕ → List JudgedEntry
 verdicts_of s batch = filter (λ (v : JudgedEntry). v.batch == batch) s.verdicts
 
--- the lots of a ward, in the order of the stages
+-- the lots of a ward, ordered by stage
 abbrev pub lots_of : OfficeState → ℕ → List LotEntry
 lots_of s ward = filter (λ (l : LotEntry). l.ward == ward) s.lots
 
@@ -240,7 +241,7 @@ lots_of s ward = filter (λ (l : LotEntry). l.ward == ward) s.lots
 abbrev pub receipt_at : OfficeState → ℕ → List ℕ → Option ReceiptEntry
 receipt_at s actor id = entry_at (λ r. ordering_then (nat_cmp actor r.actor) (slice_cmp nat_cmp id r.id)) s.receipts
 
--- every map is in the order of its keys, without duplicates
+-- every map is in key order, without duplicates
 pub record MapsAreSorted (s : OfficeState) : Type 0 where
   pub wards : IsStrictlySortedBy ward_cmp s.wards
   pub candidates : IsStrictlySortedBy candidate_cmp s.candidates

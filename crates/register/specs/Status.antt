@@ -11,8 +11,8 @@ use Rattle.register.specs.Marks.{columns_of}
 use Rattle.register.specs.Agreement.{is_keyed, is_its_clerk, batches_of, taken_of, differing_of, open_among}
 use Rattle.register.specs.CommandInputs.{is_in_phase}
 
--- A ward and its phase; its numbers of candidates and batches, and how many of the batches are taken and how many differ. How many doubtful papers of the
--- taken batches have no verdict yet, and how many stages of the count are done.
+-- The status of a ward: its number and phase; its numbers of candidates and batches; how many of the batches are taken, and how many differ; how many
+-- doubtful papers of the taken batches have no verdict yet; and how many stages of the count are done.
 pub record StatusEntry : Type 0 where
   pub ward : ℕ
   pub phase : Phase
@@ -41,7 +41,7 @@ status_of s w =
 abbrev pub status_at : OfficeState → ℕ → Option StatusEntry
 status_at s ward = option_map (status_of s) (ward_at s ward)
 
--- the columns of the papers of a batch, if there is one: those of its ward
+-- the columns of the papers of the batch with this number, if there is one: the columns of its ward
 abbrev pub columns_at : OfficeState → ℕ → Option (List ℕ)
 columns_at s batch = option_map (λ (b : BatchEntry). columns_of (candidates_of s b.ward)) (batch_at s batch)
 
@@ -61,7 +61,8 @@ status_entry t =
 
 -- ---- the work of a clerk
 
--- a batch assigned to a clerk: its number, its ward, the columns and the number of its papers, its current round, and whether the clerk has keyed that round
+-- a batch assigned to a clerk: its number, its ward, the columns of its papers, the number of papers, its current round, and whether the clerk has keyed
+-- that round
 pub record WorkEntry : Type 0 where
   pub batch : ℕ
   pub ward : ℕ
@@ -70,16 +71,16 @@ pub record WorkEntry : Type 0 where
   pub round : ℕ
   pub keyed : Bool
 
--- a batch is a clerk's work: it is assigned to the clerk, and its ward is in keying
+-- a batch belongs to a clerk's work: it is assigned to the clerk, and its ward is in keying
 abbrev pub is_work : OfficeState → ℕ → BatchEntry → Bool
 is_work s clerk b = is_its_clerk clerk b (third_at s b.number) && is_in_phase Keying (ward_at s b.ward)
 
--- a batch as its clerk's work
+-- a batch as part of its clerk's work
 abbrev pub work_on : OfficeState → ℕ → BatchEntry → WorkEntry
 work_on s clerk b =
     record { batch = b.number; ward = b.ward; columns = columns_of (candidates_of s b.ward); size = b.size; round = b.round; keyed = is_keyed (keying_of s b.number b.round clerk) }
 
--- the work of a clerk: the clerk's batches in wards in keying, by number
+-- the work of a clerk: the clerk's batches in wards in keying, ordered by number
 abbrev pub work_of : OfficeState → ℕ → List WorkEntry
 work_of s clerk = map (work_on s clerk) (filter (is_work s clerk) s.batches)
 
@@ -87,7 +88,7 @@ work_of s clerk = map (work_on s clerk) (filter (is_work s clerk) s.batches)
 abbrev pub work_entry : Work → WorkEntry
 work_entry w = record { batch = w.batch; ward = w.ward; columns = w.columns; size = w.size; round = w.round; keyed = w.keyed }
 
--- ---- the text of a batch's papers
+-- ---- the text of a batch's ballot papers
 
 -- the text of a ballot paper: its ward's number and name, and the candidates
 pub record BallotPaperEntry : Type 0 where
@@ -99,7 +100,7 @@ pub record BallotPaperEntry : Type 0 where
 abbrev pub paper_of : OfficeState → WardEntry → BallotPaperEntry
 paper_of s w = record { ward = w.number; name = w.name; candidates = candidates_of s w.number }
 
--- the ballot paper of a batch for one of its clerks; none for any other actor
+-- the ballot paper of a batch, if the actor is one of its clerks
 abbrev pub paper_for : OfficeState → ℕ → BatchEntry → Option BallotPaperEntry
 paper_for s clerk b = if is_its_clerk clerk b (third_at s b.number) then option_map (paper_of s) (ward_at s b.ward) else None
 

@@ -1,4 +1,4 @@
-//! Keyed papers, and the clerks' command.
+//! Keyed papers, and the command that clerks send.
 
 ghost use Rattle.std.specs.Prelude.{◌≡◌, IfOk, IfNone, map, option_map, string_bytes};
 ghost use Rattle.register.specs.Reasons.{first_reason};
@@ -30,7 +30,7 @@ pub struct KeyedPaper {
     pub marks: String,
 }
 
-/// The clerks' command: record a keying of a batch in a round, one marks text per paper, in the order of the papers.
+/// The command that clerks send: record a keying of a batch in a round, with one marks text per paper, in paper order.
 #[derive(Debug, Drop)]
 pub struct KeyingCommand {
     pub batch: u32,
@@ -57,7 +57,7 @@ pub fn is_third_clerk(clerk: u32, third: &Option<ThirdClerk>) -> bool
     }
 }
 
-/// Returns whether a clerk is assigned to a batch: as one of its two, or as its third.
+/// Returns whether a clerk is assigned to a batch, as one of its two clerks or as its third.
 pub fn is_its_clerk(clerk: u32, batch: &Batch, third: &Option<ThirdClerk>) -> bool
     ensures { result ≡ is_its_clerk clerk (batch_entry batch.now) (option_map third_entry third.now) }
 {
@@ -107,7 +107,7 @@ pub(crate) fn subject_of(alloc: Global, command: &KeyingCommand) -> Result<Strin
 }
 
 #[tactic(auto, unfolding(crate::specs::Keyings::reply_to))]
-/// Returns the reply to the accepted command, which doesn't depend on what other clerks keyed.
+/// Returns the reply to an accepted command. It doesn't depend on what other clerks keyed.
 pub(crate) fn reply_to(alloc: Global, command: &KeyingCommand) -> Result<String, AllocError>
     ensures { IfOk result (λ text. string_bytes text ≡ reply_to command.now) }
 {
@@ -138,7 +138,7 @@ fn keyed_papers(
     Ok(papers)
 }
 
-/// Returns the effect of the command on the state. `AllocError` if an allocation fails.
+/// Returns the effect of the command on the state. Returns `AllocError` if an allocation fails.
 pub(crate) fn effect_of(
     alloc: Global,
     actor: u32,

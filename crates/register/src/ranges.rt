@@ -99,7 +99,8 @@ pub fn is_batch_number(n: u32) -> bool
     is_between(1, LAST_BATCH, n)
 }
 
-/// Returns whether a number is in the range of batch sizes, and so of paper numbers in a batch: 1 to 500.
+/// Returns whether a number is in the range of batch sizes, which is also that of paper numbers in a batch: 1
+/// to 500.
 pub fn is_paper_number(n: u32) -> bool
     ensures { result ≡ is_paper_number n }
 {
@@ -180,7 +181,7 @@ fn are_line_bytes(bytes: &[u8]) -> bool
     bytes.iter().all(|b| is_line_byte(*b))
 }
 
-/// Returns whether a text is a reply: at most 200 bytes, without a line end.
+/// Returns whether a text is a reply: at most 200 bytes, without a newline.
 pub fn is_reply(text: &str) -> bool
     ensures { result ≡ is_reply text.now }
 {

@@ -6,9 +6,9 @@ use crate::wards::Ward;
 use paper::Columns;
 
 /// The status of a ward's election: the ward (1 to 99), its phase, its numbers of candidates and batches, and how many
-/// stages of its count are done. A batch is counted as taken if two keyings of its current round are equal, and as differing
-/// if at least two exist and no two are equal. A doubtful paper of a taken batch is counted as open if it has no verdict
-/// yet.
+/// stages of its count are done. A batch counts as taken if two keyings of its current round are equal, and as differing if
+/// there are at least two keyings and no two are equal. A doubtful paper of a taken batch counts as open as long as it has
+/// no verdict.
 #[derive(Clone, Copy, PartialEq, Eq)]
 pub struct Status {
     pub ward: u32,
@@ -33,7 +33,7 @@ pub struct Work {
     pub keyed: bool,
 }
 
-/// The text of a ballot paper: its ward, and the candidates there, by number.
+/// The text of a ballot paper: the ward, and its candidates, ordered by number.
 #[derive(Drop)]
 pub struct BallotPaper {
     pub ward: Ward,

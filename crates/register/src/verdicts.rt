@@ -18,8 +18,8 @@ use paper::Columns;
 use std::alloc::{AllocError, Global};
 
 /// A doubtful ballot paper as judged by the returning officer: its batch (1 to 9999), its number in the batch (1 to 500),
-/// and the verdict. The verdict is code 0 with the marks that the paper is accepted with; or a code of rejection (3 to 5),
-/// without marks.
+/// and the verdict. The verdict is either code 0 with the marks that the paper is accepted with, or a rejection code (3 to
+/// 5) without marks.
 #[derive(PartialEq, Drop)]
 pub struct JudgedPaper {
     pub batch: u32,
@@ -31,13 +31,13 @@ pub struct JudgedPaper {
 /// The returning officer's decision on a doubtful paper.
 #[derive(Debug, Drop)]
 pub enum Verdict {
-    /// Valid, with these marks.
+    /// Accepted, with these marks.
     Accept(String),
-    /// Rejected: 3 no official mark, 4 voter identifiable, 5 void for uncertainty.
+    /// Rejected with this code: 3 no official mark, 4 voter identifiable, 5 void for uncertainty.
     Reject(u32),
 }
 
-/// The office's command for a paper of a batch: record this verdict on it.
+/// The office's command for a paper of a batch: records this verdict on the paper.
 #[derive(Debug, Drop)]
 pub struct VerdictCommand {
     pub batch: u32,
@@ -51,7 +51,7 @@ pub(crate) const ACCEPTED: u32 = 0;
 /// The lowest code with which the returning officer may reject a paper.
 const FIRST_REJECTION: u32 = 3;
 
-/// The highest such code.
+/// The highest code with which the returning officer may reject a paper.
 const LAST_REJECTION: u32 = 5;
 
 /// Returns whether the command's numbers are in range and the actor may send it.
@@ -70,7 +70,7 @@ pub fn is_rejection_code(code: u32) -> bool
     is_between(FIRST_REJECTION, LAST_REJECTION, code)
 }
 
-/// Returns the objection to the marks of an accepting verdict: that they can't be read.
+/// Returns the objection to the marks of an accepting verdict, if they can't be read.
 fn verdict_objection(columns: Columns, paper: u32, verdict: &Verdict) -> Option<Reason>
     ensures { result ≡ verdict_objection columns paper verdict.now }
 {
@@ -80,7 +80,8 @@ fn verdict_objection(columns: Columns, paper: u32, verdict: &Verdict) -> Option<
     }
 }
 
-/// Returns whether a paper to be accepted is valid by its marks, or a code of rejection is permitted.
+/// Returns whether a verdict is permitted: an accepted paper must be valid by its marks, and a rejection must have a
+/// permitted code.
 fn is_verdict(columns: Columns, verdict: &Verdict) -> bool
     ensures { result ≡ is_verdict columns verdict.now }
 {
@@ -137,7 +138,7 @@ pub(crate) fn subject_of(alloc: Global, command: &VerdictCommand) -> Result<Stri
 }
 
 #[tactic(auto, unfolding(crate::specs::Verdicts::reply_to))]
-/// Returns the reply to the accepted command: the verdict.
+/// Returns the reply to the accepted command, which states the verdict.
 pub(crate) fn reply_to(alloc: Global, command: &VerdictCommand) -> Result<String, AllocError>
     ensures { IfOk result (λ text. string_bytes text ≡ reply_to command.now) }
 {

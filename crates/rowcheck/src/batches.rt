@@ -73,7 +73,7 @@ fn are_set_right(rows: &Rows, thirds: &[ThirdClerk]) -> bool
 
 /// Returns whether every batch belongs to a contested ward past its nominations and has two different clerks, and every
 /// third clerk belongs to an existing batch and is neither of its two clerks. This is the third condition on the rows of an
-/// office, whose tables are in key order without duplicates.
+/// office, given that its tables are in key order without duplicates.
 pub fn all_given_out(rows: &Rows) -> bool
     requires { MapsAreSorted (state_of rows.now) }
     ensures { result ≡ all_given_out (state_of rows.now) }

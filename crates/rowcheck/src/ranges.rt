@@ -1,4 +1,4 @@
-//! Rows in range.
+//! Checks whether rows are in range.
 
 ghost use Rattle.std.specs.Prelude.{◌≡◌, Bool};
 ghost use Rattle.std.specs.List.{list_all};
@@ -17,11 +17,11 @@ use register::{Batch, Candidate, DrawnLot, JudgedPaper, KeyedPaper, Receipt, Thi
 /// The highest code of a verdict.
 const LAST_CODE: u32 = 5;
 
-/// A row whose numbers and texts have ranges.
+/// A row with numbers and texts that have ranges.
 trait Ranged {
     ghost is_ranged: { Self → Bool };
 
-    /// Returns whether they are in range.
+    /// Returns whether all of them are in range.
     fn is_in_range(&self) -> bool
         ensures { result ≡ is_ranged self.now };
 }
@@ -102,7 +102,7 @@ impl Ranged for DrawnLot {
     }
 }
 
-/// Returns whether a text may be the subject of this actor's receipt.
+/// Returns whether a text can be the subject of this actor's receipt.
 fn is_about(actor: u32, subject: &str) -> bool
     ensures { result ≡ is_about actor subject.now }
 {

@@ -1,11 +1,11 @@
-//! Comparing two offices.
+//! Compares two offices.
 
 ghost use Rattle.std.specs.Prelude.{◌≡◌, true};
 ghost use Rattle.rowcheck.specs.States.{state_of};
 
 use crate::rows::Rows;
 
-/// Returns whether the rows of two offices represent the same state. The tabulation of the counts follows from the state,
+/// Returns whether the rows of two offices represent the same state. The tabulation of the counts follows from the state
 /// and isn't compared.
 pub fn are_same(rows: &Rows, others: &Rows) -> bool
     ensures same { result ≡ true → state_of rows.now ≡ state_of others.now }

@@ -1,6 +1,7 @@
-//! Streams of bytes that count the calls that failed.
+//! Byte streams that count their failed calls.
 //!
-//! A [`Sink`] accepts bytes, and a [`Source`] supplies them. [`Counted`] makes either from a writer or a reader of the standard library.
+//! A [`Sink`] accepts bytes, and a [`Source`] supplies them. [`Counted`] turns a standard-library writer into
+//! a sink, or a reader into a source.
 //!
 //! ```text
 //! let mut sink = Counted::new(&mut page);

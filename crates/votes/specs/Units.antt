@@ -27,15 +27,15 @@ pub record IsGreatest (P : ℕ → Type 0) (n : ℕ) : Type 0 where
   pub holds : P n
   pub greatest : (m : ℕ) → P m → m ≤ n
 
--- Quota: the least whole number of votes that one more candidate than there are seats can't all reach, because together they
--- would need more votes than there are valid papers; in units
+-- Quota, in units: the smallest whole number of votes such that one more candidate than there are seats can't all reach it,
+-- because together they would need more votes than there are valid papers
 pub record IsQuota (papers seats units : ℕ) : Type 0 where
   pub votes : ℕ
   pub whole : units ≡ one_vote * votes
   pub least : IsLeast (λ q. papers < q * (seats + 1)) votes
 
--- Transfer values: the most units that a paper received at a value can have if its share of the surplus is to be no more than
--- its value's share of the votes credited to the transferring candidate
+-- Transfer values: the largest number of units that a paper, received at a given value, can have such that its share of the
+-- surplus is no more than its value's share of the votes credited to the transferring candidate
 abbrev pub IsCut : ℕ → ℕ → ℕ → ℕ → Type 0
 IsCut surplus value credited = IsGreatest (λ w. w * credited ≤ surplus * value)
 
@@ -47,6 +47,7 @@ quota_of papers seats = one_vote * (papers / (seats + 1) + 1)
 abbrev pub cut : ℕ → ℕ → ℕ → ℕ
 cut surplus value credited = surplus * value / credited
 
--- rounding down never creates votes: papers whose values are within the votes credited receive no more than the surplus
+-- rounding down never creates votes: if the values of some papers don't exceed the votes credited, the papers receive no more
+-- than the surplus
 abbrev pub GivesWithin : ℕ → ℕ → Type 0
 GivesWithin surplus credited = (values : List ℕ) → sum values ≤ credited → sum_by (λ v. cut surplus v credited) values ≤ surplus

@@ -4,7 +4,7 @@ use Rattle.std.specs.List.{filter}
 use Rattle.register.specs.Offices.{BatchEntry, OfficeState}
 use Rattle.register.specs.Polls.{Pile, pile_of, is_settled}
 
--- a batch is settled, if it belongs to the ward
+-- a batch is settled or belongs to a different ward
 abbrev pub is_settled_for : OfficeState → ℕ → BatchEntry → Bool
 is_settled_for s ward b = not (b.ward == ward) || is_settled (pile_of s b)
 
