@@ -1,5 +1,6 @@
-//! What is read through a store with a memory is the same as what is read through the store alone. If there is a memory,
-//! the status of a ward, its next step, and the overviews of wards and of batches are taken from it, once it is refreshed.
+//! Reads through a store with a cache. They return the same as reads through the store alone. If there is a cache, it
+//! is refreshed first, and the status of a ward, its next step, and the overviews of wards and of batches are taken
+//! from it.
 
 ghost use Rattle.std.specs.Prelude.{◌≡◌, map, option_map, IfOk, IfErr, OnOk, IsTrue};
 ghost use Rattle.sqlite.specs.State.{HasCleanDisk};
