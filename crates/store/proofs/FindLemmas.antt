@@ -1,4 +1,4 @@
--- The row with a key is that of the state's entry with this key.
+-- The row with a key is that of the state's entry with the same key.
 use Rattle.std.proofs.Common.{◌≡◌, ◌==◌, ◌&&◌, map, ℕ, pos, List, [], ◌∷◌, true, filter, Some, option_map, IfSome, refl, sym, ap, ◌∙◌, nat_cmp, Ordering, Less, Equal, Greater}
 use Rattle.std.specs.Option.{option_to_list}
 use Rattle.std.specs.Ordering.{ordering_then, is_eq}
@@ -30,7 +30,7 @@ use Rattle.store.proofs.RowLemmas.{listed_as, row_found, found_fits}
 
 -- ---- keys
 
--- entries that compare as equal to the same key have the same key
+-- entries that compare as equal to the same key have equal keys
 pub numbers_apart : (n a b : ℕ) → nat_cmp n a ≡ Equal → nat_cmp n b ≡ Equal → nat_cmp a b ≡ Equal
 numbers_apart n a b first second = sym (nat_cmp_total.congr n a b first) ∙ second
 
@@ -42,7 +42,7 @@ both_equal Equal b h = (refl, h)
 both_equal Less b h = absurd cc
 both_equal Greater b h = absurd cc
 
--- a test that all entries pass removes none
+-- filtering by a test that all elements pass removes none
 all_kept : {X : Type 0} (xs : List X) → filter (λ x. true) xs ≡ xs
 all_kept [] = refl
 all_kept (x ∷ xs) = ap (λ l. x ∷ l) (all_kept xs)
@@ -113,7 +113,7 @@ unfolding tables_of tables_with
 all_batches_listed s is rows finds =
     listed_as Batch row_of_batch (begins_with []) (λ b. true) (λ b. refl) s.batches (tables_rise s is Batch refl) rows finds.same finds.sorted ∙ ap (map row_of_batch) (all_kept s.batches)
 
--- the rows that refer to a ward are those of its batches
+-- the rows that refer to a ward are those of its batches, in the order of their numbers
 pub batches_listed : (s : OfficeState) → IsState s → (ward : ℕ) (rows : List Row) → Finds Batch (refers_to WardOfBatch (Int (pos ward))) (tables_of s) rows
     → rows ≡ map row_of_batch (batches_of s ward)
 unfolding tables_of tables_with
@@ -128,7 +128,7 @@ keying_listed s is batch round clerk rows finds =
     listed_as Keying row_of_keyed (begins_with (Int (pos batch) ∷ Int (pos round) ∷ Int (pos clerk) ∷ [])) (λ k. (k.batch == batch) && ((k.round == round) && (k.clerk == clerk)))
     (λ k. same_three_numbers batch round clerk k.batch k.round k.clerk) s.keyings (tables_rise s is Keying refl) rows finds.same finds.sorted
 
--- a keyed paper, compared with a batch, a round, a clerk and a number
+-- how a keyed paper compares with a batch, a round, a clerk and a paper's number
 abbrev pub keyed_compared : ℕ → ℕ → ℕ → ℕ → KeyedEntry → Ordering
 keyed_compared batch round clerk paper k = ordering_then (nat_cmp batch k.batch) (ordering_then (nat_cmp round k.round) (ordering_then (nat_cmp clerk k.clerk) (nat_cmp paper k.paper)))
 
@@ -230,13 +230,13 @@ pub receipt_fits : (s : OfficeState) → IsState s → (actor : ℕ) (id : List 
 unfolding tables_of tables_with
 receipt_fits s is actor id = found_fits IsReceiptRow row_of_receipt _ s.receipts (receipts_fit s is)
 
--- all rows of the table are those of all receipts, by actor and id
+-- all rows of the table are those of all receipts, ordered by actor and id
 pub all_receipts_listed : (s : OfficeState) → IsState s → (rows : List Row) → Finds Receipt (begins_with []) (tables_of s) rows → rows ≡ map row_of_receipt s.receipts
 unfolding tables_of tables_with
 all_receipts_listed s is rows finds =
     listed_as Receipt row_of_receipt (begins_with []) (λ r. true) (λ r. refl) s.receipts (tables_rise s is Receipt refl) rows finds.same finds.sorted ∙ ap (map row_of_receipt) (all_kept s.receipts)
 
--- the rows that begin with an actor are those of the actor's receipts, by id
+-- the rows that begin with an actor are those of the actor's receipts, ordered by id
 pub receipts_listed : (s : OfficeState) → IsState s → (actor : ℕ) (rows : List Row) → Finds Receipt (begins_with (Int (pos actor) ∷ [])) (tables_of s) rows
     → rows ≡ map row_of_receipt (receipts_of s (Some actor))
 unfolding tables_of tables_with
