@@ -23,7 +23,7 @@ use tables::presence::has_some_table;
 pub struct OfficeCounts {
     pub wards: usize,
     pub batches: usize,
-    /// The number of keyings of a batch by a clerk in a round, including those of earlier rounds.
+    /// How often a clerk keyed a batch in a round, including earlier rounds.
     pub keyings: usize,
     pub receipts: usize,
 }
@@ -40,7 +40,7 @@ pub enum CopyFault {
     Copy(Fault),
 }
 
-/// Returns the number of keyings that these papers belong to: each keying has one first paper.
+/// Returns the number of keyings to which these papers belong: each keying has exactly one first paper.
 fn keyings_among(papers: &[KeyedPaper]) -> usize
     ensures { result ≡ length (filter is_first_paper (map keyed_entry papers.now)) }
 {

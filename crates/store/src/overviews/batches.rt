@@ -73,7 +73,7 @@ fn overview_by(
     }
 }
 
-/// Returns the overviews of a ward's batches, from what was read of all batches. The only error is `Memory`.
+/// Returns the overviews of a ward's batches, from the data that was read of all batches. The only error is `Memory`.
 fn overviews_among(alloc: Global, read: Vec<ReadBatch>) -> Result<Vec<BatchOverview>, Fault>
     ensures is { IfOk result (λ found. (s : OfficeState) (ward : ℕ) → map read_view read.items ≡ map (read_view_of s ward) s.batches → map batch_view found.items ≡ batch_views s ward) }
     ensures cause { IfErr result (λ f. f ≡ Fault.Memory) }
@@ -143,7 +143,7 @@ impl<S: Alter> Store<S> {
         Ok(Some(text))
     }
 
-    /// Reads the data of a batch that the overviews of this ward need.
+    /// Reads the data of a batch that is needed for the overviews of this ward.
     fn read_batch(&mut self, batch: Batch, ward: u32) -> Result<ReadBatch, Fault>
         ensures { Loads S.Store self.old self.new result (λ s found. read_view found ≡ read_view_of s ward (batch_entry batch)) }
     {

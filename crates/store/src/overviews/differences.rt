@@ -64,8 +64,8 @@ fn differing_among(
 }
 
 #[tactic(auto, using(crate::proofs::OverviewLemmas::apart_three))]
-/// Returns the numbers of the papers on which these keyings differ: the papers of the first keying that exists which
-/// another one has with different marks.
+/// Returns the numbers of the papers on which these keyings differ: those that another keying has with different marks
+/// than the first existing one.
 fn differing_papers(alloc: Global, keyings: &Keyings) -> Result<Vec<u32>, AllocError>
     ensures { IfOk result (λ papers. papers.items ≡ differing_papers (keyings_by keyings.now)) }
 {

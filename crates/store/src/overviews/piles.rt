@@ -14,8 +14,8 @@ use register::KeyedPaper;
 use std::alloc::{AllocError, Global};
 use std::collections::HashMap;
 
-/// The data read of a batch: its number; its papers as one text, if it is taken; and its overview without its twin, if
-/// it belongs to the requested ward.
+/// The data that was read of a batch: its number; its papers as one text, if it is taken; and its overview without its
+/// twin, if it belongs to the requested ward.
 #[derive(Drop)]
 pub(crate) struct ReadBatch {
     pub(crate) number: u32,

@@ -19,7 +19,7 @@ use sqlite::Alter;
 use std::alloc::AllocError;
 use tables::Fault;
 
-/// Returns whether there are two checksums and they are equal.
+/// Returns whether both checksums exist and are equal.
 fn same_sum(one: Option<u64>, other: Option<u64>) -> bool
     ensures { result ≡ same_sum one other }
 {
@@ -36,7 +36,7 @@ fn may_be_twin(one: &CachedBatch, other: &CachedBatch) -> bool
     (other.overview.batch.number != one.overview.batch.number) & same_sum(one.pile, other.pile)
 }
 
-/// Returns whether there are two texts and they are equal.
+/// Returns whether both texts exist and are equal.
 fn same_texts(one: &Option<String>, other: &Option<String>) -> bool
     ensures { (a b : List ℕ) → option_map string_bytes one.now ≡ Some a → option_map string_bytes other.now ≡ Some b → result ≡ bytes_eq a b }
 {

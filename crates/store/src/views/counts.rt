@@ -21,7 +21,7 @@ use std::alloc::Global;
 use tables::Fault;
 
 /// Returns the input of a command that needs the poll of an election, if there is one. It fails only if the ward has no
-/// seats, or more than a ward can have; no ward of an office has.
+/// seats or too many, which is never the case in an office.
 fn polled(alloc: Global, found: Option<Election>) -> Result<CommandInput, Fault>
     ensures part { IfOk result (λ part. (entry : Option ElectionEntry) → IsFoundFor found entry → input_entries part ≡ polled_part entry) }
     ensures cause { IfErr result (λ f. f ≡ Fault.Store) }
@@ -86,7 +86,7 @@ impl<S: Alter> Store<S> {
     }
 
     /// Returns the count of a contested ward before its first stage, begun from its papers, and how many of the papers
-    /// are rejected. `None` if the ward has more seats than a ward can have; no ward of an office has.
+    /// are rejected. `None` if the ward has too many seats, which is never the case in an office.
     pub(crate) fn begin_sheet(&mut self, contest: CountedWard) -> Result<Option<WardSheet>, Fault>
         ensures { Loads S.Store self.old self.new result
             (λ s found. WasFound s contest → has_count (election_in s contest) ≡ true → contest.ward.done ≡ 0 → IsBegun (election_in s contest) found) }

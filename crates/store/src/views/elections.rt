@@ -115,7 +115,8 @@ impl<S: Alter> Store<S> {
         Ok(ballots)
     }
 
-    /// Returns the ballots of the ward with this number, with its candidates as columns, added to an empty collection.
+    /// Returns the ballots of the ward with this number, added to `kept`, an empty collection. The columns are those of
+    /// the ward's candidates.
     pub(crate) fn find_ballots<P: KeepsPapers + Drop>(
         &mut self,
         kept: P,
