@@ -271,7 +271,7 @@ const NOT_RECORDS: [(&str, &str); 11] = [
     ),
 ];
 
-/// The candidates of that ward, in the order of their numbers.
+/// The candidates of that ward, ordered by number.
 const CANDIDATES: [&str; 3] = ["Ann \"A\", jr.", "Bob", "Cy"];
 
 /// The same records with a column per rank, and candidates by number and by name. A paper that gives the same rank to several

@@ -15,7 +15,7 @@ use std::process::Abort;
 use std::test::Fail;
 use wire::{Gate, HttpSettings, Page, Routes, parse};
 
-/// A file of codes; one of its lines has the line end of a Windows program.
+/// A file of codes; one of its lines has a Windows line ending.
 const FILE: &str = "4 kf7m-2wxt\r\n\n9 w3hd-4psn\n";
 
 /// The credentials that clerk 4 sends, and those of clerk 9.

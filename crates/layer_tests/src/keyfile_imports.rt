@@ -119,8 +119,8 @@ const KEYINGS: [(&str, &str); 22] = [
         "paper 12/04,1,2,3\n1,1,2,\n",
         "file fault 1 at record 0: header",
     ),
-    // Files as other programs save them: with a byte order mark, other line ends, quotes, empty or blank lines or lines of commas
-    // at the end, other separators, or in UTF-16.
+    // Files as other programs save them: with a byte order mark, other line endings, quotes, empty or blank lines or lines of
+    // commas at the end, other separators, or in UTF-16.
     ("\u{feff}paper,1,2,3\n1,1,2,\n", "|1,2,"),
     ("paper,1,2,3\r\n1,1,2,\r\n2,D,,\r\n", "|1,2,|D"),
     ("paper,1,2,3\r1,1,2,\r2,D,,", "|1,2,|D"),

@@ -68,7 +68,7 @@ pub record ListsPapers (db : Database) (papers : Papers) : Type 0 where
   pub keyings : ListsEntries Keying db (map (λ (k : KeyedPaper). row_of_keyed (keyed_entry k)) papers.keyings.items)
   pub verdicts : ListsEntries Verdict db (map (λ (v : JudgedPaper). row_of_judged (judged_entry v)) papers.verdicts.items)
 
--- the rows of each table are in strictly rising order of their keys
+-- the rows of each table are in strictly ascending key order
 pub record PapersRise (papers : Papers) : Type 0 where
   pub batches : IsStrictlySortedBy (row_cmp Batch) (map (λ (b : BatchValue). row_of_batch (batch_entry b)) papers.batches.items)
   pub keyings : IsStrictlySortedBy (row_cmp Keying) (map (λ (k : KeyedPaper). row_of_keyed (keyed_entry k)) papers.keyings.items)

@@ -50,7 +50,7 @@ IsKnown s k = known_view k ≡ known_of s (row_of k)
 abbrev pub AreKnown : OfficeState → List CachedBatch → Type 0
 AreKnown s ks = AllByRecursion (IsKnown s) ks
 
--- the cache has a correct entry for every batch of a state, in the order of their numbers
+-- the cache has a correct entry for every batch of a state, and the entries are ordered by number
 abbrev pub KnowsAll : OfficeState → List CachedBatch → Type 0
 KnowsAll s ks = map known_view ks ≡ map (known_of s) s.batches
 
@@ -103,7 +103,7 @@ pub record Remembers (st : State) (ks : List CachedBatch) : Type 0 where
 abbrev pub StaysKnown : State → State → List CachedBatch → List CachedBatch → Type 0
 StaysKnown old new before after = HasCleanDisk new → (s : OfficeState) → IsAt s old → AreKnown s before → AreKnown s after
 
--- the invariant of a store with a cache, if there is one
+-- the invariant of a store that may have a cache
 abbrev pub IsTied : State → Option (Vec CachedBatch) → Type 0
 IsTied st memory = IfSome memory (λ known. HasCleanDisk st → IsTrue st.is_open → Remembers st known.items)
 
@@ -113,7 +113,7 @@ IsTied st memory = IfSome memory (λ known. HasCleanDisk st → IsTrue st.is_ope
 abbrev pub views_of : OfficeState → List BatchEntry → List BatchView
 views_of s bs = map (λ (b : BatchEntry). batch_view_with s b None) bs
 
--- the overviews in the cache of a ward's batches
+-- the overviews of a ward's batches, from the cache
 abbrev pub views_in : List CachedBatch → ℕ → List BatchView
 views_in ks ward = map (λ (k : CachedBatch). batch_view k.overview) (filter (λ (k : CachedBatch). k.overview.batch.ward == ward) ks)
 

@@ -23,11 +23,11 @@ use Rattle.store.specs.StateTables.{tables_of, tables_with, HoldsState}
 abbrev pub HasNoOffice : Database → Type 0
 HasNoOffice db = (has_table Office db.schema ≡ false) ⊎ (tuples Office db.trees ≡ [])
 
--- the one office row has a version above this program's
+-- the only row of the office table has a version above this program's
 abbrev pub IsNewer : Database → Type 0
 IsNewer db = (version : ℤ) × (pos this_version <ℤ version) × (tuples Office db.trees ≡ (Int (pos 1) ∷ Int version ∷ []) ∷ [])
 
--- the one office row has the first version, which precedes this program's
+-- the only row of the office table has the first version, which precedes this program's
 abbrev pub IsOlder : Database → Type 0
 IsOlder db = tuples Office db.trees ≡ office_row 1 ∷ []
 

@@ -43,7 +43,7 @@ candidates_told s w = if is_declared w.phase then candidates_of s w.number else 
 abbrev pub ward_view_of : OfficeState → WardEntry → WardView
 ward_view_of s w = record { ward = w; status = status_of s w; elected = declared_in s w; candidates = candidates_told s w }
 
--- all wards, in the order of their numbers
+-- all wards, ordered by number
 abbrev pub ward_views : OfficeState → List WardView
 ward_views s = map (ward_view_of s) s.wards
 
@@ -60,11 +60,11 @@ standing_of s b = standing_by (keyings_now s b)
 abbrev pub clerk_view_of : OfficeState → BatchEntry → ℕ → ℕ × Bool
 clerk_view_of s b clerk = (clerk, is_keyed (keying_of s b.number b.round clerk))
 
--- a text, followed by a line end
+-- a text, followed by a newline
 abbrev pub in_a_line : List ℕ → List ℕ
 in_a_line text = text ++ codes "\n"
 
--- candidates' numbers, one per line; and the marks of papers, one paper per line
+-- candidate numbers, one per line; and the marks of papers, one paper per line
 abbrev pub candidate_lines : List ℕ → List ℕ
 candidate_lines columns = flat_map (λ c. in_a_line (decimal c)) columns
 
@@ -72,7 +72,7 @@ abbrev pub paper_lines : List KeyedEntry → List ℕ
 paper_lines papers = flat_map (λ (k : KeyedEntry). in_a_line k.marks) papers
 
 -- The papers of a taken batch, as one text: the numbers of the ward's candidates, one per line; an empty line; and the marks of the papers, one paper per
--- line. Neither numbers nor marks contain a line end, so two such texts are equal if and only if the candidates' numbers and all papers are equal.
+-- line. Neither numbers nor marks contain a newline, so two such texts are equal if and only if the candidate numbers and all papers are equal.
 unfoldable pub pile_text : List ℕ → List KeyedEntry → List ℕ
 pile_text columns papers = candidate_lines columns ++ (codes "\n" ++ paper_lines papers)
 
@@ -83,7 +83,7 @@ pile_text_of s b = pile_text (columns_of (candidates_of s b.ward)) (taken_papers
 abbrev pub pile_in : OfficeState → BatchEntry → Option (List ℕ)
 pile_in s b = if is_taken s b then Some (pile_text_of s b) else None
 
--- another batch is taken with exactly the same papers, in a ward with the same candidates' numbers
+-- another batch is taken with exactly the same papers, in a ward with the same candidate numbers
 abbrev pub is_twin : OfficeState → BatchEntry → BatchEntry → Bool
 is_twin s b c = not (c.number == b.number) && (is_taken s c && bytes_eq (pile_text_of s b) (pile_text_of s c))
 
@@ -91,7 +91,7 @@ is_twin s b c = not (c.number == b.number) && (is_taken s c && bytes_eq (pile_te
 abbrev pub twin_of : OfficeState → BatchEntry → Option ℕ
 twin_of s b = if is_taken s b then option_map (λ (c : BatchEntry). c.number) (find (is_twin s b) s.batches) else None
 
--- a batch, its clerks in the order of their numbers, its standing, how many of its doubtful papers have no verdict, and its twin
+-- a batch, its clerks ordered by number, its standing, how many of its doubtful papers have no verdict, and its twin
 pub record BatchView : Type 0 where
   pub batch : BatchEntry
   pub clerks : List (ℕ × Bool)
@@ -105,7 +105,7 @@ batch_view_with s b twin = record { batch = b; clerks = map (clerk_view_of s b) 
 abbrev pub batch_view_of : OfficeState → BatchEntry → BatchView
 batch_view_of s b = batch_view_with s b (twin_of s b)
 
--- the batches of a ward, in the order of their numbers
+-- the batches of a ward, ordered by number
 abbrev pub batch_views : OfficeState → ℕ → List BatchView
 batch_views s ward = map (batch_view_of s) (batches_of s ward)
 

@@ -75,11 +75,11 @@ impl<S: Alter> Store<S> {
         Ok(found)
     }
 
-    /// Returns the work of a clerk (1 to 999): the clerk's batches in wards that are in keying, in the order of their
-    /// numbers. Each has the columns of its papers, and whether the clerk has keyed its current round. All batches are
-    /// read at once. Then the third clerk of each is read; and for each of the clerk's own batches, its ward, the
-    /// candidates there, and the first paper of the clerk's keying. Changes nothing, and doesn't add to the states that
-    /// a stop may leave behind. Returns `Memory` or `Store` if a row can't be read.
+    /// Returns the work of a clerk (1 to 999): the clerk's batches in wards that are in keying, ordered by number. Each
+    /// has the columns of its papers, and whether the clerk has keyed its current round. All batches are read at once.
+    /// Then the third clerk of each is read; and for each of the clerk's own batches, its ward, the candidates there,
+    /// and the first paper of the clerk's keying. Changes nothing, and doesn't add to the states that a stop may leave
+    /// behind. Returns `Memory` or `Store` if a row can't be read.
     pub fn load_work(&mut self, clerk: u32) -> Result<Vec<Work>, Fault>
         ensures { Loads S.Store self.old self.new result (λ s found. map work_entry found.items ≡ work_of s clerk) }
     {

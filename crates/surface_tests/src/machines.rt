@@ -61,7 +61,7 @@ fn texts(alloc: Global) -> Result<[Command; 3], AllocError> {
     ])
 }
 
-/// Returns the number and the text's length of the refusal of a command with a bad id.
+/// Returns the number of the refusal of a command with a bad id, and the length of its text.
 fn refused(alloc: Global, command: &Command) -> Result<Option<(u32, usize)>, AllocError> {
     let decision = decision_on(alloc, &view_of(alloc, "BAD"), command)?;
     Ok(refusal_in(&decision))

@@ -10,7 +10,7 @@ use std::process::Abort;
 use std::test::Fail;
 use votes::{Broken, Counted, Sink, Source, Votes, quota, transfer_value};
 
-/// Writes a value and a line end.
+/// Writes a value and a newline.
 fn put<W: Sink>(sink: &mut W, value: Votes) -> Result<usize, Broken>
     requires { W.failed sink.old < 2 ^ 64 - 1 }
 {

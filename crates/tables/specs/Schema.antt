@@ -91,7 +91,7 @@ shape Vote = record {
 }
 shape Third = record { name = codes "third"; key = 1; fields = within (codes "batch") 1 9999 ∷ within (codes "clerk") 1 999 ∷ [] }
 
--- the tables whose rows are changed or removed; the others only grow
+-- the tables whose rows may be changed or removed; the others only grow
 abbrev pub changes_rows : Table → Bool
 changes_rows Office = true
 changes_rows Ward = true

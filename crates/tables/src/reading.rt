@@ -26,7 +26,7 @@ use sqlite::{Alter, Connection, Row, Rows};
 use sqlite_value::value::ValueRef;
 use std::alloc::Global;
 
-/// Returns the rows that a SELECT returns.
+/// Returns the rows that a SELECT yields.
 pub(crate) fn query<S: Alter>(
     conn: &mut Connection<S>,
     sql: &str,

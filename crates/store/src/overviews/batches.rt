@@ -30,9 +30,9 @@ pub enum BatchStanding {
     Waiting,
 }
 
-/// A batch, and its two or three clerks in the order of their numbers; its standing; and, once it is taken, how many of
-/// its doubtful papers have no verdict. `twin` is the number of the first other batch that is taken with exactly the
-/// same papers and whose ward has the same candidates' numbers.
+/// A batch, and its two or three clerks ordered by number; its standing; and, once it is taken, how many of its
+/// doubtful papers have no verdict. `twin` is the number of the first other batch that is taken with exactly the same
+/// papers and whose ward has the same candidate numbers.
 #[derive(Drop)]
 pub struct BatchOverview {
     pub batch: Batch,
@@ -183,10 +183,10 @@ impl<S: Alter> Store<S> {
         Ok(found)
     }
 
-    /// Returns the overviews of the batches of the ward with this number, in the order of their numbers; `None` if
-    /// there is no such ward. The batches of all wards are read once, one after another, each with its keyings of the
-    /// current round, because a batch's twin may belong to another ward. The papers of taken batches are held in memory
-    /// as texts, which are compared to find twins. Changes nothing, and doesn't add to the states that a stop may leave
+    /// Returns the overviews of the batches of the ward with this number, ordered by batch number; `None` if there is
+    /// no such ward. The batches of all wards are read once, one after another, each with its keyings of the current
+    /// round, because a batch's twin may belong to another ward. The papers of taken batches are held in memory as
+    /// texts, which are compared to find twins. Changes nothing, and doesn't add to the states that a stop may leave
     /// behind. Returns `Memory` or `Store` if a row can't be read.
     pub fn load_batches(&mut self, ward: u32) -> Result<Option<Vec<BatchOverview>>, Fault>
         ensures { Loads S.Store self.old self.new result (λ s found. option_map (λ batches. map batch_view batches.items) found ≡ batch_views_at s ward) }

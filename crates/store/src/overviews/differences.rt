@@ -108,9 +108,9 @@ impl<S: Alter> Store<S> {
     }
 
     /// Returns the batch with this number, if there is one; whether its keyings differ; and the numbers of the papers
-    /// on which keyings of its current round differ, in the order of the papers. The numbers are returned even if two
-    /// of three keyings are equal. Changes nothing, and doesn't add to the states that a stop may leave behind. Returns
-    /// `Memory` or `Store` if a row can't be read.
+    /// on which keyings of its current round differ, ordered by paper. The numbers are returned even if two of three
+    /// keyings are equal. Changes nothing, and doesn't add to the states that a stop may leave behind. Returns `Memory`
+    /// or `Store` if a row can't be read.
     pub fn load_differences(&mut self, batch: u32) -> Result<Option<Differences>, Fault>
         ensures { Loads S.Store self.old self.new result (λ s found. option_map differences_view found ≡ differences_at s batch) }
     {

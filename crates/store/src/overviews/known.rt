@@ -54,7 +54,7 @@ impl<S: Alter> Store<S> {
         }
     }
 
-    /// Returns the cache entries of batches in the order of their numbers, reading those that are missing.
+    /// Returns the cache entries of these batches in the same order, reading those that are missing.
     fn all_known(
         &mut self,
         known: &[CachedBatch],

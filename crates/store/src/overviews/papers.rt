@@ -30,8 +30,8 @@ pub struct CountedPaper {
     pub judgement: Judgement,
 }
 
-/// Whether a batch is taken; the candidates of its ward; and its papers as they are counted, in the order of their
-/// numbers. There are no papers if it isn't taken.
+/// Whether a batch is taken; the candidates of its ward; and its papers as they are counted, ordered by number. There
+/// are no papers if it isn't taken.
 #[derive(Drop)]
 pub struct CountedPapers {
     pub taken: bool,

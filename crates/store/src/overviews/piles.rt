@@ -31,7 +31,7 @@ fn put_line(text: &mut String, line: &str) -> Result<(), AllocError>
     text.push_str("\n")
 }
 
-/// Appends candidates' numbers to a text, one per line.
+/// Appends candidate numbers to a text, one per line.
 fn put_numbers(alloc: Global, text: &mut String, numbers: &[u8]) -> Result<(), AllocError>
     ensures { IfOk result (λ _. string_bytes text.new ≡ string_bytes text.old ++ candidate_lines numbers.now) }
 {
@@ -54,7 +54,7 @@ fn put_papers(text: &mut String, papers: &[KeyedPaper]) -> Result<(), AllocError
 
 #[tactic(auto, unfolding(crate::specs::Overviews::pile_text))]
 /// Returns the papers of a batch, and the numbers of its ward's candidates, as one text: two such texts are equal if
-/// and only if the candidates' numbers and all papers are equal.
+/// and only if the candidate numbers and all papers are equal.
 pub(crate) fn pile_text(
     alloc: Global,
     columns: &Columns,

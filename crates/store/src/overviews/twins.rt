@@ -72,7 +72,7 @@ impl<S: Alter> Store<S> {
         Ok(papers)
     }
 
-    /// Returns whether two taken batches have the same papers, and their wards have the same candidates' numbers.
+    /// Returns whether two taken batches have the same papers, and their wards have the same candidate numbers.
     fn have_same_papers(&mut self, one: &Batch, other: &Batch) -> Result<bool, Fault>
         ensures { Loads S.Store self.old self.new result (λ s found. is_taken s (batch_entry one.now) ≡ true → is_taken s (batch_entry other.now) ≡ true
             → found ≡ bytes_eq (pile_text_of s (batch_entry one.now)) (pile_text_of s (batch_entry other.now))) }
@@ -174,8 +174,8 @@ impl<S: Alter> Store<S> {
         Ok(found)
     }
 
-    /// Returns the overviews of the batches of the ward with this number, in the order of their numbers, from the
-    /// cached batches; `None` if there is no such ward.
+    /// Returns the overviews of the batches of the ward with this number, ordered by batch number, from the cached
+    /// batches; `None` if there is no such ward.
     fn batches_by(
         &mut self,
         known: &[CachedBatch],

@@ -92,9 +92,9 @@ impl<S: Alter> Store<S> {
         Ok(found)
     }
 
-    /// Returns the overviews of all wards, in the order of their numbers, each with its status and its candidates. Once
-    /// a ward is declared, its overview has the elected candidates, according to its stored count. Changes nothing, and
-    /// doesn't add to the states that a stop may leave behind. Returns `Memory` or `Store` if a row can't be read.
+    /// Returns the overviews of all wards, ordered by number, each with its status and its candidates. Once a ward is
+    /// declared, its overview has the elected candidates, according to its stored count. Changes nothing, and doesn't
+    /// add to the states that a stop may leave behind. Returns `Memory` or `Store` if a row can't be read.
     pub fn load_wards(&mut self) -> Result<Vec<WardOverview>, Fault>
         ensures { Loads S.Store self.old self.new result (λ s found. map ward_view found.items ≡ ward_views s) }
     {

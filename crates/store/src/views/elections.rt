@@ -53,16 +53,15 @@ fn is_found_in_count(found: &Option<Ward>, candidates: &[Candidate]) -> bool
 }
 
 impl<S: Alter> Store<S> {
-    /// Returns the lots for the count of a ward, in the order of their stages.
+    /// Returns the lots for the count of a ward, ordered by stage.
     pub(crate) fn list_lots(&mut self, ward: u32) -> Result<Vec<DrawnLot>, Fault>
         ensures { Loads S.Store self.old self.new result (λ s found. map lot_entry found.items ≡ lots_of s ward) }
     {
         entries_beginning::<Lots, S>(self.alloc, &mut self.conn, &[number(ward)])
     }
 
-    /// Returns the lots for the count of a ward: each stage and the candidate drawn, in the order of the stages.
-    /// Changes nothing, and doesn't add to the states that a stop may leave behind. Returns `Memory` or `Store` if a
-    /// row can't be read.
+    /// Returns the lots for the count of a ward: each stage and the candidate drawn, ordered by stage. Changes nothing,
+    /// and doesn't add to the states that a stop may leave behind. Returns `Memory` or `Store` if a row can't be read.
     pub fn load_lots(&mut self, ward: u32) -> Result<Vec<(u8, u8)>, Fault>
         ensures { Loads S.Store self.old self.new result (λ s found. found.items ≡ map lot_pair (lots_of s ward)) }
     {

@@ -23,8 +23,8 @@ use tables::value_conversion::number;
 /// The number of the first paper of a batch.
 pub(crate) const FIRST_PAPER: u32 = 1;
 
-/// The keyings of a batch's current round by its two or three clerks, in the order of the clerks' numbers; and the
-/// third clerk, if one is assigned. Each keying is in the order of its papers; a missing one is empty.
+/// The keyings of a batch's current round by its two or three clerks, ordered by the clerks' numbers; and the third
+/// clerk, if one is assigned. Each keying is in the order of its papers; a missing one is empty.
 #[derive(Drop)]
 pub(crate) struct Keyings {
     pub(crate) third_clerk: Option<ThirdClerk>,
@@ -126,7 +126,7 @@ impl<S: Alter> Store<S> {
         find_entry::<JudgedPapers, S>(&mut self.conn, &[number(batch), number(paper)])
     }
 
-    /// Returns the verdicts on papers of a batch, in the order of the papers.
+    /// Returns the verdicts on papers of a batch, ordered by paper.
     pub(crate) fn list_verdicts(&mut self, batch: u32) -> Result<Vec<JudgedPaper>, Fault>
         ensures { Loads S.Store self.old self.new result (λ s found. map judged_entry found.items ≡ verdicts_of s batch) }
     {

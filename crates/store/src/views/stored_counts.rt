@@ -21,14 +21,14 @@ use tables::finding::entries_beginning;
 use tables::value_conversion::number;
 
 impl<S: Alter> Store<S> {
-    /// Returns the bundles of a ward, in the order of their lists.
+    /// Returns the bundles of a ward, ordered by list.
     fn list_bundles(&mut self, ward: u32) -> Result<Vec<PlacedBundle>, Fault>
         ensures { Loads S.Store self.old self.new result (λ s found. map placed_entry found.items ≡ bundles_at s ward) }
     {
         entries_beginning::<PlacedBundles, S>(self.alloc, &mut self.conn, &[number(ward)])
     }
 
-    /// Returns the figures of the stages of a ward, in the order of stages and candidates.
+    /// Returns the figures of the stages of a ward, ordered by stage and candidate.
     fn list_figures(&mut self, ward: u32) -> Result<Vec<StageFigure>, Fault>
         ensures { Loads S.Store self.old self.new result (λ s found. map figure_entry found.items ≡ figures_at s ward) }
     {
