@@ -12,7 +12,7 @@ use std::test::Fail;
 use streams::{Broken, Counted, Sink};
 use votes::Votes;
 
-/// A value that can be printed. If it can't be printed, that is an error.
+/// A value that is printed. A value that can't be printed results in an error.
 pub trait Printed {
     /// Returns its text.
     fn text(&self, alloc: Global) -> Result<String, Fail>;

@@ -1,4 +1,4 @@
-//! The pages of wards, and the page of all wards, compared byte for byte except for their style, which is fixed by its
+//! The pages of wards, and the page of all wards, compared byte for byte except for their style, which is given in its
 //! definition.
 
 ghost use Rattle.std.specs.Prelude.{◌-◌, ◌^◌, ◌<◌};

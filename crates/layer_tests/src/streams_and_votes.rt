@@ -46,8 +46,8 @@ impl Write for Full {
     }
 }
 
-/// A stream that fails at the first call and at every second call after it; in between, it accepts all bytes written, and reads
-/// one.
+/// A stream that fails at the first call and at every second call after it; in between, a write accepts all bytes, and a read
+/// returns one.
 #[derive(Drop)]
 struct TornStream {
     page: Vec<u8>,

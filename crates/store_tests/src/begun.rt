@@ -49,7 +49,7 @@ $ third 12 5 --id t1
 batch 12 third clerk 5
 ";
 
-/// Each of the third clerk's papers equals one of the other two, and yet the batch differs: keyings are compared as a whole.
+/// Each of the third clerk's papers equals that of one of the others, and yet the batch differs: keyings are compared as a whole.
 pub const PAPER_BY_PAPER: &str = "$ import-keying 5 12 1 FILE --id k1
 < paper,1,2,3
 < 1,1,2,
