@@ -88,7 +88,7 @@ fn has_fault(rt: &impl Abort, (text, fault, number): &(&str, MarkFault, u32)) {
     assert!(rt; fault.number() == *number, "at {text}");
 }
 
-/// Asserts what is read of a paper without columns.
+/// Asserts the result of reading a paper without columns.
 fn has_no_columns(rt: &impl Abort) {
     let none = Columns::empty();
     assert!(rt; fault_of(b"", none) == Some(MarkFault::FieldCount));

@@ -1,4 +1,4 @@
--- The keyings that are read of a batch are those by its clerks.
+-- The keyings that are read for a batch are those by its clerks.
 use Rattle.std.proofs.Common.{◌≡◌, ℕ, List, ◌∷◌, map, filter, Option, Some, None, refl, ap, ◌∙◌}
 use Rattle.register.specs.declared.agreement.Clerks.{Clerks}
 use Rattle.register.specs.Offices.{BatchEntry, ThirdEntry, KeyedEntry, OfficeState, third_at, keying_of}

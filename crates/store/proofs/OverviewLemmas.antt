@@ -100,7 +100,7 @@ told_more {C = C} {D = D} view told entry found new one xs k x within is put sam
     ∙ ap (λ (ys : List C). map view found ++ map told (map entry ys)) (sym next)
     ∙ so_far
 
--- the papers of a batch, from the candidates and the pile that were read of it
+-- the papers of a batch, from the candidates and the pile that were read for it
 pub papers_told : (s : OfficeState) (b : BatchEntry) (candidates : List CandidateEntry) (pile : Pile) → candidates ≡ candidates_of s b.ward → pile ≡ pile_of s b
     → papers_by candidates pile ≡ papers_of s b
 papers_told s b candidates pile here same = ap (λ (cs : List CandidateEntry). papers_by cs pile) here ∙ ap (papers_by (candidates_of s b.ward)) same
@@ -137,7 +137,7 @@ doubtful_put s columns b before after verdicts papers keyings put judged taken a
 same_doubtful : (x y : DoubtfulPapersView) → x.candidates ≡ y.candidates → x.papers ≡ y.papers → x ≡ y
 same_doubtful x y candidates papers = ap (λ v. record x { candidates = v }) candidates ∙ ap (λ v. record y { papers = v }) papers
 
--- the doubtful papers of a ward, from what was read of it
+-- the doubtful papers of a ward, from the data that was read for it
 pub doubtful_told : (s : OfficeState) (ward : ℕ) (d : DoubtfulPapersView) (columns : List ℕ) (batches : List BatchEntry) → d.candidates ≡ candidates_of s ward
     → columns ≡ columns_of d.candidates → batches ≡ batches_of s ward → d.papers ≡ flat_map (doubtful_in s columns) batches → d ≡ doubtful_papers s ward
 doubtful_told s ward d columns batches here read there are =

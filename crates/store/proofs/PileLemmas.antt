@@ -118,7 +118,7 @@ module _ (s : OfficeState) (ward : ℕ) where
 
 -- ---- one batch
 
--- the overview of a batch, from what was read of it
+-- the overview of a batch, from the data that was read for it
 pub view_told : (s : OfficeState) (b : BatchEntry) (clerks : List (ℕ × Bool)) (keyings : List (List KeyedEntry)) (verdicts : List JudgedEntry)
     → clerks ≡ map (clerk_view_of s b) (clerks_of s b) → keyings ≡ keyings_now s b → verdicts ≡ verdicts_of s b.number
     → view_by b clerks keyings verdicts ≡ batch_view_with s b None
@@ -141,6 +141,6 @@ pub no_pile : (s : OfficeState) (b : BatchEntry) (papers : List KeyedEntry) (key
     → keyings ≡ keyings_now s b → is_keyed papers ≡ false → None ≡ pile_in s b
 no_pile s b papers keyings taken now there = sym (cond-false (is_taken s b) (Some (pile_text_of s b)) None (ap is_keyed (sym (taken ∙ ap agreed now)) ∙ there))
 
--- records of batches that were read with the same fields are equal
+-- values of `ReadView` with the same fields are equal
 pub same_read_view : (x y : ReadView) → x.number ≡ y.number → x.pile ≡ y.pile → x.overview ≡ y.overview → x ≡ y
 same_read_view x y number pile overview = ap (λ v. record x { number = v }) number ∙ ap (λ v. record x { number = y.number; pile = v }) pile ∙ ap (λ v. record y { overview = v }) overview

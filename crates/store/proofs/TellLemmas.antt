@@ -308,7 +308,7 @@ pub never_older : {X : Type 0} (f : Fault) → (f ≡ Memory) ⊎ (f ≡ Store) 
 never_older f (inl memory) same = absurd cc
 never_older f (inr store) same = absurd cc
 
--- ---- what a connection returns of the database at which it rests
+-- ---- what a connection returns about the database at which it rests
 
 pub answered : (p : Schema → Bool) (db : Database) (s : State) → RestsAt db s → (b r : Bool) → b ≡ p s.now.schema → b ≡ r → p db.schema ≡ r
 answered p db s rests b r is same = subst (λ (d : Database). p d.schema ≡ b) rests.now (sym is) ∙ same

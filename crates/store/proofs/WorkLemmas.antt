@@ -9,7 +9,7 @@ use Rattle.register.specs.Status.{WorkEntry, work_entry, is_work, work_on}
 
 -- ---- one batch
 
--- records of work with the same fields are equal
+-- values of `WorkEntry` with the same fields are equal
 pub same_work : (x y : WorkEntry) → x.batch ≡ y.batch → x.ward ≡ y.ward → x.columns ≡ y.columns → x.size ≡ y.size → x.round ≡ y.round → x.keyed ≡ y.keyed → x ≡ y
 same_work x y batch ward columns size round keyed =
     ap (λ v. record x { batch = v }) batch

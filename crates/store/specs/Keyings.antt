@@ -1,10 +1,10 @@
--- The keyings that are read of a batch.
+-- The keyings that are read for a batch.
 use Rattle.std.specs.Prelude.{ℕ, List, [], map, Option, Some, None, Bool, ◌&&◌, ◌==◌}
 use Rattle.register.specs.Offices.{KeyedEntry, OfficeState, keying_of, keyed_entry}
 use Rattle.register.specs.Agreement.{of_three}
 use Rattle.store.specs.declared.views.papers.Keyings.{Keyings}
 
--- the papers that a clerk keyed of a batch in a round; empty if there is no such clerk
+-- the papers of a batch that a clerk keyed in a round; empty if there is no such clerk
 abbrev pub keying_for : OfficeState → ℕ → ℕ → Option ℕ → List KeyedEntry
 keying_for s batch round None = []
 keying_for s batch round (Some clerk) = keying_of s batch round clerk

@@ -160,7 +160,7 @@ fn thousand_papers<M: TestHost + Drop>(rt: &(impl Abort + AllocGlobal)) -> Resul
     Ok(host)
 }
 
-/// Checks what is read of the worked ward before its first stage, and after its second.
+/// Checks what is read for the worked ward before its first stage, and after its second.
 fn read_in_count<M: TestHost + Drop>(rt: &(impl Abort + AllocGlobal)) -> Result<(), Fail> {
     let host: M = run_parts(rt, SEALED)?;
     let host = expect(rt, host, &[(Step::Loads(7), (0, SEALED_LOADS, ""))])?;

@@ -1,4 +1,4 @@
--- The contents of a table, and what a query returns of them.
+-- The contents of a table, and the rows that a query returns.
 use Rattle.std.proofs.Common.{◌≡◌, ◌⊎◌, inl, inr, ℕ, zero, suc, ◌+◌, ◌≤◌, ◌<◌, List, [], ◌∷◌, map, filter, drop, length, get_or, Option, Bool, true, not, refl, sym, ap, subst, ◌∙◌, arith}
 use Rattle.std.proofs.Common.{Ordering, Less, Equal, Greater}
 use Rattle.std.specs.List.{AllByRecursion, list_all}

@@ -65,7 +65,7 @@ pub office_of : (c : Contents) (s : State) → Rests c s → OfficeAt c s.now
 unfolding IsOffice
 office_of c s rests = rests.office
 
--- the rows that a query returns of an office are those of its contents
+-- the rows that a query returns for an office are those of its contents
 found_in : (t : Table) (test : Row → Bool) (c : Contents) (db : Database) (rows : List Row) → OfficeAt c db → Lists t test db rows → Finds t test c rows
 found_in t test c db rows office lists =
     let it = office.holds t in

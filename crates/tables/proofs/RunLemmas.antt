@@ -1,4 +1,4 @@
--- What the queries by rowid return of a table, and why they fail.
+-- What the queries by rowid return, and why they fail.
 use Rattle.std.proofs.Common.{◌≡◌, ℤ, ◌+◌, List, [], ◌∷◌, map, filter, drop, length, true, Option, Some, None, IfSome, Ok, Err, Result, IfOk, IfErr, refl, sym, ap, subst, ◌∙◌}
 use Rattle.std.specs.List.{AllByRecursion, list_all}
 use Rattle.std.specs.List.Sorted.{IsPermutation}

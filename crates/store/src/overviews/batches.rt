@@ -73,7 +73,7 @@ fn overview_by(
     }
 }
 
-/// Returns the overviews of a ward's batches, from the data that was read of all batches. The only error is `Memory`.
+/// Returns the overviews of a ward's batches, from the data that was read for all batches. The only error is `Memory`.
 fn overviews_among(alloc: Global, read: Vec<ReadBatch>) -> Result<Vec<BatchOverview>, Fault>
     ensures is { IfOk result (λ found. (s : OfficeState) (ward : ℕ) → map read_view read.items ≡ map (read_view_of s ward) s.batches → map batch_view found.items ≡ batch_views s ward) }
     ensures cause { IfErr result (λ f. f ≡ Fault.Memory) }

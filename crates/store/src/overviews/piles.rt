@@ -14,7 +14,7 @@ use register::KeyedPaper;
 use std::alloc::{AllocError, Global};
 use std::collections::HashMap;
 
-/// The data that was read of a batch: its number; its papers as one text, if it is taken; and its overview without its
+/// The data that was read for a batch: its number; its papers as one text, if it is taken; and its overview without its
 /// twin, if it belongs to the requested ward.
 #[derive(Drop)]
 pub(crate) struct ReadBatch {

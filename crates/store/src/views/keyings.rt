@@ -55,7 +55,7 @@ fn is_keying(batch: u32, round: u32, clerk: u32, size: u32, papers: &[KeyedPaper
 }
 
 impl<S: Alter> Store<S> {
-    /// Returns the papers that a clerk keyed of a batch in a round, in order, each found by its key.
+    /// Returns the papers of a batch that a clerk keyed in a round, in order, each found by its key.
     fn list_by_key(&mut self, batch: u32, round: u32, clerk: u32) -> Result<Vec<KeyedPaper>, Fault>
         ensures { Loads S.Store self.old self.new result (λ s found. map keyed_entry found.items ≡ keying_of s batch round clerk) }
     {
@@ -97,7 +97,7 @@ impl<S: Alter> Store<S> {
         Ok(papers)
     }
 
-    /// Returns the papers that a clerk keyed of a batch in a round, in order, if their rows are adjacent.
+    /// Returns the papers of a batch that a clerk keyed in a round, in order, if their rows are adjacent.
     fn find_run(
         &mut self,
         batch: u32,
@@ -117,7 +117,7 @@ impl<S: Alter> Store<S> {
         Ok(Some(papers))
     }
 
-    /// Returns the papers that a clerk keyed of a batch in a round, in order.
+    /// Returns the papers of a batch that a clerk keyed in a round, in order.
     pub(crate) fn list_keying(
         &mut self,
         batch: u32,

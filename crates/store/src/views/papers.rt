@@ -72,7 +72,7 @@ impl<S: Alter> Store<S> {
         Ok(paper.is_some())
     }
 
-    /// Returns the papers that a clerk keyed of a batch in its current round, in order; empty if there is no such
+    /// Returns the papers of a batch that a clerk keyed in its current round, in order; empty if there is no such
     /// clerk.
     fn keying_for(&mut self, batch: &Batch, clerk: Option<u32>) -> Result<Vec<KeyedPaper>, Fault>
         requires { IsOpen S.Store self.old }

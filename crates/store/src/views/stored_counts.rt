@@ -35,7 +35,7 @@ impl<S: Alter> Store<S> {
         entries_beginning::<StageFigures, S>(self.alloc, &mut self.conn, &[number(ward)])
     }
 
-    /// Returns what is stored of the count of a ward that has a stage. `None` if the tabulation is not that of any
+    /// Returns the stored data of the count of a ward that has a stage. `None` if the tabulation is not that of any
     /// count; in an office it always is.
     fn read_stored_count(&mut self, contest: &CountedWard) -> Result<Option<StoredCount>, Fault>
         ensures { Loads S.Store self.old self.new result
