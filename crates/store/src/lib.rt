@@ -5,10 +5,10 @@
 //! at all. `load_view` reads the part of the state that one request needs. `load_status`, `load_next` and
 //! `load_columns` read the status of a ward, its next step, and the columns of a batch's papers; `load_work` reads the
 //! batches that a clerk keys, and `load_earlier_keying` reads the papers of a batch that the clerk keyed in an earlier
-//! round. `load_sheet` and `load_counted` read what a ward's sheet and declaration are written from, and `load_book`
-//! reads the ward's stored count. `load_wards`, `load_batches`, `load_doubtful`, `load_batch_papers`,
+//! round. `load_sheet` and `load_counted` read the data from which a ward's sheet and declaration are written, and
+//! `load_book` reads the ward's stored count. `load_wards`, `load_batches`, `load_doubtful`, `load_batch_papers`,
 //! `load_differences` and `load_receipts` read the overviews. `load_differs_from_stored` compares a repeated request
-//! with the data that is stored for it. `migrate` upgrades an office that an earlier program made to this version, and
+//! with the data that is stored for it. `migrate` brings an office, made by an earlier program, up to this version, and
 //! `copy` copies an office into another database. `read_office` reads a whole office. `Store::copy_to` and
 //! `Store::rows` do the same for an open office. `Fault` is the reason why a call failed.
 //!

@@ -103,7 +103,7 @@ fn older_tables_determine_states()
     ensures again { (form : OlderForm) (s : OfficeState) (db : Database) → IsDatabase db → StoresOlder form s db.trees → HoldsOlder form db s }
 {}
 
-/// Migrates an office that an earlier program made to this program's version. One transaction creates the tables that
+/// Migrates an office, made by an earlier program, to this program's version. One transaction creates the tables that
 /// the office lacks, inserts the rows of the tabulation of its counts, and sets the version. Everything that was
 /// accepted remains, with its receipts. No office is open afterwards.
 ///
