@@ -23,7 +23,7 @@ use tables::presence::has_some_table;
 pub struct OfficeCounts {
     pub wards: usize,
     pub batches: usize,
-    /// How often a clerk keyed a batch in a round, including earlier rounds.
+    /// The number of keyings, each of a batch by one clerk in one round; those of earlier rounds are included.
     pub keyings: usize,
     pub receipts: usize,
 }
