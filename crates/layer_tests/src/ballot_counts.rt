@@ -1,5 +1,6 @@
-//! Ballots counted by the call itself: each text, a lot that is needed, lots that are added, and what can't be counted. (The figures
-//! are those of `tools/try recount`, which counts in another language; what else is printed is played in examples/checking.sh.)
+//! Ballots counted by a direct call: each text, a lot that is needed, lots that are added, and ballots that can't be counted.
+//! (The figures are those of `tools/try recount`, which counts in another language; the rest of the output is played in
+//! examples/checking.sh.)
 
 use crate::checker_texts::{BALLOTS, DECLARATION, SHEET};
 use crate::sheet_outputs::is_text;
@@ -9,7 +10,7 @@ use std::alloc::{AllocError, Global};
 use std::process::Abort;
 use std::test::Fail;
 
-/// A seat, for which two candidates are tied at the second stage.
+/// The ballots of an election for one seat, with two candidates tied at the second stage.
 pub(crate) const TIED: &str = r#"3 1
 2 1 0
 1 2 0
@@ -21,7 +22,7 @@ pub(crate) const TIED: &str = r#"3 1
 "Harbour"
 "#;
 
-/// The sheet as far as the count goes without a lot.
+/// The sheet up to the stage at which the count needs a lot.
 pub(crate) const TIED_SHEET: &str = "Ward 1 Harbour
 Seats 1, valid 4, quota 3.00000
 Rejected 1: 0, 2: 0, 3: 0, 4: 0, 5: 0
@@ -33,10 +34,10 @@ Stage 1: first preferences
          0.00000 lost by fractions
 ";
 
-/// The line about the lot that it waits for.
+/// The line about the lot that the count waits for.
 pub(crate) const TIED_LINE: &str = "lot needed at stage 2 among 2 Bob, 3 Cy\n";
 
-/// The sheet where the lot names the third candidate.
+/// The sheet if the lot names the third candidate.
 const DRAWN_SHEET: &str = "Ward 1 Harbour
 Seats 1, valid 4, quota 3.00000
 Rejected 1: 0, 2: 0, 3: 0, 4: 0, 5: 0
@@ -75,7 +76,7 @@ const DRAWN_BALLOTS: &str = r#"3 1
 # Lot at stage 2: 3
 "#;
 
-/// The table of the ward whose ballots are counted to the end without a lot.
+/// The table of a ward whose count needs no lot.
 const TABLE: &str =
     r#""candidate","name","Stage 1: first preferences","Stage 1 gained","Stage 1 lost","Stage 1 standing","Stage 2: surplus of 1","Stage 2 gained","Stage 2 lost","Stage 2 standing","Stage 3: exclusion of 2, last vacancies","Stage 3 gained","Stage 3 lost","Stage 3 standing"
 "1","Ann","6.00000","6.00000","0.00000","elected","4.00000","0.00000","2.00000","elected","4.00000","0.00000","0.00000","elected"
@@ -88,7 +89,7 @@ const TABLE: &str =
 /// Two candidates for three seats, and no papers.
 const UNCONTESTED: &str = "2 3\n0\n\"Ann\"\n\"Bob\"\n\"Harbour\"\n";
 
-/// Ballots, lots that are added, and a text; and what it is, with the line about a lot that is needed.
+/// Ballots, lots that are added, and a kind of text; then the expected text, and the line about a lot that is needed.
 const COUNTED: [(&str, &[(u8, u8)], CountText, &str, &str); 10] = [
     (BALLOTS, &[], CountText::Sheet, SHEET, ""),
     (BALLOTS, &[], CountText::Declaration, DECLARATION, ""),
@@ -108,7 +109,7 @@ const COUNTED: [(&str, &[(u8, u8)], CountText, &str, &str); 10] = [
     ),
 ];
 
-/// Ballots, lots that are added, and why they aren't counted.
+/// Ballots, lots that are added, and why they can't be counted.
 const NOT_COUNTED: [(&str, &[(u8, u8)], &str); 6] = [
     ("3 0\n", &[], "line 1 of the ballots: no seats"),
     (
@@ -130,7 +131,7 @@ const NOT_COUNTED: [(&str, &[(u8, u8)], &str); 6] = [
     ),
 ];
 
-/// The count of ballots that are counted.
+/// Counts ballots, which must succeed.
 fn counted(
     alloc: Global,
     ballots: &str,
@@ -143,7 +144,7 @@ fn counted(
     }
 }
 
-/// This text of the count of ballots is printed, and this line about a lot that is needed.
+/// Asserts the text that is printed for these ballots, and the line about a lot that is needed.
 fn counts(
     rt: &(impl Abort + AllocGlobal),
     (ballots, lots, text, wanted, line): &(&str, &[(u8, u8)], CountText, &str, &str),
@@ -157,7 +158,7 @@ fn counts(
     Ok(())
 }
 
-/// Why ballots aren't counted, in words.
+/// Returns, in words, why ballots can't be counted.
 fn words_of(alloc: Global, problem: &CountProblem) -> Result<String, AllocError> {
     match problem {
         CountProblem::LotTwice { stage } => format!(in alloc; "two lots at stage {stage}"),
@@ -165,7 +166,7 @@ fn words_of(alloc: Global, problem: &CountProblem) -> Result<String, AllocError>
     }
 }
 
-/// Why ballots aren't counted.
+/// Returns why ballots can't be counted.
 fn problem_of(alloc: Global, ballots: &str, lots: &[(u8, u8)]) -> Result<CountProblem, Fail> {
     match count_ballots(alloc, ballots.as_bytes(), lots, &CountText::Sheet) {
         Ok(text) => {
@@ -176,7 +177,7 @@ fn problem_of(alloc: Global, ballots: &str, lots: &[(u8, u8)]) -> Result<CountPr
     }
 }
 
-/// Ballots aren't counted, for this reason.
+/// Asserts that ballots can't be counted, for this reason.
 fn refuses(
     rt: &(impl Abort + AllocGlobal),
     (ballots, lots, wanted): &(&str, &[(u8, u8)], &str),
@@ -187,7 +188,7 @@ fn refuses(
     Ok(())
 }
 
-/// The page of ballots has this title, and says whether the result is declared.
+/// Asserts that the page of these ballots has its title, and whether it says that the result is declared.
 fn shows_page(rt: &(impl Abort + AllocGlobal), ballots: &str, declared: bool) -> Result<(), Fail> {
     let text = CountText::Page("A <title>");
     let page = counted(rt.alloc(), ballots, &[], &text)?;
@@ -201,7 +202,7 @@ fn shows_page(rt: &(impl Abort + AllocGlobal), ballots: &str, declared: bool) ->
     Ok(())
 }
 
-/// Cast-vote records of a ward, with a byte order mark, carriage returns and an empty line; one paper has no first preference, and
+/// A ward's cast-vote records, with a byte order mark, carriage returns and an empty line. One paper has no first preference, and
 /// two have several.
 const RECORDS: &str = "\u{feff}count,\"Ann \"\"A\"\", jr.\",Bob,Cy\r
 4,1,2,\r
@@ -213,7 +214,7 @@ const RECORDS: &str = "\u{feff}count,\"Ann \"\"A\"\", jr.\",Bob,Cy\r
 2,1,1,2\r
 ";
 
-/// The ballots that they are.
+/// The ballots that result from these records.
 const RECORDED: &str = r#"3 2
 4 1 2 0
 2 1 3 0
@@ -228,7 +229,7 @@ const RECORDED: &str = r#"3 2
 # Rejected 1: 1, 2: 2, 3: 0, 4: 0, 5: 0
 "#;
 
-/// Records that aren't understood, and the first such line.
+/// Records that can't be read, and the first line at fault.
 const NOT_RECORDS: [(&str, &str); 11] = [
     (
         "",
@@ -270,11 +271,11 @@ const NOT_RECORDS: [(&str, &str); 11] = [
     ),
 ];
 
-/// The candidates of the same ward, in the order of their numbers.
+/// The candidates of that ward, ordered by number.
 const CANDIDATES: [&str; 3] = ["Ann \"A\", jr.", "Bob", "Cy"];
 
-/// The same records with a rank in each column, by number and by name. A paper that gives one rank to several can't be written so: two
-/// have no first preference in their place.
+/// The same records with a column per rank, and candidates by number and by name. A paper that gives the same rank to several
+/// candidates can't be written this way: two papers without a first preference take the place of those.
 const RANKED: &str = "count,rank1,Rank 2,rank 3
 4,1,Bob,
 2,\"Ann \"\"A\"\", jr.\",3,
@@ -284,7 +285,7 @@ const RANKED: &str = "count,rank1,Rank 2,rank 3
 2,,,
 ";
 
-/// The ballots that they are.
+/// The ballots that result from these records.
 const RANKED_BALLOTS: &str = r#"3 2
 4 1 2 0
 2 1 3 0
@@ -299,7 +300,7 @@ const RANKED_BALLOTS: &str = r#"3 2
 # Rejected 1: 3, 2: 0, 3: 0, 4: 0, 5: 0
 "#;
 
-/// Records of these candidates that aren't understood, and the first such line.
+/// Records of these candidates that can't be read, and the first line at fault.
 const NOT_RANKED: [(&str, &str); 8] = [
     (
         "rank1,rank3\n",
@@ -332,7 +333,7 @@ const NOT_RANKED: [(&str, &str); 8] = [
     ),
 ];
 
-/// Counts the records of a ward, and returns what comes of it, in words.
+/// Counts a ward's records, and returns the outcome in words.
 fn recorded(
     alloc: Global,
     candidates: &[&str],
@@ -357,7 +358,7 @@ fn recorded(
     }
 }
 
-/// Records of these candidates are counted as these ballots.
+/// Asserts that these candidates' records are counted as these ballots.
 fn counts_as(
     rt: &(impl Abort + AllocGlobal),
     candidates: &[&str],
@@ -372,7 +373,7 @@ fn counts_as(
     Ok(())
 }
 
-/// Records are counted as the ballots that they are.
+/// Asserts that records are counted as the ballots that result from them.
 fn counts_records(rt: &(impl Abort + AllocGlobal)) -> Result<(), Fail> {
     counts_as(rt, &[], RECORDS, RECORDED)?;
     counts_as(rt, &CANDIDATES, RANKED, RANKED_BALLOTS)?;

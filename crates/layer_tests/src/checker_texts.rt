@@ -1,5 +1,5 @@
-//! Texts checked against ballots, by the call itself: what is reported of each, and the texts of an uncontested ward. (What else
-//! is printed of ballots and texts is played in examples/transcripts/checks.txt.)
+//! Texts checked against ballots by a direct call: the report on each, and the texts of an uncontested ward. (The
+//! rest of the output on ballots and texts is played in examples/transcripts/checks.txt.)
 
 use crate::sheet_outputs::{candidates_of, is_text};
 use checker::{Checked, Problem, check};
@@ -92,7 +92,7 @@ const CHECKS: [(&str, &str); 4] = [
     ("", "line 1: Ward 7 Harbour\n"),
 ];
 
-/// The ballots of an uncontested ward, which has no papers.
+/// Returns the ballots of an uncontested ward, which has no papers.
 fn ballots_of(alloc: Global, ward: &Ward) -> Result<String, Fail> {
     if !can_be_printed(ward) {
         return Err(Fail::from("no ward that can be printed"));
@@ -100,7 +100,7 @@ fn ballots_of(alloc: Global, ward: &Ward) -> Result<String, Fail> {
     Ok(ballots_text(alloc, ward, &Bundles::new(alloc), &[])?)
 }
 
-/// Its sheet.
+/// Returns its sheet.
 fn sheet_of(alloc: Global, ward: &Ward) -> Result<String, Fail> {
     if !can_be_printed(ward) {
         return Err(Fail::from("no ward that can be printed"));

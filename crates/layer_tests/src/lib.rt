@@ -1,8 +1,8 @@
 //! Tests of the layers from `votes` to `wire`, each by its public calls. `register` and `rowcheck` are tested by the orders that
 //! examples/transcripts.sh plays: each command and each of its refusals.
 //!
-//! A crate's tests are proved together with the whole crate. Here, above them all, they load only the statements of the layers,
-//! which aren't proved a second time.
+//! A crate's tests are proved together with the whole crate. Here, above all the layers, tests load only the layers' statements,
+//! so the layers aren't proved a second time.
 #![tactic(auto)]
 
 #[cfg(test)]

@@ -1,4 +1,4 @@
-//! What the targets of what is shown in public name, if anything is shown there.
+//! What the public targets name, if the office shows its count in public.
 
 use crate::wire_requests::{NOTHING, asks_of};
 use std::process::Abort;
@@ -41,7 +41,7 @@ const ELSEWHERE: [&str; 10] = [
     "/wards//page",
 ];
 
-/// A request for this target.
+/// Asserts what a request for this target asks.
 fn asks_target(
     rt: &(impl Abort + AllocGlobal),
     given: HttpSettings<'_>,

@@ -1,4 +1,4 @@
-//! Printing: to a text, to a sink, and to a sink without room for all of it.
+//! Printing to a text, to a sink, and to a sink without room for the whole text.
 //!
 //! Tests are generic over what is printed, so their proofs don't depend on it, and are short.
 
@@ -12,12 +12,12 @@ use std::test::Fail;
 use streams::{Broken, Counted, Sink};
 use votes::Votes;
 
-/// What is printed. What can't be printed is an error.
+/// A value that is printed. A value that can't be printed results in an error.
 pub trait Printed {
-    /// The text of it.
+    /// Returns its text.
     fn text(&self, alloc: Global) -> Result<String, Fail>;
 
-    /// Writes it to a sink.
+    /// Writes its text to a sink.
     fn write<W: Sink>(&self, sink: &mut W) -> Result<(), Broken>
         requires { W.failed sink.old < 2 ^ 64 - 1 };
 }
@@ -36,7 +36,7 @@ pub fn is_told(rt: &impl Abort, found: &[u8], wanted: &str) {
     );
 }
 
-/// Returns the bytes of it that a sink in memory accepts.
+/// Returns the bytes of its text that a sink in memory accepts.
 fn written<P: Printed>(alloc: Global, printed: &P) -> Result<Vec<u8>, Broken> {
     let mut page = Vec::new(alloc);
     printed.write(&mut Counted::new(&mut page))?;
@@ -51,7 +51,7 @@ fn breaks<P: Printed>(rt: &impl Abort, printed: &P, text: &str) {
     assert!(rt; text.as_bytes().starts_with(&room));
 }
 
-/// Prints it to a sink, and to one of 20 bytes, and compares them with its text.
+/// Writes the value to a sink, and to one of 20 bytes, and compares the bytes with its text.
 fn reaches_sinks<P: Printed>(
     rt: &(impl Abort + AllocGlobal),
     printed: &P,
@@ -63,14 +63,14 @@ fn reaches_sinks<P: Printed>(
     Ok(())
 }
 
-/// Prints it to a text, which is returned, and to both sinks.
+/// Prints the value to a text, which is returned, and to both sinks.
 pub fn print<P: Printed>(rt: &(impl Abort + AllocGlobal), printed: &P) -> Result<String, Fail> {
     let text = printed.text(rt.alloc())?;
     reaches_sinks(rt, printed, text.as_str())?;
     Ok(text)
 }
 
-/// Prints it, and asserts the text.
+/// Prints the value, and asserts its text.
 pub fn prints<P: Printed>(
     rt: &(impl Abort + AllocGlobal),
     printed: &P,
@@ -81,7 +81,7 @@ pub fn prints<P: Printed>(
     Ok(())
 }
 
-/// Returns candidates by number and name.
+/// Returns candidates with these numbers and names.
 pub fn candidates_of(alloc: Global, named: &[(u8, &str)]) -> Result<Vec<(u8, String)>, AllocError> {
     let mut candidates = Vec::new(alloc);
     for (c, name) in named {
@@ -90,7 +90,7 @@ pub fn candidates_of(alloc: Global, named: &[(u8, &str)]) -> Result<Vec<(u8, Str
     Ok(candidates)
 }
 
-/// A stage at which candidates 1, 2 and 3 have so many units.
+/// Returns a stage at which candidates 1, 2 and 3 have these numbers of units.
 pub fn stage_of(action: Action, units: [u64; 3], elected: Columns, lost: u64) -> Stage {
     let mut votes = [Votes::from_units(0); 30];
     votes[0] = Votes::from_units(units[0]);
@@ -105,7 +105,7 @@ pub fn stage_of(action: Action, units: [u64; 3], elected: Columns, lost: u64) ->
     }
 }
 
-/// The three stages of a ward of two seats, at which 1 and 3 are elected.
+/// Returns the three stages of a ward of two seats, at which 1 and 3 are elected.
 pub fn three_stages() -> [Stage; 3] {
     let nobody = Columns::empty();
     [

@@ -1,4 +1,4 @@
-//! What requests over HTTP ask, from readers that return all at once, or one byte at a time, and that fail.
+//! What HTTP requests ask, read from readers that return everything at once, that return one byte at a time, and that fail.
 
 ghost use Rattle.std.specs.Prelude.{◌-◌, ◌^◌, ◌<◌};
 
@@ -22,7 +22,7 @@ const MAX_HEADERS: usize = 32;
 
 const MAX_BODY_BYTES: u32 = 1_048_576;
 
-/// A reader that returns some bytes, one at a time; after them it ends, or fails.
+/// A reader that returns these bytes, one at a time; after them it ends, or fails.
 #[derive(Drop)]
 struct Slow<'a> {
     left: &'a [u8],
@@ -43,7 +43,7 @@ impl<'a> Read for Slow<'a> {
     }
 }
 
-/// Returns a requested keying, in short.
+/// Returns a keying, in short form.
 fn keying_words(alloc: Global, keying: &Keying) -> Result<String, AllocError> {
     let (clerk, batch, round) = (keying.clerk, keying.batch, keying.round);
     let id = keying.id.as_str();
@@ -54,7 +54,7 @@ fn keying_words(alloc: Global, keying: &Keying) -> Result<String, AllocError> {
     Ok(text)
 }
 
-/// Why a request is denied, in short.
+/// Returns why a request is denied, in short form.
 fn rejection_words(alloc: Global, why: &RequestError) -> Result<String, AllocError> {
     match why {
         RequestError::MethodNotAllowed { allowed } => format!(in alloc; "only {allowed:?}"),
@@ -62,7 +62,7 @@ fn rejection_words(alloc: Global, why: &RequestError) -> Result<String, AllocErr
     }
 }
 
-/// What a clerk or the office is shown, in short.
+/// Returns what a clerk or the office is shown, in short form.
 fn shown_words(alloc: Global, clerk: &str, what: &FixedPage<'_>) -> Result<String, AllocError> {
     match what {
         FixedPage::Page(page) => {
@@ -73,7 +73,7 @@ fn shown_words(alloc: Global, clerk: &str, what: &FixedPage<'_>) -> Result<Strin
     }
 }
 
-/// An order, in short: its words, and its files.
+/// Returns an order, in short form: its words, and its files.
 fn order_words(alloc: Global, order: &ConsoleOrder) -> Result<String, AllocError> {
     let mut text = String::from_str(alloc, "office:")?;
     for word in &order.words {
@@ -85,7 +85,7 @@ fn order_words(alloc: Global, order: &ConsoleOrder) -> Result<String, AllocError
     Ok(text)
 }
 
-/// What a request asks, or why it wasn't read, in short.
+/// Returns what a request asks, or why it couldn't be read, in short form.
 fn words_of(alloc: Global, came: &Result<HttpRequest, ReadFailure>) -> Result<String, AllocError> {
     match came {
         Ok(HttpRequest::Keying(keying)) => keying_words(alloc, keying),
@@ -109,7 +109,7 @@ pub const NOTHING: HttpSettings<'static> = HttpSettings {
     public: None,
 };
 
-/// Returns what is asked, in short, of an office with these settings.
+/// Returns what a request asks of an office with these settings, in short form.
 fn asked_text<R: Source>(
     alloc: Global,
     given: HttpSettings<'_>,
@@ -120,7 +120,7 @@ fn asked_text<R: Source>(
     words_of(alloc, &read_request(alloc, given, reader))
 }
 
-/// Reads a request.
+/// Asserts what a request from this reader asks.
 fn asks_in<R: Source>(
     rt: &(impl Abort + AllocGlobal),
     given: HttpSettings<'_>,
@@ -134,7 +134,7 @@ fn asks_in<R: Source>(
     Ok(())
 }
 
-/// Reads a request given at once, and one byte at a time.
+/// Asserts what a request asks when it is read at once, and when it is read one byte at a time.
 pub fn asks_of(
     rt: &(impl Abort + AllocGlobal),
     given: HttpSettings<'_>,
@@ -154,18 +154,18 @@ pub fn asks(rt: &(impl Abort + AllocGlobal), request: &[u8], asked: &str) -> Res
     asks_of(rt, NOTHING, request, asked)
 }
 
-/// A keying with these headers and this body.
+/// Returns a keying request with these headers and this body.
 fn keying(alloc: Global, headers: &str, body: &str) -> Result<String, AllocError> {
     format!(in alloc; "POST /clerks/4/batches/12/keying HTTP/1.1\r\n{headers}\r\n{body}")
 }
 
-/// Its body.
+/// The body of a keying.
 pub const BODY: &str = r#"{"id":"h1","round":1,"papers":["1,2,","D"]}"#;
 
-/// What it asks.
+/// What a keying with this body asks.
 pub const KEYED: &str = "4 keys 12 round 1 as h1: [1,2,] [D]";
 
-/// First lines, each without a valid length after it.
+/// First lines of requests, none followed by a valid length.
 const TARGETS: [(&str, &str); 23] = [
     ("GET /clerks/4/work HTTP/1.1", "Work { clerk: 4 }"),
     ("GET /clerks/99999/work HTTP/1.0", "Work { clerk: 99999 }"),
@@ -219,7 +219,7 @@ const LENGTHS: [(&str, &str); 14] = [
     ),
 ];
 
-/// Bodies of a keying, of the length that its header says.
+/// Bodies of a keying, whose header gives their length.
 const BODIES: [(&str, &str); 13] = [
     (
         r#" { "papers" : [] , "round" : 4294967295 , "id" : "" } "#,
@@ -279,7 +279,7 @@ fn targets_lengths_and_bodies(rt: HostRuntime) -> Result<(), Fail> {
     Ok(())
 }
 
-/// Returns a text followed by another so many times.
+/// Returns a text followed by this many repetitions of another.
 fn repeated(alloc: Global, text: &str, more: &str, times: usize) -> Result<String, AllocError> {
     let mut long = String::from_str(alloc, text)?;
     for _ in 0..times {
@@ -288,7 +288,7 @@ fn repeated(alloc: Global, text: &str, more: &str, times: usize) -> Result<Strin
     Ok(long)
 }
 
-/// Reads a text followed by another so many times, and by an end.
+/// Asserts what a request asks that consists of a text, this many repetitions of another, and an end.
 fn asks_long(
     rt: &(impl Abort + AllocGlobal),
     text: &str,
@@ -301,7 +301,7 @@ fn asks_long(
     asks(rt, request.as_bytes(), asked)
 }
 
-/// A head that is one header of so many bytes, with such an end.
+/// Asserts what a request asks whose head has this length and this end, and a single header.
 fn asks_long_head(
     rt: &(impl Abort + AllocGlobal),
     (length, end, asked): &(usize, &str, &str),
@@ -311,33 +311,33 @@ fn asks_long_head(
     asks_long(rt, begun, ("x", times), *end, *asked)
 }
 
-/// How long a head is, its end, and what it asks.
+/// The length of a head, its end, and what it asks.
 const LONG_HEADS: [(usize, &str, &str); 3] = [
     (MAX_HEAD_BYTES, "\r\n\r\n", "Sheet { ward: 7 }"),
     (MAX_HEAD_BYTES + 1, "\r\n\r\n", "BadRequest"),
     (MAX_HEAD_BYTES + 1, "xxxx", "BadRequest"),
 ];
 
-/// How many headers there are, and what is asked with them.
+/// The number of headers, and what is asked with them.
 const MANY_HEADERS: [(usize, &str); 2] = [
     (MAX_HEADERS, "Sheet { ward: 7 }"),
     (MAX_HEADERS + 1, "BadRequest"),
 ];
 
-/// A body that is nothing but brackets.
+/// Asserts that a body of nested brackets is rejected.
 fn asks_nested(rt: &(impl Abort + AllocGlobal)) -> Result<(), Fail> {
     let nested = repeated(rt.alloc(), "", "[", 200)?;
     asks_keying(rt, "Content-Length: 200\r\n", nested.as_str(), "BadRequest")
 }
 
-/// A keying whose body is the longest that may be, of spaces alone.
+/// Returns a keying whose body has the maximum length and consists of spaces.
 fn spaces(alloc: Global) -> Result<String, AllocError> {
     let headers = format!(in alloc; "Content-Length: {MAX_BODY_BYTES}\r\n")?;
     let head = keying(alloc, headers.as_str(), "")?;
     repeated(alloc, head.as_str(), " ", MAX_BODY_BYTES as usize)
 }
 
-/// It is read at once: one byte at a time it would take long.
+/// Asserts that such a keying is rejected. It is read only at once: one byte at a time would take long.
 fn asks_spaces(rt: &(impl Abort + AllocGlobal)) -> Result<(), Fail> {
     let request = spaces(rt.alloc())?;
     let mut reader = Counted::new(request.as_bytes());
@@ -357,8 +357,8 @@ fn long_heads_and_bodies(rt: HostRuntime) -> Result<(), Fail> {
     asks_spaces(&rt)
 }
 
-/// Reads a request of which only this arrives before the reader fails: nothing is asked, and one failure is counted, unless it is
-/// complete.
+/// Reads a request of which only these bytes arrive before the reader fails: unless the request is complete, nothing is asked,
+/// and one failure is counted.
 fn breaks_off(rt: &(impl Abort + AllocGlobal), left: &[u8], is_whole: bool) -> Result<(), Fail> {
     let mut reader = Counted::new(Slow { left, fails: true });
     let wanted = if is_whole { KEYED } else { "broken" };

@@ -1,4 +1,4 @@
--- What is kept in memory stays right.
+-- The cache stays correct.
 use Rattle.std.proofs.Common.{◌≡◌, Bool, true, Option, Some, None, [], IfSome, IsTrue, MatchOption, OnOk, Result, Ok, Err, refl, sym, subst}
 use Rattle.std.specs.Global.{Vec}
 use Rattle.std.specs.Option.{IsSomeAnd}
@@ -25,26 +25,26 @@ use Rattle.store.proofs.KeepLemmas.{is_at_read, rests_is_at}
 use Rattle.store.proofs.StateLemmas.{one_state}
 use Rattle.tables.specs.declared.fault.Fault.{Fault}
 
--- a read leaves it right,
+-- a read keeps the cache correct
 pub tied_read : (old new : State) (memory : Option (Vec CachedBatch)) → IsTied old memory → OnlyReads old new → IsTied new memory
 tied_read old new None tied reads = tt
 tied_read old new (Some known) tied reads = λ clean is_open.
     let it = tied (reads.clean clean) (reads.was_open clean is_open) in
     record { state = it.state; at = is_at_read it.state old new reads clean it.at; known = it.known }
 
--- and so does one that refreshes it
+-- a read that refreshes the cache keeps it correct
 pub tied_renewed : (old new : State) (before after : Vec CachedBatch) → (HasCleanDisk old → IsTrue old.is_open → Remembers old before.items) → OnlyReads old new
     → StaysKnown old new before.items after.items → HasCleanDisk new → IsTrue new.is_open → Remembers new after.items
 tied_renewed old new before after tied reads stays clean is_open =
     let it = tied (reads.clean clean) (reads.was_open clean is_open) in
     record { state = it.state; at = is_at_read it.state old new reads clean it.at; known = stays clean it.state it.at it.known }
 
--- an open connection keeps one state
+-- an open connection keeps only one state
 pub one_kept_state : (s t : OfficeState) (st : State) → IsTrue st.is_open → IsAt s st → IsAt t st → s ≡ t
 one_kept_state s t st is_open first second =
     one_state st.now s t (record { is = first.is; office = (first.rests is_open).office }) (record { is = second.is; office = (second.rests is_open).office })
 
--- so what is read by a memory is read of the state that the store keeps
+-- the result of a read with the cache is true of the state that the store keeps
 pub loads_known : {X : Type 0} {P : OfficeState → X → Type 0} {old new : State} {r : Result X Fault} (before : Vec CachedBatch) → (HasCleanDisk old → IsTrue old.is_open → Remembers old before.items)
     → LoadsAt old new r (λ s x. AreKnown s before.items → P s x) → LoadsAt old new r P
 loads_known {X = X} {P = P} {old = old} {new = new} {r = Ok x} before tied loads =
@@ -60,7 +60,7 @@ loads_known {X = X} {P = P} {old = old} {new = new} {r = Ok x} before tied loads
     }
 loads_known {r = Err f} before tied loads = record { shows = λ clean s at. tt; cause = loads.cause; opens = loads.opens; reads = loads.reads; keeps = loads.keeps }
 
--- a new memory is right
+-- a new cache is correct
 pub tied_new : (conn st : State) (memory : Option (Vec CachedBatch)) (remembers : Bool) → IfSome memory (λ known. (remembers ≡ true) × (known.items ≡ [])) → OnlyReads conn st
     → (remembers ≡ true → IsOfficeSchema conn.now.schema) → (remembers ≡ true → IsTrue conn.is_open → RestsAt conn.now conn)
     → (HasCleanDisk st → (db : Database) → IsOurs db.schema → RestsAt db conn → (s : OfficeState) × HoldsState db s × IsAt s st) → IsTied st memory
@@ -70,7 +70,7 @@ tied_new conn st (Some known) remembers new reads schema rests opened = λ clean
     let found = opened clean conn.now ours (rests new.0 (reads.was_open clean is_open)) in
     record { state = found.0; at = found.2; known = subst (AllByRecursion (IsKnown found.0)) (sym new.1) tt }
 
--- a change leaves right what is still remembered
+-- after a change, the entries that remain in the cache are correct
 pub tied_changed : (change : Change) (old new : State) (before after : Option (Vec CachedBatch))
     → MatchOption before (after ≡ None) (λ b. IsSomeAnd after
     (λ a. (s : OfficeState) (r : ReceiptEntry) → AreKnown s b.items → AreKnown (with_change (record { effect = effect_entry change.effect; receipt = r }) s) a.items))
@@ -90,7 +90,7 @@ tied_changed change old new (Some before) (Some after) forgot tied opened leads 
       known = forgot it.state (receipt_entry change.receipt) it.known;
     }
 
--- the state that a store keeps after a read, it kept before
+-- the state that a store keeps after a read is the one that it kept before
 pub kept_before : (old new : State) → ((trees : Trees) → IsTrue old.is_open → old.may_leave trees → trees ≡ old.committed.trees) → (IsTrue old.is_open → RestsAt old.now old) → OnlyReads old new
     → HasCleanDisk new → IsTrue new.is_open → (s : OfficeState) → IsAt s new → IsAt s old
 kept_before old new settled rests reads clean is_open s at =

@@ -1,11 +1,11 @@
--- The keyings that are read of a batch are those of its clerks.
+-- The keyings that are read for a batch are those by its clerks.
 use Rattle.std.proofs.Common.{◌≡◌, ℕ, List, ◌∷◌, map, filter, Option, Some, None, refl, ap, ◌∙◌}
 use Rattle.register.specs.declared.agreement.Clerks.{Clerks}
 use Rattle.register.specs.Offices.{BatchEntry, ThirdEntry, KeyedEntry, OfficeState, third_at, keying_of}
 use Rattle.register.specs.Agreement.{is_keyed, of_three, clerks, third_listed, clerk_list, keyings_now}
 use Rattle.store.specs.Keyings.{keying_for}
 
--- two or three keyings are those of a list of clerks
+-- two or three keyings are those by a list of clerks
 listed : (s : OfficeState) (batch round : ℕ) (c : Clerks)
     → of_three (keying_of s batch round c.first) (keying_of s batch round c.second) (keying_for s batch round c.third) ≡ filter is_keyed (map (keying_of s batch round) (clerk_list c))
 listed s batch round c = go c.third

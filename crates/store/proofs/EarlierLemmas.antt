@@ -1,4 +1,4 @@
--- The last round that a clerk keyed, found from the latest one on; and that the clerk sees it.
+-- The latest round that a clerk keyed is found by searching backwards; and a clerk's earlier keying depends only on what the clerk sees.
 use Rattle.std.proofs.Common.{◌≡◌, ℕ, zero, suc, ◌-◌, ◌<◌, Bool, true, false, cond, ◌&&◌, ◌==◌, List, [], ◌∷◌, filter, Option, Some, None, option_and_then, refl, sym, ap, ◌∙◌, arith}
 use Rattle.std.proofs.lemmas.Bool.{and_parts, both_ways, cond-true, cond-false}
 use Rattle.register.specs.Offices.{BatchEntry, KeyedEntry, OfficeState, batch_at, third_at, keying_of}
@@ -8,14 +8,14 @@ use Rattle.store.specs.EarlierKeyings.{KeyedRoundEntry, last_keyed, earlier_for,
 
 -- ---- one round after another
 
--- the clerk keyed this round
+-- if the clerk keyed this round, it is the latest one
 pub keyed_here : (s : OfficeState) (batch clerk n : ℕ) → 0 < n → is_keyed (keying_of s batch n clerk) ≡ true
     → Some (record { round = n; papers = keying_of s batch n clerk }) ≡ last_keyed s batch clerk n
 keyed_here s batch clerk zero above keyed = absurd (omega (arith, above))
 keyed_here s batch clerk (suc n) above keyed =
     sym (cond-true (is_keyed (keying_of s batch (suc n) clerk)) (Some (record { round = suc n; papers = keying_of s batch (suc n) clerk })) (last_keyed s batch clerk n) keyed)
 
--- the clerk didn't: the last one is among those before
+-- if the clerk didn't key this round, the latest one is among those before it
 pub keyed_before : (s : OfficeState) (batch clerk n : ℕ) → 0 < n → is_keyed (keying_of s batch n clerk) ≡ false → last_keyed s batch clerk n ≡ last_keyed s batch clerk (n - 1)
 keyed_before s batch clerk zero above keyed = absurd (omega (arith, above))
 keyed_before s batch clerk (suc n) above keyed =
@@ -23,9 +23,9 @@ keyed_before s batch clerk (suc n) above keyed =
     cond-false (is_keyed (keying_of s batch (suc n) clerk)) (Some (record { round = suc n; papers = keying_of s batch (suc n) clerk })) (last_keyed s batch clerk n) keyed
     ∙ ap (last_keyed s batch clerk) before
 
--- ---- what a clerk sees of it
+-- ---- what a clerk sees of earlier keyings
 
--- what passes a test is among what passes a weaker one
+-- filtering by a weaker test first doesn't change the result of a filter
 filter_both : {X : Type 0} (p q : X → Bool) → ((x : X) → p x ≡ true → q x ≡ true) → (xs : List X) → filter p (filter q xs) ≡ filter p xs
 filter_both p q stronger [] = refl
 filter_both {X} p q stronger (x ∷ xs) = go (q x) refl (p x) refl (filter_both p q stronger xs)

@@ -1,4 +1,4 @@
--- The batches of a ward and their tally, by what is kept of all batches.
+-- The batches of a ward and their tally, from the cache entries of all batches.
 use Rattle.std.proofs.Common.{◌≡◌, ℕ, ◌+◌, ◌-◌, ◌^◌, ◌<◌, ◌≤◌, ◌&&◌, ◌==◌, not, min, nat_le, Bool, true, false, cond}
 use Rattle.std.proofs.Common.{None, List, [], ◌∷◌, ◌++◌, map, filter, length, get_or, take, refl, sym, ap, subst, ◌∙◌, arith}
 use Rattle.std.proofs.Math.Bool.{and-false}
@@ -19,7 +19,7 @@ use Rattle.store.proofs.TallyLemmas.{one_there, open_there, more_tally}
 
 -- ---- the batches of a ward
 
--- what is kept of the batches of a ward, if every batch is known
+-- the overviews in the cache of a ward's batches, if the cache has every batch
 pub views_told : (s : OfficeState) (ward : ℕ) (ks : List CachedBatch) → KnowsAll s ks → views_in ks ward ≡ views_of s (batches_of s ward)
 views_told s ward ks all = each ks s.batches all
   where
@@ -48,7 +48,7 @@ views_told s ward ks all = each ks s.batches all
 
 -- ---- tallies
 
--- the tally of a batch by its overview
+-- the tally of a batch, from its overview
 pub tally_viewed : (s : OfficeState) (b : BatchEntry) (v : BatchView) → v ≡ batch_view_with s b None → IsTally s (b ∷ []) (tally_at v.standing v.doubtful_open)
 tally_viewed s b v is = subst (λ (x : BatchView). IsTally s (b ∷ []) (tally_at x.standing x.doubtful_open)) (sym is) (go (is_taken s b) refl (is_differing s b) refl)
   where
@@ -74,7 +74,7 @@ tally_viewed s b v is = subst (λ (x : BatchView). IsTally s (b ∷ []) (tally_a
     go false one true two = whole Differing false true (stands false true one two) one two refl refl refl
     go false one false two = whole Waiting false false (stands false false one two) one two refl refl refl
 
--- the tally of several batches, and then one more
+-- the tally of several batches and one more
 pub tally_next : (s : OfficeState) (bs : List BatchEntry) (os : List BatchOverview) (k : ℕ) (o : BatchOverview) (some one sum : Tally) → map batch_view os ≡ views_of s bs → k < length os
     → o ≡ get_or os k o
     → IsTally s (take k bs) some → one ≡ tally_at o.standing o.doubtful_open
@@ -91,7 +91,7 @@ tally_next s bs os k o some one sum are within is so_far here sums =
     let own : IsTally s (b ∷ []) one = subst (IsTally s (b ∷ [])) (sym here) (tally_viewed s b (batch_view o) its) in
     subst (λ (cs : List BatchEntry). IsTally s cs sum) (sym (take_more bs k d near)) (more_tally s (take k bs) b some one sum so_far own sums)
 
--- the tally of all of them
+-- the tally of all batches
 pub tally_whole : (s : OfficeState) (bs : List BatchEntry) (os : List BatchOverview) (k : ℕ) (tally : Tally) → map batch_view os ≡ views_of s bs → length os ≤ k → IsTally s (take k bs) tally
     → IsTally s bs tally
 tally_whole s bs os k tally are past so_far =
@@ -99,6 +99,6 @@ tally_whole s bs os k tally are past so_far =
     let same : length os ≡ length bs = sym (mapped_length batch_view os) ∙ ap length are ∙ mapped_length view bs in
     subst (λ (cs : List BatchEntry). IsTally s cs tally) (take_all k bs (omega (arith, past, same))) so_far
 
--- as many overviews as batches
+-- there are as many overviews as batches
 pub as_many : (s : OfficeState) (bs : List BatchEntry) (os : List BatchOverview) → map batch_view os ≡ views_of s bs → length os ≡ length bs
 as_many s bs os are = sym (mapped_length batch_view os) ∙ ap length are ∙ mapped_length (λ (b : BatchEntry). batch_view_with s b None) bs

@@ -1,4 +1,4 @@
--- What an effect doesn't concern is known as before.
+-- The cache entries of batches that an effect doesn't concern stay correct.
 use Rattle.std.proofs.Common.{◌≡◌, ℕ, ◌<◌, get_or, Bool, true, false, cond, not, ◌&&◌, ◌||◌, ◌==◌, List, [], ◌∷◌, map, filter, length, Option, Some, None, option_map, refl, sym, ap, subst, ◌∙◌}
 use Rattle.std.specs.List.{AllByRecursion, list_all, list_any}
 use Rattle.std.specs.Ordering.{nat_cmp, is_eq}
@@ -19,13 +19,13 @@ use Rattle.store.specs.declared.batch_cache.CachedBatch.{CachedBatch}
 use Rattle.store.specs.Overviews.{standing_by, clerk_view_of, pile_text}
 use Rattle.store.specs.Memories.{KnownView, checksum, known_of, known_view, row_of, IsKnown, AreKnown, is_about}
 
--- ---- what is kept of a batch depends on a few entries of the state
+-- ---- a cache entry depends on only a few entries of the state
 
 pub map_alike : {A B : Type 0} (f g : A → B) → ((x : A) → f x ≡ g x) → (xs : List A) → map f xs ≡ map g xs
 map_alike f g same [] = refl
 map_alike {B = B} f g same (x ∷ xs) = ap (λ (y : B). y ∷ map f xs) (same x) ∙ ap (λ (ys : List B). g x ∷ ys) (map_alike f g same xs)
 
--- two states have the same of a batch, apart from its row
+-- two states agree on a batch, except for its row
 record HasSameOf (s t : OfficeState) (b : BatchEntry) : Type 0 where
   third : third_at t b.number ≡ third_at s b.number
   keying : (clerk : ℕ) → keying_of t b.number b.round clerk ≡ keying_of s b.number b.round clerk
@@ -122,14 +122,14 @@ elsewhere s (paper_judged v) b apart =
 elsewhere s (stage_counted ward done) b apart = record { third = refl; keying = λ clerk. refl; verdicts = refl; candidates = refl }
 elsewhere s (lot_drawn l) b apart = record { third = refl; keying = λ clerk. refl; verdicts = refl; candidates = refl }
 
--- so what is kept of a batch that an effect doesn't concern is still right after it
+-- the cache entry of a batch that an effect doesn't concern is still correct after the effect
 pub known_still : (s : OfficeState) (effect : EffectEntry) (r : ReceiptEntry) (k : CachedBatch) → is_about effect (row_of k) ≡ false → IsKnown s k
     → IsKnown (with_change (record { effect = effect; receipt = r }) s) k
 known_still s effect r k apart is = is ∙ sym (known_alike s (with_effect effect s) (row_of k) (elsewhere s effect (row_of k) apart))
 
--- ---- what is left of a memory
+-- ---- what remains of a cache
 
--- after those entries were forgotten that an effect concerns, by some test of them
+-- the entries that remain after a test removes all that an effect concerns are correct
 pub left_known : (s : OfficeState) (effect : EffectEntry) (r : ReceiptEntry) (test : CachedBatch → Bool)
     → ((k : CachedBatch) → test k ≡ false → is_about effect (row_of k) ≡ false) → (ks : List CachedBatch)
     → AreKnown s ks
@@ -144,13 +144,13 @@ left_known s effect r test apart (k ∷ ks) are = go (test k) refl (left_known s
     go true is later = later
     go false is later = (known_still s effect r k (apart k is) are.0, later)
 
--- an effect that concerns no batch leaves all of it
+-- an effect that concerns no batch leaves the whole cache correct
 pub all_left : (s : OfficeState) (effect : EffectEntry) (r : ReceiptEntry) → ((b : BatchEntry) → is_about effect b ≡ false) → (ks : List CachedBatch) → AreKnown s ks
     → AreKnown (with_change (record { effect = effect; receipt = r }) s) ks
 all_left s effect r none [] are = tt
 all_left s effect r none (k ∷ ks) are = (known_still s effect r k (none (row_of k)) are.0, all_left s effect r none ks are.1)
 
--- papers of one batch concern no other
+-- papers of one batch don't concern any other batch
 pub keyed_apart : (n m : ℕ) (papers : List KeyedPaper) → list_all (λ (k : KeyedPaper). k.batch == n) papers ≡ true → (m == n) ≡ false
     → list_any (λ (k : KeyedEntry). m == k.batch) (map keyed_entry papers) ≡ false
 keyed_apart n m [] all apart = refl
@@ -159,13 +159,13 @@ keyed_apart n m (k ∷ papers) all apart =
     let one : (m == k.batch) ≡ false = ap (λ (j : ℕ). m == j) (eqb-true k.batch n parts.0) ∙ apart in
     rw one (keyed_apart n m papers parts.1 apart)
 
--- ---- one of the entries kept
+-- ---- a single cache entry
 
--- what is true of each is true of the one at a place
+-- a property of all entries holds for the entry at an index
 pub one_of : (P : CachedBatch → Type 0) (known : List CachedBatch) (k : ℕ) (c : CachedBatch) → AllByRecursion P known → k < length known → c ≡ get_or known k c → P c
 one_of P known k c all within is = subst P (sym is) (all-get_or P known k c all within)
 
--- equal rows have equal entries
+-- batches with equal rows have equal entries
 pub same_row : (a b : Batch)
     → ((a.number == b.number) && ((a.ward == b.ward) && ((a.size == b.size) && ((a.first_clerk == b.first_clerk) && ((a.second_clerk == b.second_clerk) && (a.round == b.round)))))) ≡ true
     → batch_entry a ≡ batch_entry b
@@ -187,13 +187,13 @@ same_row a b same =
         ∙ ap (λ v. record y { second_clerk = v; round = x.round }) second
         ∙ ap (λ v. record y { round = v }) round
 
--- what is kept of a batch, by its parts
+-- cache entries with equal parts are equal
 pub same_known : (x y : KnownView) → x.view ≡ y.view → x.pile ≡ y.pile → x ≡ y
 same_known x y view pile = ap (λ v. record x { view = v }) view ∙ ap (λ p. record y { pile = p }) pile
 
--- ---- every batch is known
+-- ---- a cache with every batch
 
--- each entry is right
+-- each entry of a cache with every batch is correct
 pub all_right : (s : OfficeState) (ks : List CachedBatch) (bs : List BatchEntry) → map known_view ks ≡ map (known_of s) bs → AreKnown s ks
 all_right s [] bs are = tt
 all_right s (k ∷ ks) [] are = absurd cc
@@ -208,7 +208,7 @@ all_right s (k ∷ ks) (b ∷ bs) are =
     rest : {x y : KnownView} {xs ys : List KnownView} → x ∷ xs ≡ y ∷ ys → xs ≡ ys
     rest e = cc
 
--- and their rows are those of the batches
+-- the rows in a cache with every batch are those of the batches
 pub all_rows : (s : OfficeState) (ks : List CachedBatch) (bs : List BatchEntry) → map known_view ks ≡ map (known_of s) bs → map row_of ks ≡ bs
 all_rows s [] [] are = refl
 all_rows s [] (b ∷ bs) are = absurd cc

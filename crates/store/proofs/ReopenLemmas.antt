@@ -1,4 +1,4 @@
--- A database that a stop left reopens, at the state whose tables it contains.
+-- A database that a stop left can be reopened, at the state whose tables it contains.
 use Rattle.std.proofs.Common.{◌≡◌, ◌⊎◌, inl, inr, true, [], ◌∷◌, refl, sym, ap₂, subst, IsTrue}
 use Rattle.std.specs.List.Sorted.{IsStrictlySortedBy}
 use Rattle.std.specs.declared.cmp.Ordering.{Ordering}
@@ -63,7 +63,7 @@ holds_office : (s : OfficeState) (db : Database) → HoldsState db s → (¬ Has
 unfolding IsOffice
 holds_office s db held = this_office db (office_there db.schema held.office.begins) (state_version db s held)
 
--- no fault is reported for it but those that may be reported for any database
+-- the only faults that are reported for it are those that may be reported for any database
 pub left_told : (s : OfficeState) (db : Database) (f : Fault) → IsLeftAt s db → IsFaultOf db f → (f ≡ Memory) ⊎ (f ≡ Store)
 left_told s db f left told = go f told
   where
@@ -76,7 +76,7 @@ left_told s db f left told = go f told
     go NewerSchema told = absurd ((holds_office s db (left_holds s db left)).1 told)
     go OlderSchema told = absurd ((holds_office s db (left_holds s db left)).2 (one_permutation (office_row 1) (tuples Office db.trees) told.1.same))
 
--- one row is in ascending order
+-- a single row is in ascending order
 one_rises : (by : Row → Row → Ordering) (row : Row) → IsStrictlySortedBy by (row ∷ [])
 unfolding IsStrictlySortedBy
 one_rises by row = (tt, tt)
@@ -89,7 +89,7 @@ all_rise s is t = elim (which_kind t) [
   | inr has ↦ tables_rise s is t has
 ]
 
--- if a database contains a state, rowids are distinct integers; so if a fault of the store is reported, the store failed
+-- if a database contains a state, rowids are distinct integers; a fault of the store therefore means that the store failed
 own_there : (s : OfficeState) (db : Database) → HoldsState db s → ¬ SharesRowids db
 unfolding IsOffice
 own_there s db held shared =
@@ -102,12 +102,12 @@ left_failed s db old new f left told fails = elim (left_told s db f left told) [
   | inr store ↦ inr (store, elim (fails store) [ inl failed ↦ failed | inr shared ↦ absurd (own_there s db (left_holds s db left) shared) ])
 ]
 
--- an office that is open at a state rests at the database that a stop leaves of it
+-- an office that is open at a state rests at the database that a stop would leave of it
 pub at_left : (s : OfficeState) (st : State) → IsAt s st → IsTrue st.is_open → RestsAt st.now st × IsLeftAt s st.now
 at_left s st at is_open =
     let rests = at.rests is_open in
     (rests_at (tables_of s) st rests, record { is = at.is; sound = sound (tables_of s) st.now rests.office; stores = record { db = st.now; office = rests.office; same = refl } })
 
--- the state found in it is this one
+-- the state that is found in it is this one
 pub left_opened : (s : OfficeState) (db : Database) (st : State) → IsLeftAt s db → (x : OfficeState) × HoldsState db x × IsAt x st → IsAt s st
 left_opened s db st left found = subst (λ (x : OfficeState). IsAt x st) (one_state db found.0 s found.1 (left_holds s db left)) found.2

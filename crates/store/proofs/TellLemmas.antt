@@ -34,9 +34,9 @@ use Rattle.tables.proofs.HoldLemmas.{lists_all, shown_rows, rows_held, held_list
 use Rattle.tables.proofs.ListingLemmas.{begins_to}
 use Rattle.store.proofs.StateLemmas.{tables_rise, maps_rise, equal_maps, tabulated_same}
 
--- ---- the tables, as an opening reads them
+-- ---- the tables that are read when an office is opened
 
--- a table is the office's, or one of entries
+-- a table is the office's, or one that contains entries
 pub which_kind : (t : Table) → (t ≡ Office) ⊎ (has_entries t ≡ true)
 which_kind Office = inl refl
 which_kind Ward = inr refl
@@ -64,7 +64,7 @@ strange_store : (n : ℕ) (db : Database) (f : Fault) → (f ≡ Memory) ⊎ (f 
 strange_store n db f (inl same) = subst (TellsStrange n db) (sym same) tt
 strange_store n db f (inr same) = subst (TellsStrange n db) (sym same) tt
 
--- rows that are not a list of entries are those of no state
+-- rows that are not a list of entries are not those of any state
 pub told_strange : (n : ℕ) (t : Table) (IsRow : Row → Type 0) → has_entries t ≡ true → place_of t < n → ((s : OfficeState) → IsState s → AllByRecursion IsRow (tables_of s t))
     → (db : Database) (f : Fault)
     → (f ≡ Memory) ⊎ ((f ≡ Store) ⊎ ((f ≡ Damaged) × HoldsNone t IsRow db)) → TellsStrange n db f
@@ -72,7 +72,7 @@ told_strange n t IsRow has low fits db f (inl memory) = strange_store n db f (in
 told_strange n t IsRow has low fits db f (inr (inl store)) = strange_store n db f (inr store)
 told_strange n t IsRow has low fits db f (inr (inr none)) = subst (TellsStrange n db) (sym none.0) (t, has, low, λ s is. none.1 (tables_of s t) (fits s is) (tables_rise s is t has))
 
--- if one of the first `n` tables has rows that no state has, so does one of the first `m`
+-- if one of the first `n` tables has rows that no state has, so has one of the first `m`
 pub strange_more : (n m : ℕ) → n ≤ m → (db : Database) (f : Fault) → TellsStrange n db f → TellsStrange m db f
 strange_more n m up db Memory told = tt
 strange_more n m up db Store told = tt
@@ -82,7 +82,7 @@ strange_more n m up db WrongDatabase told = told
 strange_more n m up db NewerSchema told = told
 strange_more n m up db OlderSchema told = told
 
--- so the rows are not the tables of any state
+-- if one of the first tables has rows that no state has, the rows are not the tables of any state
 pub strange_told : (n : ℕ) (db : Database) (f : Fault) → TellsStrange n db f → TellsNoState db f
 unfolding IsOffice
 strange_told n db Memory told = tt
@@ -95,7 +95,7 @@ strange_told n db OlderSchema told = told
 
 -- ---- the entries of a state
 
--- listed maps and a listed tabulation have the same rows as each state that the database contains
+-- maps and a tabulation that were listed have the same rows as each state that the database contains
 maps_same : (db : Database) (s x : OfficeState) (t : TabulationEntries) → ListsMaps db s t → HoldsState db x → SameContents (tables_of x) (tables_with s t)
 unfolding IsOffice
 maps_same db s x t lists holds u = elim (which_kind u) [
@@ -227,7 +227,7 @@ office_told db begins sound rows keyed NewerSchema told =
     (pos n, omega (arith, ints, up), one_permutation (office_row n) (tuples Office db.trees) holds.same)
 office_told db begins sound rows keyed OlderSchema told = version_held 1 db begins sound rows keyed told.0 told.1 told.2
 
--- ---- the whole opening
+-- ---- a whole opening
 
 -- an office of this version has an office row, and is neither newer nor older
 pub this_office : (db : Database) → has_table Office db.schema ≡ true → HasVersion this_version db → (¬ HasNoOffice db) × (¬ IsNewer db) × (¬ IsOlder db)
@@ -303,12 +303,12 @@ pub store_office : (db : Database) (f : Fault) → (f ≡ Memory) ⊎ (f ≡ Sto
 store_office db f (inl same) = subst (FaultOfOfficeTable db) (sym same) tt
 store_office db f (inr same) = subst (FaultOfOfficeTable db) (sym same) tt
 
--- neither a failed allocation nor a failed store is an older office
+-- neither a failed allocation nor a failed store is reported as `OlderSchema`
 pub never_older : {X : Type 0} (f : Fault) → (f ≡ Memory) ⊎ (f ≡ Store) → f ≡ OlderSchema → X
 never_older f (inl memory) same = absurd cc
 never_older f (inr store) same = absurd cc
 
--- ---- what a connection returns of the database at which it rests
+-- ---- what a connection returns about the database at which it rests
 
 pub answered : (p : Schema → Bool) (db : Database) (s : State) → RestsAt db s → (b r : Bool) → b ≡ p s.now.schema → b ≡ r → p db.schema ≡ r
 answered p db s rests b r is same = subst (λ (d : Database). p d.schema ≡ b) rests.now (sym is) ∙ same

@@ -1,4 +1,4 @@
--- Twins, by what is kept of all batches.
+-- Twins, found from the cache entries of all batches.
 use Rattle.std.proofs.Common.{◌≡◌, ℕ, ◌<◌, ◌+◌, Bool, true, false, cond, not, ◌&&◌, ◌==◌, List, [], ◌∷◌, ◌++◌, map, filter}
 use Rattle.std.proofs.Common.{find, length, get_or, take, drop, suc, Option, Some, None, option_map, refl, sym, ap, subst, ◌∙◌, arith, take-append-drop, drop-cons}
 use Rattle.std.specs.Option.{option_to_list}
@@ -17,7 +17,7 @@ use Rattle.store.proofs.LoadsLemmas.{entries_more}
 
 -- ---- two batches
 
--- the checksum that is kept of a batch is that of its papers, if it is taken
+-- the checksum in the cache entry of a batch is that of its papers, if the batch is taken
 sum_kept : (s : OfficeState) (k : CachedBatch) → IsKnown s k → k.pile ≡ option_map checksum (pile_in s (row_of k))
 sum_kept s k is = ap (λ (v : KnownView). v.pile) is
 
@@ -32,7 +32,7 @@ untaken s k is none = go (is_taken s (row_of k)) refl (sym (sum_kept s k is) ∙
         lost : {n : ℕ} → Some n ≡ None → ⊥
         lost e = cc
 
--- if the checksums of two batches differ, the papers do
+-- if the checksums of two batches differ, so do their papers
 apart : (s : OfficeState) (b c : BatchEntry) → is_taken s b ≡ true → same_sum (option_map checksum (pile_in s b)) (option_map checksum (pile_in s c)) ≡ false
     → (is_taken s c && bytes_eq (pile_text_of s b) (pile_text_of s c)) ≡ false
 apart s b c taken differ = go (is_taken s c) refl (bytes_eq (pile_text_of s b) (pile_text_of s c)) refl
@@ -55,7 +55,7 @@ module _ (s : OfficeState) (k c : CachedBatch) (own : IsKnown s k) (taken : is_t
   sums : same_sum k.pile c.pile ≡ same_sum (option_map checksum (pile_in s (row_of k))) (option_map checksum (pile_in s (row_of c)))
   sums = ap (λ (o : Option ℕ). same_sum o c.pile) (sum_kept s k own) ∙ ap (same_sum (option_map checksum (pile_in s (row_of k)))) (sum_kept s c others)
 
-  -- a batch that can't be a twin isn't one
+  -- a batch whose cache entry rules it out isn't a twin
   pub no_twin : may_be_twin k c ≡ false → is_twin s (row_of k) (row_of c) ≡ false
   no_twin may = go (not (c.overview.batch.number == k.overview.batch.number)) (same_sum k.pile c.pile) refl may
     where
@@ -64,7 +64,7 @@ module _ (s : OfficeState) (k c : CachedBatch) (own : IsKnown s k) (taken : is_t
       go true false is may = apart s (row_of k) (row_of c) taken (sym sums ∙ is)
       go true true is may = absurd cc
 
-  -- one that may be a twin is taken
+  -- a batch that has the same checksum is taken
   its_taken : same_sum k.pile c.pile ≡ true → is_taken s (row_of c) ≡ true
   its_taken same = go (is_taken s (row_of c)) refl (sym sums ∙ same)
     where
@@ -78,7 +78,7 @@ module _ (s : OfficeState) (k c : CachedBatch) (own : IsKnown s k) (taken : is_t
           none None e = cc
           none (Some n) e = cc
 
-  -- and is one if the papers are the same
+  -- a batch that may be a twin is one if its papers are the same
   pub twin_told : may_be_twin k c ≡ true → (same : Bool)
       → (is_taken s (row_of k) ≡ true → is_taken s (row_of c) ≡ true → same ≡ bytes_eq (pile_text_of s (row_of k)) (pile_text_of s (row_of c))) → same ≡ is_twin s (row_of k) (row_of c)
   twin_told may same told =
@@ -88,7 +88,7 @@ module _ (s : OfficeState) (k c : CachedBatch) (own : IsKnown s k) (taken : is_t
 
 -- ---- the first twin
 
--- a further batch that isn't one
+-- one more element that doesn't pass a test, after others that don't
 pub find_more : {X : Type 0} (p : X → Bool) (xs : List X) (x : X) → find p xs ≡ None → p x ≡ false → find p (xs ++ x ∷ []) ≡ None
 find_more p [] x none other = rw other refl
 find_more {X} p (y ∷ xs) x none other = go (p y) (find_more p xs x) none
@@ -97,7 +97,7 @@ find_more {X} p (y ∷ xs) x none other = go (p y) (find_more p xs x) none
     go true later none = absurd cc
     go false later none = later none other
 
--- a further batch that is the first one
+-- the first element that passes a test, after others that don't
 pub find_here : {X : Type 0} (p : X → Bool) (xs : List X) (x : X) (ys : List X) → find p xs ≡ None → p x ≡ true → find p (xs ++ x ∷ ys) ≡ Some x
 find_here p [] x ys none is = rw is refl
 find_here {X} p (y ∷ xs) x ys none is = go (p y) (find_here p xs x ys) none
@@ -106,14 +106,14 @@ find_here {X} p (y ∷ xs) x ys none is = go (p y) (find_here p xs x ys) none
     go true later none = absurd cc
     go false later none = later none is
 
--- ---- one of the entries kept, at its place
+-- ---- one of the cache entries, at its index
 
 module _ {X : Type 0} (row : CachedBatch → X) (known : List CachedBatch) (k : ℕ) (c : CachedBatch) (within : k < length known) (is : c ≡ get_or known k c) where
-  -- the rows so far, and this one
+  -- the rows up to and including this one
   pub rows_more : take (k + 1) (map row known) ≡ take k (map row known) ++ row c ∷ []
   rows_more = entries_more row known k c within ∙ ap (λ (x : CachedBatch). take k (map row known) ++ row x ∷ []) (sym is)
 
-  -- and those that follow
+  -- the rows up to and including this one, and those after it
   pub rows_split : map row known ≡ take k (map row known) ++ row c ∷ drop (suc k) (map row known)
   rows_split =
       sym (take-append-drop k (map row known))
@@ -123,7 +123,7 @@ module _ {X : Type 0} (row : CachedBatch → X) (known : List CachedBatch) (k : 
 
 -- ---- the batches of a ward
 
--- one more batch
+-- the overviews of several batches and one more
 pub views_more : (s : OfficeState) (ward : ℕ) (bs : List BatchEntry) (b : BatchEntry) (before : List BatchView) (found : Option BatchView) → before ≡ map (batch_view_of s)
     (filter (λ (c : BatchEntry). c.ward == ward) bs)
     → found ≡ batch_view_in s ward b → before ++ option_to_list found ≡ map (batch_view_of s) (filter (λ (c : BatchEntry). c.ward == ward) (bs ++ b ∷ []))

@@ -153,7 +153,7 @@ third_put s t e =
 
 -- ---- papers
 
--- the entries inserted are exactly those added
+-- inserting entries adds exactly those entries
 put_each_same : {X : Type 0} (cmp : X → X → Ordering) (xs ys : List X) → IsPermutation (xs ++ ys) (put_each cmp xs ys)
 put_each_same cmp [] ys = IsPermutation-refl ys
 put_each_same cmp (x ∷ xs) ys =
@@ -200,7 +200,7 @@ receipt_put s t r = filled_changed (office_rows ∷ ward_rows s ∷ candidate_ro
 
 -- ---- the tabulation
 
--- the tables before those of the tabulation
+-- the tables other than those of the tabulation
 abbrev state_rows : OfficeState → List (Table × List Row)
 state_rows s = office_rows ∷ ward_rows s ∷ candidate_rows s ∷ batch_rows s ∷ keying_rows s ∷ verdict_rows s ∷ lot_rows s ∷ receipt_rows s ∷ []
 
@@ -222,7 +222,7 @@ bundles_moved s t moved u =
     subst (λ l. IsPermutation l (tables_with s (record t { bundles = after }) u)) (sym (replaced_all_there Bundle rows (tables_with s t) u))
     (filled_changed (state_rows s) Bundle (map row_of_placed t.bundles) (map row_of_placed after) (vote_rows t ∷ third_rows s ∷ []) (λ l. all_replaced Bundle l rows) refl (equal_rows _ _ made) u)
 
--- rows of entries before those of others
+-- the rows of new entries, followed by those of others
 rows_before : {V X : Type 0} (entry : V → X) (row : X → Row) (news : List V) (xs : List X) → map (λ v. row (entry v)) news ++ map row xs ≡ map row (map entry news ++ xs)
 rows_before entry row news xs = ap (λ l. l ++ map row xs) (sym (mapped_twice entry row news)) ∙ sym (map-append row (map entry news) xs)
 

@@ -4,18 +4,18 @@ use Rattle.register.specs.Offices.{KeyedEntry, BatchEntry, OfficeState, keyed_en
 use Rattle.register.specs.Agreement.{is_keyed, is_its_clerk}
 use Rattle.store.specs.declared.earlier_keyings.KeyedRound.{KeyedRound}
 
--- a round of a batch that a clerk keyed, and the papers as the clerk keyed them, in order
+-- a round of a batch that a clerk keyed, and the papers in order, as the clerk keyed them
 pub record KeyedRoundEntry : Type 0 where
   pub round : ℕ
   pub papers : List KeyedEntry
 
--- the last one that a clerk keyed of the first rounds of a batch, if there is one
+-- the latest of the first rounds of a batch that a clerk keyed, if there is one
 abbrev pub last_keyed : OfficeState → ℕ → ℕ → ℕ → Option KeyedRoundEntry
 last_keyed s batch clerk zero = None
 last_keyed s batch clerk (suc n) =
     if is_keyed (keying_of s batch (suc n) clerk) then Some (record { round = suc n; papers = keying_of s batch (suc n) clerk }) else last_keyed s batch clerk n
 
--- a clerk's own keying of a batch in the latest round before the current one that the clerk keyed; nothing is shown of it to any other actor
+-- a clerk's own keying of a batch in the latest round before the current one that the clerk keyed; nobody else sees it
 abbrev pub earlier_for : OfficeState → ℕ → BatchEntry → Option (Option KeyedRoundEntry)
 earlier_for s clerk b = if is_its_clerk clerk b (third_at s b.number) then Some (last_keyed s b.number clerk (b.round - 1)) else None
 
@@ -23,6 +23,6 @@ earlier_for s clerk b = if is_its_clerk clerk b (third_at s b.number) then Some 
 abbrev pub earlier_at : OfficeState → ℕ → ℕ → Option (Option KeyedRoundEntry)
 earlier_at s clerk batch = option_and_then (earlier_for s clerk) (batch_at s batch)
 
--- the entry of a round that was keyed
+-- the entry of a keyed round
 abbrev pub keyed_round_entry : KeyedRound → KeyedRoundEntry
 keyed_round_entry k = record { round = k.round; papers = map keyed_entry k.papers.items }

@@ -1,4 +1,4 @@
--- What an open office keeps in memory of its batches.
+-- The cache of an open office: what it keeps in memory about its batches.
 use Rattle.std.specs.Prelude.{◌≡◌, ℕ, ◌+◌, ◌*◌, ◌%◌, ◌^◌, ◌==◌, ◌&&◌, not, if◌then◌else◌, Bool, true, false, List, map, fold, Option, Some, None, IfSome, option_map, IsTrue}
 use Rattle.std.specs.List.{AllByRecursion, filter, list_any}
 use Rattle.std.specs.Global.{Vec}
@@ -18,15 +18,15 @@ use Rattle.store.specs.Overviews.{BatchView, WardView, batch_view, batch_view_of
 
 -- ---- checksums
 
--- one more byte of a text
+-- adds one more byte of a text to a checksum
 abbrev pub mixed : ℕ → ℕ → ℕ
 mixed sum byte = ((sum * 1099511628211) % 2 ^ 64 + byte) % 2 ^ 64
 
--- the checksum of a text, by which most texts that differ are told apart
+-- the checksum of a text, which distinguishes most pairs of different texts
 unfoldable pub checksum : List ℕ → ℕ
 checksum text = fold mixed 14695981039346656037 text
 
--- ---- what is kept of a batch
+-- ---- the cache entry of a batch
 
 -- the overview of a batch without its twin; and, if the batch is taken, the checksum of its papers
 pub record KnownView : Type 0 where
@@ -39,38 +39,38 @@ known_of s b = record { view = batch_view_with s b None; pile = option_map check
 abbrev pub known_view : CachedBatch → KnownView
 known_view k = record { view = batch_view k.overview; pile = k.pile }
 
--- the row of the batch of which it is kept
+-- the row of the batch of a cache entry
 abbrev pub row_of : CachedBatch → BatchEntry
 row_of k = batch_entry k.overview.batch
 
--- it is right in a state: it is what the state has of a batch with this row
+-- a cache entry is correct in a state: it equals what the state determines for a batch with this row
 abbrev pub IsKnown : OfficeState → CachedBatch → Type 0
 IsKnown s k = known_view k ≡ known_of s (row_of k)
 
 abbrev pub AreKnown : OfficeState → List CachedBatch → Type 0
 AreKnown s ks = AllByRecursion (IsKnown s) ks
 
--- it is kept of every batch of a state, in the order of their numbers
+-- the cache has a correct entry for every batch of a state, and the entries are ordered by number
 abbrev pub KnowsAll : OfficeState → List CachedBatch → Type 0
 KnowsAll s ks = map known_view ks ≡ map (known_of s) s.batches
 
--- both have a checksum, and it is the same
+-- both have a checksum, and the checksums are equal
 abbrev pub same_sum : Option ℕ → Option ℕ → Bool
 same_sum (Some a) (Some b) = a == b
 same_sum (Some a) None = false
 same_sum None b = false
 
--- by what is kept of them, another batch may be a batch's twin
+-- whether another batch may be a batch's twin, by their cache entries
 abbrev pub may_be_twin : CachedBatch → CachedBatch → Bool
 may_be_twin k c = not (c.overview.batch.number == k.overview.batch.number) && same_sum k.pile c.pile
 
--- the overview of a batch with its twin, if it is of this ward
+-- the overview of a batch with its twin, if the batch belongs to this ward
 abbrev pub batch_view_in : OfficeState → ℕ → BatchEntry → Option BatchView
 batch_view_in s ward b = if b.ward == ward then Some (batch_view_of s b) else None
 
 -- ---- what an effect concerns
 
--- an effect may change what is kept of a batch
+-- whether an effect may change the cache entry of a batch
 abbrev pub is_about : EffectEntry → BatchEntry → Bool
 is_about (ward_added w) b = false
 is_about (ward_moved ward phase) b = false
@@ -84,26 +84,26 @@ is_about (paper_judged v) b = b.number == v.batch
 is_about (stage_counted ward done) b = false
 is_about (lot_drawn l) b = false
 
--- the batches among which are all that an effect concerns
+-- whether a batch is among these, which include every batch that the effect concerns
 abbrev pub concerns : AffectedBatches → BatchEntry → Bool
 concerns Nothing b = false
 concerns (Batch number) b = b.number == number
 concerns (Ward ward) b = b.ward == ward
 concerns All b = true
 
--- ---- a store with such a memory
+-- ---- a store with a cache
 
--- While the connection is open, it keeps some state, in which all that is remembered is right.
+-- While the connection is open, it keeps some state in which all cache entries are correct.
 pub record Remembers (st : State) (ks : List CachedBatch) : Type 0 where
   pub state : OfficeState
   pub at : IsAt state st
   pub known : AreKnown state ks
 
--- a read leaves what is remembered right, in any state that the store keeps
+-- a read keeps the cache entries correct, in any state that the store keeps
 abbrev pub StaysKnown : State → State → List CachedBatch → List CachedBatch → Type 0
 StaysKnown old new before after = HasCleanDisk new → (s : OfficeState) → IsAt s old → AreKnown s before → AreKnown s after
 
--- the same for a memory, if there is one
+-- the invariant of a store that may have a cache
 abbrev pub IsTied : State → Option (Vec CachedBatch) → Type 0
 IsTied st memory = IfSome memory (λ known. HasCleanDisk st → IsTrue st.is_open → Remembers st known.items)
 
@@ -113,11 +113,11 @@ IsTied st memory = IfSome memory (λ known. HasCleanDisk st → IsTrue st.is_ope
 abbrev pub views_of : OfficeState → List BatchEntry → List BatchView
 views_of s bs = map (λ (b : BatchEntry). batch_view_with s b None) bs
 
--- those that are kept of the batches of a ward
+-- the overviews of a ward's batches, from the cache
 abbrev pub views_in : List CachedBatch → ℕ → List BatchView
 views_in ks ward = map (λ (k : CachedBatch). batch_view k.overview) (filter (λ (k : CachedBatch). k.overview.batch.ward == ward) ks)
 
--- the tally of a batch by its standing, and how many of its doubtful papers have no verdict
+-- the tally of a batch with this standing and this number of doubtful papers without a verdict
 abbrev pub tally_at : BatchStanding → ℕ → Tally
 tally_at Taken doubtful_open = record { taken = 1; differing = 0; doubtful_open = doubtful_open }
 tally_at Differing doubtful_open = record { taken = 0; differing = 1; doubtful_open = doubtful_open }

@@ -1,4 +1,4 @@
--- What is found when an office is opened.
+-- What may be found when an office is opened.
 use Rattle.std.specs.Prelude.{◌≡◌, ◌≢◌, ◌⊎◌, ◌<◌, ℕ, ℤ, pos, ◌<ℤ◌, Bool, true, false, List, [], ◌∷◌, ⊤, IsTrue}
 use Rattle.sqlite.specs.declared.types.Value.TheVariants.{Int}
 use Rattle.sqlite.specs.Order.{Row}
@@ -23,11 +23,11 @@ use Rattle.store.specs.StateTables.{tables_of, tables_with, HoldsState}
 abbrev pub HasNoOffice : Database → Type 0
 HasNoOffice db = (has_table Office db.schema ≡ false) ⊎ (tuples Office db.trees ≡ [])
 
--- the one office row has a version above this program's
+-- the only row of the office table has a version above this program's
 abbrev pub IsNewer : Database → Type 0
 IsNewer db = (version : ℤ) × (pos this_version <ℤ version) × (tuples Office db.trees ≡ (Int (pos 1) ∷ Int version ∷ []) ∷ [])
 
--- the one office row has the first version, which precedes this program's
+-- the only row of the office table has the first version, which precedes this program's
 abbrev pub IsOlder : Database → Type 0
 IsOlder db = tuples Office db.trees ≡ office_row 1 ∷ []
 
@@ -39,14 +39,14 @@ HasVersion version db = HoldsTable Office (office_row version ∷ []) db.trees
 abbrev pub HoldsNoState : Database → Type 0
 HoldsNoState db = (s : OfficeState) → ¬ HoldsState db s
 
--- an office, of this version, whose rows are not the tables of any state
+-- an office of this version whose rows are not the tables of any state
 pub record IsDamaged (db : Database) : Type 0 where
   pub some_office : ¬ HasNoOffice db
   pub not_newer : ¬ IsNewer db
   pub not_older : ¬ IsOlder db
   pub no_state : HoldsNoState db
 
--- the database is one for which opening an office reports this fault; a failed allocation or a failed store may be reported for any
+-- the database is one for which opening an office reports this fault; a failed allocation or a failed store may be reported for any database
 abbrev pub IsFaultOf : Database → Fault → Type 0
 IsFaultOf db Memory = ⊤
 IsFaultOf db Store = ⊤
@@ -134,11 +134,11 @@ has_entries Office = false
 abbrev pub ListsMaps : Database → OfficeState → TabulationEntries → Type 0
 ListsMaps db s t = (u : Table) → has_entries u ≡ true → ListsEntries u db (tables_with s t u)
 
--- maps are a state, and this is the tabulation of its counts
+-- these maps are a state, and this is the tabulation of its counts
 abbrev pub IsTabulatedAs : OfficeState → TabulationEntries → Type 0
 IsTabulatedAs s t = IsState s × IsTabulationOf t s
 
--- each table of entries contains those of the state
+-- each table of entries contains the entries of the state
 pub record HoldsEntries (db : Database) (s : OfficeState) : Type 0 where
   pub is : IsState s
   pub entries : (t : Table) → has_entries t ≡ true → HoldsTable t (tables_of s t) db.trees

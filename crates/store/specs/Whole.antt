@@ -1,4 +1,4 @@
--- All entries of an office, read from a database.
+-- Reading all entries of an office from a database.
 use Rattle.std.specs.Prelude.{◌≡◌, true, false, Result, Err, IfOk, IfErr}
 use Rattle.sqlite.specs.Effect.{Database}
 use Rattle.sqlite.specs.State.{State, HasCleanDisk}
@@ -15,9 +15,9 @@ use Rattle.tables.specs.Reading.{OnlyReads, FailsBy, FailsToList}
 use Rattle.store.specs.StateTables.{HoldsState, IsAt}
 use Rattle.store.specs.Openings.{IsLeftAt, IsFaultOf}
 
--- The rows that are read are those of a state (`is`), with the tabulation of its counts (`tabulates`), whatever made them. They are those of the state in the
--- database: found by its rows alone (`found`), left there by a stop (`left`), or kept by an open office (`kept`). Otherwise a fault is reported as when an
--- office is opened, with its cause. No transaction is begun.
+-- The rows that are read are those of a state (`is`), with the tabulation of its counts (`tabulates`), no matter how the database came about. They are those
+-- of the state in the database: found by its rows alone (`found`), left there by a stop (`left`), or kept by an open office (`kept`). Otherwise a fault is
+-- reported as when an office is opened, with its cause. No transaction is begun.
 pub record ReadsOffice (old new : State) (result : Result Rows Fault) : Type 0 where
   pub is : IfOk result (λ rows. IsState (state_of rows))
   pub tabulates : IfOk result (λ rows. IsTabulationOf (tabulated rows) (state_of rows))

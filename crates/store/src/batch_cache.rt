@@ -1,9 +1,10 @@
-//! What an open office keeps in memory of its batches: the overview of each, without its twin, and a checksum of its
-//! papers, by which twins are looked for.
+//! What an open office keeps in memory about its batches: the overview of each, without its twin, and a checksum of its
+//! papers, which is used to find twins.
 //!
-//! An entry is kept with the row of its batch, and is right as long as no request changes anything else of that batch:
-//! its third clerk, its keyings, its verdicts, or the candidates of its ward. `forget` removes the entries that an
-//! effect may change, before it is stored. An entry is used only for a batch that still has the same row.
+//! Each entry of the cache includes the row of its batch. It is correct as long as no request changes anything else
+//! about that batch: its third clerk, its keyings, its verdicts, or the candidates of its ward. `forget` removes the
+//! entries that an effect may change, before the effect is stored. An entry is used only if the batch still has the
+//! same row.
 
 ghost use Rattle.std.specs.Prelude.{◌≡◌, ◌==◌, not, true, false, IfOk, IfSome, option_map, string_bytes};
 ghost use Rattle.std.specs.List.{filter, list_all};
@@ -16,7 +17,7 @@ use crate::overviews::batches::BatchOverview;
 use register::{Batch, Effect, KeyedPaper};
 use std::alloc::{AllocError, Global};
 
-/// The value from which a checksum begins, and the factor by which each byte changes it.
+/// The initial value of a checksum, and the factor that it is multiplied by before each byte is added.
 const BEGINNING: u64 = 14695981039346656037;
 
 const FACTOR: u64 = 1099511628211;
@@ -28,7 +29,7 @@ pub(crate) struct CachedBatch {
     pub(crate) pile: Option<u64>,
 }
 
-/// The batches that an effect can affect.
+/// The batches that an effect may affect.
 #[derive(Clone, Copy)]
 enum AffectedBatches {
     Nothing,
@@ -89,7 +90,7 @@ pub(crate) fn copy_overview(
     })
 }
 
-/// Returns a copy of what is kept of a batch.
+/// Returns a copy of a cache entry.
 pub(crate) fn copy_known(alloc: Global, known: &CachedBatch) -> Result<CachedBatch, AllocError>
     ensures { IfOk result (λ copy. known_view copy ≡ known_view known.now) }
 {
@@ -99,8 +100,8 @@ pub(crate) fn copy_known(alloc: Global, known: &CachedBatch) -> Result<CachedBat
     })
 }
 
-/// Returns the first place, at or after another, at which a batch with this number or a higher one is kept. Places are
-/// only a hint of where to look.
+/// Returns the first index, starting from `from`, of an entry whose batch has this number or a higher one. An index is
+/// only a hint where to look.
 pub(crate) fn next_place(known: &[CachedBatch], from: usize, number: u32) -> usize {
     for place in from..known.len() {
         if known[place].overview.batch.number >= number {
@@ -110,7 +111,7 @@ pub(crate) fn next_place(known: &[CachedBatch], from: usize, number: u32) -> usi
     known.len()
 }
 
-/// Returns what is kept at a place, if it is of a batch with this row.
+/// Returns the entry at this index, if its batch has this row.
 pub(crate) fn known_at<'a>(
     known: &'a [CachedBatch],
     place: usize,
@@ -126,28 +127,28 @@ pub(crate) fn known_at<'a>(
     }
 }
 
-/// Forgets the batch with this number.
+/// Removes the entry of the batch with this number.
 fn forget_batch(known: &mut Vec<CachedBatch>, number: u32)
     ensures { known.new.items ≡ filter (λ k. not (k.overview.batch.number == number)) known.old.items }
 {
     known.retain(|one| one.overview.batch.number != number);
 }
 
-/// Forgets the batches of a ward.
+/// Removes the entries of a ward's batches.
 fn forget_ward(known: &mut Vec<CachedBatch>, ward: u32)
     ensures { known.new.items ≡ filter (λ k. not (k.overview.batch.ward == ward)) known.old.items }
 {
     known.retain(|one| one.overview.batch.ward != ward);
 }
 
-/// Returns whether all of these papers are of the batch with this number.
+/// Returns whether all of these papers belong to the batch with this number.
 fn are_of(papers: &[KeyedPaper], number: u32) -> bool
     ensures { result ≡ list_all (λ k. k.batch == number) papers.now }
 {
     papers.iter().all(|paper| paper.batch == number)
 }
 
-/// Returns the number of the batch that these papers are of, if they are all of one.
+/// Returns the number of the batch that all of these papers belong to, if there is one.
 fn batch_of(papers: &[KeyedPaper]) -> Option<u32>
     ensures { IfSome result (λ number. list_all (λ k. k.batch == number) papers.now ≡ true) }
 {
@@ -159,7 +160,7 @@ fn batch_of(papers: &[KeyedPaper]) -> Option<u32>
     }
 }
 
-/// Returns batches among which are all that an effect can affect.
+/// Returns a set of batches that includes all that an effect may affect.
 fn affected_batches(effect: &Effect) -> AffectedBatches
     ensures { (b : BatchEntry) → concerns result b ≡ false → is_about (effect_entry effect.now) b ≡ false }
 {
@@ -181,7 +182,7 @@ fn affected_batches(effect: &Effect) -> AffectedBatches
     }
 }
 
-/// Forgets all that an effect may change.
+/// Removes all entries that an effect may change.
 pub(crate) fn forget(known: &mut Vec<CachedBatch>, effect: &Effect)
     ensures { (s : OfficeState) (r : ReceiptEntry) → AreKnown s known.old.items
         → AreKnown (with_change (record { effect = effect_entry effect.now; receipt = r }) s) known.new.items }

@@ -1,15 +1,16 @@
-//! A store with a cache: what an open office keeps in memory of its batches.
+//! A store with a cache: what an open office keeps in memory about its batches.
 //!
-//! While the connection is open, all that is remembered is right in the state that the store keeps; this is the
-//! invariant. A change leads from one state to the next, so the invariant needs a state to begin with. Opening an office
-//! shows that there is one if the tables with our names are ours. Here that isn't a premise: there is a memory only if
-//! the schema of the database was found to be exactly an office's (`schemas`). Otherwise everything is read from the
-//! tables, as it is after `create`.
+//! The invariant: while the connection is open, every entry of the cache is correct in the state that the store keeps.
+//! Each change leads from one state to the next, so the invariant needs an initial state. The contract of opening an
+//! office ensures that there is one if the tables with our names are ours. The invariant doesn't rely on that premise:
+//! there is a cache only if the schema of the database was found to be exactly an office's (`schemas`). Otherwise, and
+//! after `create`, everything is read from the tables.
 //!
-//! A read leaves the memory as it is, or refreshes it (`overviews::known`). Before a change is stored, all that it may
-//! change is forgotten (`memory::forget`). A change that failed forgets all.
+//! A read leaves the cache as it is, or refreshes it (`overviews::known`). Before a change is stored, every entry that
+//! it may change is removed (`batch_cache::forget`). If a change fails, the cache is dropped.
 //!
-//! Callers see none of this: a `CachedStore` is its connection, and each call has the clauses of `Store`'s.
+//! Callers see none of this: in contracts a `CachedStore` is its connection, and each call has the clauses of the same
+//! call of `Store`.
 
 ghost use Rattle.std.specs.Prelude.{◌≡◌, ◌⊎◌, [], true, false, None, Err, IfOk, IfErr, IfSome, OnOk, IsTrue, MatchOption};
 ghost use Rattle.std.specs.Option.{IsSomeAnd};
@@ -65,7 +66,7 @@ impl<S: Alter> Model for CachedStore<S> {
     ghost invariant = { λ k. IsTied (state S.Store k.store) k.cache };
 }
 
-/// Forgets all that an effect may change, if there is a memory.
+/// Removes from the cache, if there is one, everything that an effect may change.
 fn forget_in(memory: &mut Option<Vec<CachedBatch>>, effect: &Effect)
     ensures { MatchOption memory.old (memory.new ≡ None) (λ old. IsSomeAnd memory.new (λ new. (s : OfficeState) (r : ReceiptEntry) → AreKnown s old.items
         → AreKnown (with_change (record { effect = effect_entry effect.now; receipt = r }) s) new.items)) }
@@ -76,7 +77,7 @@ fn forget_in(memory: &mut Option<Vec<CachedBatch>>, effect: &Effect)
     }
 }
 
-/// Returns an empty memory, if there is to be one.
+/// Returns an empty cache if `remembers` is true.
 fn new_cache(alloc: Global, remembers: bool) -> Option<Vec<CachedBatch>>
     ensures { IfSome result (λ known. (remembers ≡ true) × (known.items ≡ [])) }
 {
@@ -87,8 +88,8 @@ fn new_cache(alloc: Global, remembers: bool) -> Option<Vec<CachedBatch>>
     }
 }
 
-/// Refreshes the cache, if there is one. If a row can't be read, the cache stays as it was: what isn't in it is read when it
-/// is asked for.
+/// Refreshes the cache, if there is one. If a row can't be read, the cache stays as it was: whatever isn't in it is
+/// read when it is needed.
 fn refresh_cache<S: Alter>(store: &mut Store<S>, cache: &mut Option<Vec<CachedBatch>>)
     ensures reads { OnlyReads (state S.Store store.old) (state S.Store store.new) }
     ensures keeps { HasCleanDisk (state S.Store store.new) → (s : OfficeState) → IsAt s (state S.Store store.old) → IsAt s (state S.Store store.new) }
@@ -103,7 +104,7 @@ fn refresh_cache<S: Alter>(store: &mut Store<S>, cache: &mut Option<Vec<CachedBa
 }
 
 impl<S: Alter> CachedStore<S> {
-    /// Creates the tables of an empty office, as `Store::create` does. Nothing is kept in memory.
+    /// Creates the tables of an empty office, as `Store::create` does. Nothing is cached.
     pub fn create(alloc: Global, conn: Connection<S>) -> Result<Self, (Fault, Connection<S>)>
         ensures made { IfOk result (λ cached_store. HasCleanDisk (state S.Store cached_store) → IsBlank (state S.Store conn) → IsAt empty_office (state S.Store cached_store)) }
         ensures stops { IfErr result (λ e. HasCleanDisk (state S.Store e.1) → IsBlank (state S.Store conn)
@@ -122,8 +123,8 @@ impl<S: Alter> CachedStore<S> {
         }
     }
 
-    /// Opens the office in the connection's database, as `Store::open_from` does. If the database has exactly the tables
-    /// of an office, the standing of each batch is read into memory.
+    /// Opens the office in the connection's database, as `Store::open_from` does. If the database has exactly the
+    /// tables of an office, the standing of each batch is read into the cache.
     pub fn open_from(alloc: Global, conn: Connection<S>) -> Result<Self, (Fault, Connection<S>)>
         ensures opened { IfOk result (λ cached_store. HasCleanDisk (state S.Store cached_store) → (db : Database) → IsOurs db.schema → RestsAt db (state S.Store conn)
             → (s : OfficeState) × HoldsState db s × IsAt s (state S.Store cached_store)) }
@@ -173,8 +174,8 @@ impl<S: Alter> CachedStore<S> {
         self.store.load_view(actor, id, command)
     }
 
-    /// Writes a change in one transaction, as `Store::commit` does, and forgets what it may change. It must be one that
-    /// leads from the state that the store keeps to another.
+    /// Writes a change in one transaction, as `Store::commit` does, and removes from the cache what the change may
+    /// affect. It must be a change that leads from the state that the store keeps to another state.
     pub fn commit(&mut self, change: &Change) -> Result<(), Fault>
         requires opened { IsOpen S.Store self.old }
         requires leads { HasCleanDisk (state S.Store self.old) → IsTrue (state S.Store self.old).is_open → (s : OfficeState) → IsAt s (state S.Store self.old)

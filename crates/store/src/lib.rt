@@ -4,13 +4,13 @@
 //! finds the state that the rows of a database represent. `commit` stores a change in one transaction, entirely or not
 //! at all. `load_view` reads the part of the state that one request needs. `load_status`, `load_next` and
 //! `load_columns` read the status of a ward, its next step, and the columns of a batch's papers; `load_work` reads the
-//! batches that a clerk keys, and `load_earlier_keying` what the clerk keyed of one in an earlier round. `load_sheet`
-//! and `load_counted` read what the texts of a ward are written from, and `load_book` reads its stored count.
-//! `load_wards`, `load_batches`, `load_doubtful`, `load_batch_papers`, `load_differences` and `load_receipts` read the
-//! overviews. `load_differs_from_stored` compares a repeated request with what is stored of it. `migrate` brings an
-//! office that an earlier program made up to this version, and `copy` copies an office into another database.
-//! `read_office` reads a whole office. `Store::copy_to` and `Store::rows` do the same for an open office. `Fault` is
-//! the reason why a call failed.
+//! batches that a clerk keys, and `load_earlier_keying` reads the papers of a batch that the clerk keyed in an earlier
+//! round. `load_sheet` and `load_counted` read the data from which a ward's sheet and declaration are written, and
+//! `load_book` reads the ward's stored count. `load_wards`, `load_batches`, `load_doubtful`, `load_batch_papers`,
+//! `load_differences` and `load_receipts` read the overviews. `load_differs_from_stored` compares a repeated request
+//! with the data that is stored for it. `migrate` brings an office, made by an earlier program, up to this version, and
+//! `copy` copies an office into another database. `read_office` reads a whole office. `Store::copy_to` and
+//! `Store::rows` do the same for an open office. `Fault` is the reason why a call failed.
 //!
 //! ```text
 //! let mut store = Store::open_from(alloc, conn)?;
@@ -18,7 +18,7 @@
 //! store.commit(&change)?;
 //! ```
 //!
-//! The crate `tables` has the statements on any table; this one defines the rows of a state.
+//! The crate `tables` has the statements on any table; this crate defines the rows of a state.
 #![tactic(auto)]
 
 mod batch_cache;

@@ -1,4 +1,4 @@
-//! An office that an earlier program made: which tables it has, and the state that they represent.
+//! An office that an earlier program made: its tables, and the state that they represent.
 
 ghost use Rattle.std.specs.Prelude.{◌≡◌, ◌≢◌, false, [], IfOk, IfErr, IfSome, IfNone, OnOk, IsTrue};
 ghost use Rattle.std.specs.List.{list_any};
@@ -27,23 +27,23 @@ use std::alloc::Global;
 use tables::Fault;
 use tables::presence::{TablesPresent, tables_present};
 
-/// Which tables an older office has.
+/// The set of tables that an older office has.
 #[derive(Clone, Copy, PartialEq, Eq)]
 pub enum OlderForm {
-    /// All but the table of third clerks.
+    /// All tables but that of third clerks.
     WithCounts,
-    /// As in `WithCounts`, but also without the two tables of the tabulation of the counts.
+    /// As in `WithCounts`, but also without the two tables for the tabulation of the counts.
     WithoutCounts,
 }
 
-/// An older office, and the part of the tabulation of its counts that it lacks.
+/// The form of an older office, and the part of the tabulation of its counts that it lacks.
 #[derive(Drop)]
 pub(crate) struct Older {
     pub(crate) form: OlderForm,
     pub(crate) missing: Addition,
 }
 
-/// Returns which tables the database of an older office has, if it has those of one.
+/// Returns which tables a database has, if they are those of an older office.
 fn older_form<S: Alter>(conn: &Connection<S>) -> Option<OlderForm>
     ensures some { IfSome result (λ form. tables_present (state S.Store conn.now).now.schema ≡ name_of form) }
     ensures none { IfNone result ((form : OlderForm) → tables_present (state S.Store conn.now).now.schema ≢ name_of form) }
@@ -57,8 +57,8 @@ fn older_form<S: Alter>(conn: &Connection<S>) -> Option<OlderForm>
     }
 }
 
-/// Returns the entries of the tables of an older office, those of each table in key order. `Damaged` if the rows are
-/// not those of any state.
+/// Returns the entries of an older office's tables, each table's in key order. `Damaged` if the rows are not those of
+/// any state.
 fn older_rows<S: Alter>(
     alloc: Global,
     conn: &mut Connection<S>,
@@ -76,14 +76,14 @@ fn older_rows<S: Alter>(
     }
 }
 
-/// Returns whether a receipt is about a third clerk, a subject that no program before this one had.
+/// Returns whether a receipt is about a third clerk; no earlier program had that subject.
 fn is_about_third(subject: &str) -> bool
     ensures { result ≡ is_about_third subject.now }
 {
     subject.as_bytes().starts_with(b"third ")
 }
 
-/// Returns whether some receipt is about a third clerk.
+/// Returns whether any receipt is about a third clerk.
 fn are_about_thirds(receipts: &[Receipt]) -> bool
     ensures { result ≡ list_any (λ (r : ReceiptValue). is_about_third (receipt_entry r).subject) receipts.now }
 {
@@ -92,7 +92,7 @@ fn are_about_thirds(receipts: &[Receipt]) -> bool
         .any(|receipt| is_about_third(&receipt.subject))
 }
 
-/// Returns the part of the tabulation that an office of this form lacks, if the part that it has is right.
+/// Returns the part of the tabulation that an office of this form lacks, if the part that it has is correct.
 fn missing_tabulation(
     alloc: Global,
     form: OlderForm,
@@ -120,8 +120,8 @@ fn missing_tabulation(
     }
 }
 
-/// Returns what an older office lacks, if its rows, in key order, are those of a state: they meet every condition, and
-/// no receipt is about a third clerk. An error is `Memory`.
+/// Returns what an older office lacks, if its rows, which are in key order, are those of a state: they meet every
+/// condition, and no receipt is about a third clerk. The only error is `Memory`.
 fn missing_of(alloc: Global, form: OlderForm, rows: &Rows) -> Result<Option<Addition>, Fault>
     requires rise { MapsAreSorted (state_of rows.now) }
     requires bare { IsBare form (state_of rows.now) (tabulated rows.now) }
@@ -164,7 +164,7 @@ fn read_form<S: Alter>(
     }
 }
 
-/// Reads an older office, and changes nothing. `Damaged` if the tables that the database has are not those of an older
+/// Reads an older office, and changes nothing. `Damaged` if the tables of the database are not those of an older
 /// office, or if the rows are not those of any state.
 pub(crate) fn read_older<S: Alter>(alloc: Global, conn: &mut Connection<S>) -> Result<Older, Fault>
     requires { conn.old.in_transaction ≡ false }

@@ -52,7 +52,7 @@ fn check_row(row: &Row) -> Result<(), Fault>
     Ok(())
 }
 
-/// Checks that there is one row, that of an office of this program's version.
+/// Checks that there is exactly one row, that of an office of this program's version.
 fn check_rows(rows: &[Row]) -> Result<(), Fault>
     ensures version { OnOk result ((row : _) × (rows.now ≡ row ∷ []) × IsVersion this_version row) }
     ensures told { IfErr result (FaultOfRows rows.now) }
@@ -67,8 +67,8 @@ fn check_rows(rows: &[Row]) -> Result<(), Fault>
     Ok(())
 }
 
-/// Checks that the office table has the row of this version; faults are returned in the order in which opening an
-/// office reports them.
+/// Checks that the office table has the row of this version, and returns faults in the order in which opening an office
+/// reports them.
 fn check_office<S: Alter>(alloc: Global, conn: &mut Connection<S>) -> Result<(), Fault>
     requires { conn.old.in_transaction ≡ false }
     ensures holds { HasCleanDisk (state S.Store conn.new) → (db : Database) → BeginsTo Table.Office db.schema → IsDatabase db → RestsAt db (state S.Store conn.old)
@@ -88,7 +88,8 @@ fn check_office<S: Alter>(alloc: Global, conn: &mut Connection<S>) -> Result<(),
     Ok(())
 }
 
-/// Returns the tabulation of the counts of maps in key order, if they are a state. An error is `Memory`.
+/// Returns the tabulation of the counts, if these maps, which are in key order, are a state. The only error is
+/// `Memory`.
 pub(crate) fn tabulation_of_state(alloc: Global, rows: &Rows) -> Result<Option<Tabulation>, Fault>
     requires { MapsAreSorted (state_of rows.now) }
     ensures some { IfOk result (λ found. IfSome found (λ t. IsTabulatedAs (state_of rows.now) (tabulation_entries t))) }
@@ -120,7 +121,8 @@ pub(crate) fn tabulation_of_state(alloc: Global, rows: &Rows) -> Result<Option<T
     }
 }
 
-/// Returns whether maps in key order are a state with this tabulation of its counts. An error is `Memory`.
+/// Returns whether these maps, which are in key order, are a state with this tabulation of its counts. The only error
+/// is `Memory`.
 fn are_of_state(alloc: Global, rows: &Rows) -> Result<bool, Fault>
     requires { MapsAreSorted (state_of rows.now) }
     ensures some { IfOk result (λ yes. yes ≡ true → IsTabulatedAs (state_of rows.now) (tabulated rows.now)) }
@@ -134,7 +136,7 @@ fn are_of_state(alloc: Global, rows: &Rows) -> Result<bool, Fault>
     }
 }
 
-/// Returns the rows of all tables but the office table, once they are checked to be those of a state.
+/// Returns the rows of all tables but the office table, after checking that they are those of a state.
 fn checked_tables<S: Alter>(alloc: Global, conn: &mut Connection<S>) -> Result<Rows, Fault>
     requires { conn.old.in_transaction ≡ false }
     ensures holds { HasCleanDisk (state S.Store conn.new) → (db : Database) → IsOfficeSchema db.schema → IsDatabase db → RestsAt db (state S.Store conn.old)

@@ -1,8 +1,8 @@
-//! Whether a database has exactly the tables of an office.
+//! Checks whether a database has exactly the tables of an office.
 //!
-//! When an office is opened, only the names of tables are compared; that the tables with our names are ours is a premise
-//! of opening. Here it is shown: an office is made in memory, and the schema of the database is compared with its schema,
-//! definition by definition. A database that also has other tables is not recognised.
+//! When an office is opened, only the names of tables are compared; that the tables with our names are ours is a
+//! premise of opening. Here it is checked: an office is created in memory, and the schema of the database is compared
+//! with its schema, definition by definition. A database that also has other tables isn't recognised.
 
 ghost use Rattle.std.specs.Prelude.{◌≡◌, true, IfOk, IsTrue};
 ghost use Rattle.sqlite.specs.Held.{state};
@@ -21,7 +21,7 @@ use sqlite_value::value::{Bytes, Value};
 use std::alloc::Global;
 use tables::Fault;
 
-/// A part of a schema, which can be compared with another.
+/// A part of a schema that can be compared with another.
 trait Alike {
     /// Returns true only if this is the same as `other`; false doesn't mean that they differ.
     fn is_same(&self, other: &Self) -> bool
@@ -153,7 +153,7 @@ fn same_names(one: &Table, other: &Table) -> bool
         && one.is_counted == other.is_counted
 }
 
-/// Returns true only if two tables have the same columns, and the same of them are unique.
+/// Returns true only if two tables have the same columns, and the same columns are unique in both.
 fn same_columns(one: &Table, other: &Table) -> bool
     ensures { result ≡ true → (one.now.columns ≡ other.now.columns) × (one.now.primary ≡ other.now.primary) × (one.now.uniques ≡ other.now.uniques) × (one.now.orders ≡ other.now.orders) }
 {
@@ -163,7 +163,7 @@ fn same_columns(one: &Table, other: &Table) -> bool
         && one.orders.is_same(&other.orders)
 }
 
-/// Returns true only if two tables that refer to no other have the same rules.
+/// Returns true only if two tables have the same rules, and neither refers to another table.
 fn same_rules(one: &Table, other: &Table) -> bool
     ensures { result ≡ true → (one.now.checks ≡ other.now.checks) × (one.now.references ≡ other.now.references) × (one.now.computed ≡ other.now.computed) × (one.now.stamps ≡ other.now.stamps) }
 {
@@ -212,7 +212,7 @@ impl Alike for Schema {
     }
 }
 
-/// Makes an empty office in memory.
+/// Creates an empty office in memory.
 fn new_office(alloc: Global) -> Result<Connection<MemStore>, Fault>
     ensures { IfOk result (λ conn. IsOfficeSchema (state over_memory conn).now.schema) }
 {
@@ -235,7 +235,7 @@ fn has_office_schema<S: Alter>(alloc: Global, conn: &Connection<S>) -> bool
     }
 }
 
-/// Returns whether a connection is outside a transaction, to a database that has the tables of an office and no others.
+/// Returns whether a connection is outside a transaction, and its database has the tables of an office and no others.
 pub(crate) fn may_be_remembered<S: Alter>(alloc: Global, conn: &Connection<S>) -> bool
     ensures schema { result ≡ true → IsOfficeSchema (state S.Store conn.now).now.schema }
     ensures rests { result ≡ true → IsTrue (state S.Store conn.now).is_open → RestsAt (state S.Store conn.now).now (state S.Store conn.now) }

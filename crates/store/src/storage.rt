@@ -29,7 +29,7 @@ use std::marker::Model;
 use tables::Fault;
 use tables::presence::{has_every_table, has_some_table};
 
-/// A connection between two transactions, to the tables of an office. Contracts see it as that connection.
+/// A connection, between two transactions, to the tables of an office. Contracts see it as that connection.
 pub struct Store<S: Alter> {
     pub(crate) conn: Connection<S>,
     pub(crate) alloc: Global,
@@ -70,8 +70,8 @@ fn commit_change<S: Alter>(
     Ok(())
 }
 
-/// Creates the tables of an empty office in one transaction. If there are other tables, nothing in `sqlite`'s clauses
-/// guarantees which tables the statements made, so this checks that each exists.
+/// Creates the tables of an empty office in one transaction. If the database already has other tables, nothing in
+/// `sqlite`'s clauses guarantees which tables the statements created, so this checks that each of ours exists.
 fn commit_new_office<S: Alter>(conn: &mut Connection<S>) -> Result<(), Fault>
     requires { conn.old.in_transaction ≡ false }
     ensures done { HasCleanDisk (state S.Store conn.new) → IsBlank (state S.Store conn.old) → OnOk result (Rests (tables_of empty_office) (state S.Store conn.new)) }
@@ -92,7 +92,7 @@ fn commit_new_office<S: Alter>(conn: &mut Connection<S>) -> Result<(), Fault>
 }
 
 /// Does nothing; it is a lemma for callers. Rows determine their state: states with equal tables are equal, so a
-/// database represents one state.
+/// database represents at most one state.
 fn tables_determine_states()
     ensures equal { (s t : OfficeState) → IsState s → IsState t → SameContents (tables_of s) (tables_of t) → s ≡ t }
     ensures alone { (db : Database) → (s t : OfficeState) → HoldsState db s → HoldsState db t → s ≡ t }
@@ -101,8 +101,9 @@ fn tables_determine_states()
 impl<S: Alter> Store<S> {
     /// Creates the tables of an empty office in the connection's database.
     ///
-    /// `WrongDatabase` if a table with the name of one of ours already exists; then nothing is changed. `Store` also if
-    /// the connection is inside a transaction. After any other fault there are either all tables or none.
+    /// Returns `WrongDatabase` if a table with the name of one of ours already exists; then nothing is changed. Returns
+    /// `Store` also if the connection is inside a transaction. After any other fault there are either all tables or
+    /// none.
     pub fn create(alloc: Global, mut conn: Connection<S>) -> Result<Self, (Fault, Connection<S>)>
         ensures made { IfOk result (λ store. HasCleanDisk (state S.Store store) → IsBlank (state S.Store conn) → IsAt empty_office (state S.Store store)) }
         ensures stops { IfErr result (λ e. HasCleanDisk (state S.Store e.1) → IsBlank (state S.Store conn)
@@ -129,10 +130,10 @@ impl<S: Alter> Store<S> {
 
     /// Opens the office in the connection's database, and changes nothing.
     ///
-    /// `WrongDatabase` if there is no office table or no row in it. `OlderSchema` if an earlier program made the
-    /// office, and `NewerSchema` if a later one did. `Damaged` if the rows are not the tables of any state. `Store` if
-    /// the store failed, if rowids aren't distinct integers, or if the connection is inside a transaction. With a fault
-    /// the connection is returned, its database unchanged.
+    /// Returns `WrongDatabase` if there is no office table or no row in it; `OlderSchema` if an earlier program made
+    /// the office, and `NewerSchema` if a later one did; `Damaged` if the rows are not the tables of any state; and
+    /// `Store` if the store failed, if rowids aren't distinct integers, or if the connection is inside a transaction.
+    /// The connection is returned with the fault, its database unchanged.
     pub fn open_from(alloc: Global, mut conn: Connection<S>) -> Result<Self, (Fault, Connection<S>)>
         ensures opened { IfOk result (λ store. HasCleanDisk (state S.Store store) → (db : Database) → IsOurs db.schema → RestsAt db (state S.Store conn)
             → (s : OfficeState) × HoldsState db s × IsAt s (state S.Store store)) }
@@ -161,8 +162,9 @@ impl<S: Alter> Store<S> {
         }
     }
 
-    /// Writes a change in one transaction, entirely or not at all. After a fault either the old tables or the new ones
-    /// may be found. Every fault occurs inside the transaction: the first call begins it, allocates nothing and can't fail.
+    /// Writes a change in one transaction, entirely or not at all. After a fault, either the old tables or the new ones
+    /// may be found. Every fault occurs inside the transaction: the first call begins it, allocates nothing and can't
+    /// fail.
     pub fn commit(&mut self, change: &Change) -> Result<(), Fault>
         ensures done { HasCleanDisk (state S.Store self.new) → IsTrue (state S.Store self.old).is_open → (s : OfficeState) → IsAt s (state S.Store self.old)
             → IsTabulated s change.now → IsState (with_change (change_entry change.now) s) → OnOk result (IsAt (with_change (change_entry change.now) s) (state S.Store self.new)) }
@@ -185,14 +187,14 @@ impl<S: Alter> Store<S> {
         copy_between(self.alloc, &mut self.conn, copy)
     }
 
-    /// Returns all entries of the office, those of each table in key order. The office is only read.
+    /// Returns all entries of the office, each table's in key order. The office is only read.
     pub fn rows(&mut self) -> Result<Rows, Fault>
         ensures { ReadsOffice (state S.Store self.old) (state S.Store self.new) result }
     {
         read_office(self.alloc, &mut self.conn)
     }
 
-    /// Returns the allocator for what is read.
+    /// Returns the allocator for everything that is read.
     pub(crate) fn allocator(&self) -> Global {
         self.alloc
     }

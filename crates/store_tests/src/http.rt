@@ -1,5 +1,5 @@
-//! Clients that connect at the same time: their requests arrive in parts, their connections break, they are silent, or they are too
-//! many; and the work of clerks whose numbers no client can send.
+//! Clients that connect at the same time: requests arrive in parts, connections break, clients stay silent, or too many connect.
+//! Also requests for the work of clerks whose numbers no client can send.
 
 use super::begun::{BAD_REQUEST, BEGUN, KEYED, KEYING};
 use super::clients::{Evening, TestClient, TestClients};
@@ -12,10 +12,10 @@ use std::alloc::{AllocError, Global};
 use std::process::Abort;
 use std::test::Fail;
 
-/// The work of clerk 4 after keying.
+/// Clerk 4's work after keying.
 const FOUR_KEYED: &str = "batch 12 ward 7 [1, 2, 3] size 2 round 1: keyed\n";
 
-/// The output for a number that isn't a clerk's.
+/// The output for a number that is not a clerk's.
 const NO_CLERK: &str = "refused 3: number out of range\n";
 
 /// Requests for the work of clerk 4 and of clerk 9, and for a sheet that doesn't exist yet.
@@ -46,7 +46,7 @@ struct Case<'a> {
     end: &'a str,
 }
 
-/// The responses that clients get, with a line feed between each two.
+/// Returns the responses that clients get, separated by line feeds.
 fn taken(alloc: Global, texts: &[&str]) -> Result<String, Fail> {
     let mut all = String::new(alloc);
     for (place, text) in texts.iter().enumerate() {
@@ -69,7 +69,7 @@ fn serve<M: TestHost + Drop>(
     expect(rt, host, &[(Step::Serve(case.evening), told)])
 }
 
-/// All clients of an evening connect and are closed.
+/// Serves an evening; all of its clients connect and are closed.
 fn serve_all<M: TestHost + Drop>(
     rt: &(impl Abort + AllocGlobal),
     host: M,
@@ -88,8 +88,8 @@ fn serve_all<M: TestHost + Drop>(
     )
 }
 
-/// Clients that connect at the same time send their requests in parts. Each request is processed once it is complete: one for a
-/// clerk's work before the clerk's keying is complete, and one after it.
+/// Clients that connect at the same time send their requests in parts. Each request is processed once it is complete: one request
+/// for clerk 4's work before that clerk's keying is complete, and one after it.
 fn have_their_turns<M: TestHost + Drop>(
     rt: &(impl Abort + AllocGlobal),
     host: M,
@@ -119,8 +119,8 @@ fn have_their_turns<M: TestHost + Drop>(
     serve_all(rt, host, Evening::of(&clients), &texts)
 }
 
-/// Connections break at each byte of the request, of which nothing is stored. They break at each byte of the response: to the
-/// keying of the first of those clients, and to its repetition by the others.
+/// Connections break at each byte of the request, and nothing of it is stored. They then break at each byte of the response: to
+/// the keying by the first of those clients, and to its repetition by the others.
 fn break_at_each_byte<M: TestHost + Drop>(
     rt: &(impl Abort + AllocGlobal),
     host: M,
@@ -145,8 +145,8 @@ fn break_at_each_byte<M: TestHost + Drop>(
     serve_all(rt, host, Evening::of(&untold), &fronts)
 }
 
-/// A client that is silent, one that sends a byte now and then, and one that accepts nothing of its response are closed by a clock
-/// that jumps by ten seconds. The others get their responses meanwhile.
+/// A silent client, one that sends a byte now and then, and one that accepts nothing of its response are closed when the clock
+/// jumps by ten seconds. The others get their responses meanwhile.
 fn are_let_go<M: TestHost + Drop>(rt: &(impl Abort + AllocGlobal), host: M) -> Result<M, Fail> {
     let clients = [
         Some(TestClient::silent()),
@@ -164,7 +164,7 @@ fn are_let_go<M: TestHost + Drop>(rt: &(impl Abort + AllocGlobal), host: M) -> R
     serve_all(rt, host, evening, &["", "", "", NINE_TO_KEY])
 }
 
-/// The clients, the number of them after which serving ends, and how it must end.
+/// Returns a case: the clients, the number of them after which serving ends, and how it must end.
 fn wanted<'a>(
     clients: TestClients<'a>,
     connections: Option<u64>,
@@ -183,7 +183,8 @@ fn wanted<'a>(
     }
 }
 
-/// Connections that can't be accepted don't count. A network that fails ends serving, and earlier responses remain valid.
+/// Connections that fail as they are accepted don't count. If the network fails, serving ends, and responses that were already
+/// sent remain valid.
 fn are_not_let_in<M: TestHost + Drop>(rt: &(impl Abort + AllocGlobal), host: M) -> Result<M, Fail> {
     let work = Some(TestClient::whole(FOUR));
     let (one, late, between) = ([work], [None, work], [work, None, work]);
@@ -206,10 +207,11 @@ const CROWD: usize = 600;
 
 const MOST: usize = 512;
 
-/// Of the crowd, these ask for a clerk's work, three bytes at a time, and the network reports only them as ready.
+/// The clients in the crowd that ask for a clerk's work. They send three bytes at a time, and the network reports only them as
+/// ready.
 const ASKING: &[usize] = &[0, CROWD - MOST - 1, CROWD - MOST, MOST, CROWD - 1];
 
-/// A crowd of clients; those that send nothing are silent.
+/// Returns a crowd of clients; all but those in `ASKING` are silent.
 fn crowd<'a>(alloc: Global) -> Result<Vec<Option<TestClient<'a>>>, Fail> {
     let mut clients = Vec::new(alloc);
     for place in 0..CROWD {
@@ -225,7 +227,7 @@ fn crowd<'a>(alloc: Global) -> Result<Vec<Option<TestClient<'a>>>, Fail> {
     Ok(clients)
 }
 
-/// The responses to a crowd of which only these places get one.
+/// Returns the responses to a crowd in which only the clients at these places get one.
 fn crowds_texts(alloc: Global, answered: &[usize]) -> Result<Vec<&'static str>, Fail> {
     let mut texts = Vec::new(alloc);
     for place in 0..CROWD {
@@ -239,8 +241,9 @@ fn crowds_texts(alloc: Global, answered: &[usize]) -> Result<Vec<&'static str>, 
     Ok(texts)
 }
 
-/// If more clients connect than may, those that have waited longest are closed, of a crowd of 600 the first 88. None is closed for
-/// that reason before it has waited a second: if no time passes, a new connection waits until another is closed.
+/// If more clients connect than may be connected, those that have waited longest are closed: the first 88 of a crowd of 600. No
+/// client is closed for that reason before it has waited a second: if no time passes, a new connection waits until another is
+/// closed.
 fn are_too_many<M: TestHost + Drop>(rt: &(impl Abort + AllocGlobal), host: M) -> Result<M, Fail> {
     let alloc = rt.alloc();
     let clients = crowd(alloc)?;
@@ -269,7 +272,7 @@ fn are_too_many<M: TestHost + Drop>(rt: &(impl Abort + AllocGlobal), host: M) ->
     )
 }
 
-/// A file of codes; and requests for the work of clerk 4 with the clerk's code, with a wrong one, and with none.
+/// A file of codes; and requests for clerk 4's work with that clerk's code, with a wrong one, and with none.
 const CODES: &str = "4 kf7m-2wxt\n9 w3hd-4psn\n";
 
 const BY_HIS_CODE: &[u8] =
@@ -282,8 +285,8 @@ const BY_A_WRONG_ONE: &[u8] =
 const UNAUTHORIZED: &str =
     "HTTP/1.1 401 Unauthorized\r\nContent-Type: application/json\r\nContent-Length: 24\r\nWWW-Authenticate: Basic realm=\"clerk 4\", charset=\"UTF-8\"\r\nConnection: close\r\n\r\n{\"error\":\"unauthorized\"}";
 
-/// Requests and their responses: clerk 4's work only for that clerk's code, also when the response was cached, and after wrong
-/// codes too. A sheet is public.
+/// Requests and their responses. Clerk 4's work is returned only for that clerk's code, even if the response was cached, and even
+/// after wrong codes were sent. A sheet is public.
 const AT_THE_GATE: [(&[u8], &str); 18] = [
     (BY_HIS_CODE, FOUR_TO_KEY),
     (BY_HIS_CODE, FOUR_TO_KEY),
@@ -305,7 +308,7 @@ const AT_THE_GATE: [(&[u8], &str); 18] = [
     (SHEET, WRONG_PHASE),
 ];
 
-/// The clients of an office with codes.
+/// Returns the clients of an office with codes.
 fn clients_with_codes<'a>(alloc: Global) -> Result<Vec<Option<TestClient<'a>>>, AllocError> {
     let mut clients = Vec::new(alloc);
     for (sends, _) in &AT_THE_GATE {
@@ -314,7 +317,7 @@ fn clients_with_codes<'a>(alloc: Global) -> Result<Vec<Option<TestClient<'a>>>, 
     Ok(clients)
 }
 
-/// The responses to them.
+/// Returns the responses to them.
 fn responses_at_gate(alloc: Global) -> Result<Vec<&'static str>, AllocError> {
     let mut texts = Vec::new(alloc);
     for (_, told) in &AT_THE_GATE {
@@ -323,7 +326,7 @@ fn responses_at_gate(alloc: Global) -> Result<Vec<&'static str>, AllocError> {
     Ok(texts)
 }
 
-/// An evening with codes: only a clerk's own code gets that clerk's work.
+/// Serves an office with codes: only a clerk's own code gets that clerk's work.
 fn come_with_codes<M: TestHost + Drop>(
     rt: &(impl Abort + AllocGlobal),
     host: M,
@@ -337,8 +340,8 @@ fn come_with_codes<M: TestHost + Drop>(
     serve_all(rt, host, evening, &texts)
 }
 
-/// Of bodies of a megabyte each, 63 may be in memory at once. If one more arrives, the client that has waited longest is closed,
-/// and no other.
+/// If bodies are a megabyte each, 63 of them may be in memory at once. When one more arrives, the client that has waited longest
+/// is closed, and no other.
 fn hold_too_much<M: TestHost + Drop>(rt: &(impl Abort + AllocGlobal), host: M) -> Result<M, Fail> {
     let alloc = rt.alloc();
     let head = b"POST /clerks/4/batches/12/keying HTTP/1.1\r\nContent-Length: 1048576\r\n\r\n";
@@ -346,7 +349,7 @@ fn hold_too_much<M: TestHost + Drop>(rt: &(impl Abort + AllocGlobal), host: M) -
     body.resize(body.len() + (1 << 20), 0xff)?;
     let all_but_one = body.len().saturating_sub(1);
     let slow_client = TestClient::slow(body.as_slice(), all_but_one);
-    // Most never send their last byte.
+    // Most clients never send their last byte.
     let waits = TestClient {
         sends: body.get(..all_but_one).unwrap_or(&[]),
         closes_after_sending: false,
@@ -362,7 +365,7 @@ fn hold_too_much<M: TestHost + Drop>(rt: &(impl Abort + AllocGlobal), host: M) -
     serve(rt, host, wanted(&clients, None, &texts, "Err(Network)"))
 }
 
-/// Requests for work that no client can send.
+/// Asks for work under numbers that no client can send.
 fn works<M: TestHost + Drop>(rt: &(impl Abort + AllocGlobal), host: M) -> Result<M, Fail> {
     expect(
         rt,

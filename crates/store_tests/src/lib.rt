@@ -1,6 +1,5 @@
-//! Tests on stores that only code in the same process can make: stores, outputs and clients that fail, and calls that no order
-//! makes. (Refusals, replies, words, overviews and rows that no office has are played by
-//! examples/transcripts.sh.)
+//! Tests of stores that only code in the same process can create: stores, outputs and clients that fail, and calls that no order
+//! makes. (Refusals, replies, words, overviews, and rows that no office has are played by examples/transcripts.sh.)
 //!
 //! A crate's tests are proved together with the whole crate. Here they load only the statements of `desk`, so the program isn't
 //! proved a second time.
@@ -15,7 +14,7 @@ mod transcripts;
 // An office on a host of any kind.
 #[cfg(test)]
 mod test_host;
-// The one store of these tests.
+// The only store of these tests.
 #[cfg(test)]
 mod disks;
 // Clients over HTTP.

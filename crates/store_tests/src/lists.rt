@@ -1,4 +1,4 @@
-//! A list of requests, handed to an office at once.
+//! A list of requests that an office processes in one call.
 
 use super::disks::Disks;
 use super::steps::Step;
@@ -8,7 +8,7 @@ use std::alloc::{AllocError, Global};
 use std::process::Abort;
 use std::test::Fail;
 
-/// A request of an actor with an id.
+/// Returns a request by an actor, with this id.
 fn asked(alloc: Global, actor: u32, id: &str, command: WardCommand) -> Result<Request, AllocError> {
     Ok(Request {
         actor,
@@ -17,7 +17,7 @@ fn asked(alloc: Global, actor: u32, id: &str, command: WardCommand) -> Result<Re
     })
 }
 
-/// Ward 7, of two seats.
+/// Returns the command that adds ward 7, of two seats.
 fn harbour(alloc: Global) -> Result<WardCommand, AllocError> {
     Ok(WardCommand::Add {
         ward: 7,
@@ -26,8 +26,8 @@ fn harbour(alloc: Global) -> Result<WardCommand, AllocError> {
     })
 }
 
-/// The answers to the office for this command, for its repetition, and for the same under another id; to a clerk, since only the
-/// office may send it; and to the office for closing a ward without candidates.
+/// The answers: to the office, for this command, for its repetition, and for the same command under another id; to a clerk,
+/// because only the office may send it; and to the office, for closing a ward without candidates.
 const ANSWERS: &str = "done: ward 7 added
 kept: ward 7 added
 refused 6: ward exists

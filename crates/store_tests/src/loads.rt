@@ -1,4 +1,4 @@
-//! The papers and the count of a ward as the store reads them, call by call.
+//! A ward's papers and count as the store reads them, call by call.
 
 use super::begun::{
     DIFFERING, FOUR_COMES_LATE, GIVEN_OUT, NOMINATED, PAPER_BY_PAPER, SEALED, SET, TWO_STAGES,
@@ -21,7 +21,7 @@ fn read<T>(loaded: Result<T, Fault>) -> Result<T, Fail> {
     }
 }
 
-/// Appends one line per bundle: its list, and its number of papers.
+/// Appends one line per bundle: its list, and the number of its papers.
 fn write_bundles<S: Alter>(text: &mut String, store: &mut Store<S>, ward: u32) -> Result<(), Fail> {
     let ballots = read(store.load_bundles(ward))?;
     for (list, papers) in ballots.papers.iter() {
@@ -96,7 +96,7 @@ rejected [0, 0, 0, 0, 0]
 lots []
 ";
 
-/// Two batches of as many equal papers as one may have.
+/// Two batches, each of as many papers as a batch may have, all equal.
 const TWO_BATCHES: &str = "$ close 7 --id n1
 ward 7 polled
 $ batch 12 7 500 4 9 --id b1
@@ -112,7 +112,7 @@ no book
 lots []
 ";
 
-/// A batch on which clerks 5 and 9 agree, but not clerk 4, who has the lowest number.
+/// A batch on which clerks 5 and 9 agree, but not clerk 4, whose number is the lowest.
 const LATE_LOADS: &str = "2 papers
 [1, 2] 1
 [3] 1
@@ -130,7 +130,7 @@ const LATE: &[Act] = &[
     Act::Typed(FOUR_COMES_LATE),
 ];
 
-/// Compares what is read of ward 7 before it is sealed and after: the papers are then read in another order.
+/// Reads ward 7 before it is sealed and after, when papers are read in another order; the results must be equal.
 fn read_twice<M: TestHost + Drop>(
     rt: &(impl Abort + AllocGlobal),
     host: M,
@@ -144,7 +144,7 @@ fn read_twice<M: TestHost + Drop>(
     Ok(())
 }
 
-/// Both clerks of both batches key the same list on each paper.
+/// Both clerks of both batches key the same list on every paper.
 fn thousand_papers<M: TestHost + Drop>(rt: &(impl Abort + AllocGlobal)) -> Result<M, Fail> {
     let mut rows = String::from_str(rt.alloc(), "< paper,1,2,3\n")?;
     for paper in 1..=500 {
@@ -160,7 +160,7 @@ fn thousand_papers<M: TestHost + Drop>(rt: &(impl Abort + AllocGlobal)) -> Resul
     Ok(host)
 }
 
-/// Compares what is read of the worked ward before its first stage, and after its second.
+/// Checks what is read for the worked ward before its first stage, and after its second.
 fn read_in_count<M: TestHost + Drop>(rt: &(impl Abort + AllocGlobal)) -> Result<(), Fail> {
     let host: M = run_parts(rt, SEALED)?;
     let host = expect(rt, host, &[(Step::Loads(7), (0, SEALED_LOADS, ""))])?;

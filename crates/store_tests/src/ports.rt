@@ -1,4 +1,4 @@
-//! Connections over loopback, in one process with their clients.
+//! Connections over loopback, in the same process as their clients.
 
 use super::begun::{BAD_REQUEST, BEGUN, KEYED, KEYING};
 use super::clients::{Jumping, Port};
@@ -34,7 +34,7 @@ fn serve<M: TestHost + Drop>(rt: &(impl Abort + AllocGlobal), port: &Port) -> Re
     Ok(())
 }
 
-/// The first of three clients is silent. It delays no other, and is closed.
+/// The first of three clients is silent. It delays neither of the others, and is closed.
 #[test]
 fn connections_are_answered_side_by_side(rt: HostRuntime) -> Result<(), Fail> {
     let listener = TcpListener::bind(&rt, SocketAddr::from((Ipv4Addr::LOCALHOST, 0)))?;

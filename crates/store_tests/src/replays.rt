@@ -11,7 +11,7 @@ use std::test::Fail;
 
 const MADE: &[Act] = &[Act::Typed("$ init\noffice ready\n")];
 
-/// The requests of a script that is stopped, one order at a time.
+/// The requests of the script, as one order each.
 const REQUESTS: &str = "$ ward 7 1 Harbour --id w1
 ward 7 added
 $ import-candidates FILE --id c
@@ -34,13 +34,13 @@ $ import-keying 4 12 1 FILE --id k1
 batch 12 round 1 keyed
 ";
 
-/// The files that it names.
+/// The files that the script names.
 const STOPPED_SHELF: TestFiles<'static> = &[
     ("names.csv", b"ward,candidate,name\n7,1,Ann\n7,2,Bob\n"),
     ("clerk.csv", b"paper,1,2\n1,1,2\n"),
 ];
 
-/// The script, and the same with a line that is refused.
+/// The script, and the same script with a line that is refused.
 const STOPPED_SCRIPTS: [Case<'static>; 2] = [
     (
         Step::Script(
@@ -100,9 +100,9 @@ fn beginnings<M: TestHost + Drop>(
     Ok(all)
 }
 
-/// Runs a script on disks of which one stops after so many calls, restarts them, and checks the rows: those after the acknowledged
-/// requests, or after one more. Repeated, the script has its whole output, and the rows are those without the stop. Returns whether
-/// there was no stop.
+/// Runs a script on disks of which one stops after this many calls, restarts them, and checks the rows: they must be those after
+/// the acknowledged requests, or after one more. Repeated, the script must have its whole output, and the rows must be the same
+/// as without the stop. Returns whether nothing stopped.
 fn stop_script<M: TestHost + Drop>(
     rt: &(impl Abort + AllocGlobal),
     host: M,
@@ -134,7 +134,7 @@ fn stop_script<M: TestHost + Drop>(
     Ok(told == whole)
 }
 
-/// Stops each of the scripts at each call of one file.
+/// Stops each of the scripts at each call on one file.
 fn stop_scripts<M: TestHost + Drop>(
     rt: &(impl Abort + AllocGlobal),
     file: File,

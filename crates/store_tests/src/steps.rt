@@ -20,26 +20,26 @@ use wire::{Gate, HttpSettings, Page};
 /// One step of a script.
 #[derive(Clone, Copy, Debug)]
 pub enum Step<'a> {
-    /// An order, by its words. The file that it names doesn't exist.
+    /// An order, by its words. The file that they name doesn't exist.
     Order(&'a [&'a str]),
-    /// The same, and the file that it names has these bytes.
+    /// The same, but the file that the words name has these bytes.
     FileOrder(&'a [&'a str], &'a [u8]),
-    /// A script; each file that it names has the bytes next to its path, and no other file exists.
+    /// A script. Each file that it names has the bytes next to its path, and no other file exists.
     Script(&'a [u8], TestFiles<'a>),
-    /// The same, and each of the two outputs accepts no more than so many bytes.
+    /// The same, but each of the two outputs accepts a limited number of bytes.
     BreakingOrder(&'a [&'a str], &'a [u8], OutputLimits),
-    /// A list of requests to a new office; their answers are the output.
+    /// A list of requests to a new office; the answers are the output.
     List(&'a [Request]),
-    /// A request to the opened office for the work of a clerk; the answer is the output.
+    /// A request to the open office for a clerk's work; the answer is the output.
     Work(u32),
-    /// Reading a ward's papers and its count from the opened store; they are the output.
+    /// Reading a ward's papers and count from the open store; they are the output.
     Loads(u32),
-    /// Serving clients of the opened office; each may be accepted or not, and their connections may break. The responses are the
-    /// output, with a line feed between each two. The outcome of serving is the error output.
+    /// Serving clients of the open office; accepting a client may fail, and connections may break. The responses are the output,
+    /// separated by line feeds. The outcome of serving is the error output.
     Serve(Evening<'a>),
-    /// Serving clients of the opened office at a port, while the clock jumps by more than half a minute; the outcome is the output.
+    /// Serving clients of the open office on a port, while the clock jumps by more than half a minute; the outcome is the output.
     Listen(&'a Port),
-    /// Statements, whatever is in the database.
+    /// SQL statements that may change the database in any way.
     Change(&'a str),
     /// Every row of every table, as the output.
     Contents,
@@ -48,7 +48,7 @@ pub enum Step<'a> {
 /// Files in memory: the path and the bytes of each.
 pub type TestFiles<'a> = &'a [(&'a str, &'a [u8])];
 
-/// A folder of these files, and the file that the words name.
+/// A folder with these files, and the file that the words name.
 #[derive(Clone, Copy)]
 struct OpenTestFiles<'a> {
     named: Option<&'a str>,
@@ -72,7 +72,7 @@ impl<'a> Folder for OpenTestFiles<'a> {
     }
 }
 
-/// The words that send a script.
+/// The words of the order that runs a script.
 const REPLAY: &[&str] = &["DB", "replay", "FILE"];
 
 /// The number of bytes that the output accepts before it fails, and the same for the error output.
@@ -94,10 +94,10 @@ pub type StepExpected<'a> = (u8, &'a str, &'a str);
 /// A step, and its expected result.
 pub type Case<'a> = (Step<'a>, StepExpected<'a>);
 
-/// The output of an order if the store stopped; it never reports that an allocation failed.
+/// The output of an order if the store stopped; it never reports a failed allocation.
 pub const STOPPED: StepExpected<'static> = (3, "", "fault 102: store\n");
 
-/// The response to a client then.
+/// The response to a client in that case.
 pub const STOPPED_ANSWER: &str =
     "HTTP/1.1 503 Service Unavailable\r\nContent-Type: application/json\r\nContent-Length: 13\r\nConnection: close\r\n\r\n{\"fault\":102}";
 
@@ -133,7 +133,7 @@ impl StepPrinted {
     }
 }
 
-/// Performs an order with a file, and returns the status.
+/// Executes an order with a file, and returns the status.
 fn give<S: Alter + Drop, O: Sink, E: Sink>(
     alloc: Global,
     conn: Connection<S>,
@@ -232,7 +232,7 @@ fn work<S: Alter + Drop>(
     Ok((StepPrinted::printed_only(alloc, text), conn))
 }
 
-/// The settings for the file that is served: no proxy, no codes, and no copies or journals.
+/// The settings for serving this file: no proxy, no codes, and no copies or journals.
 pub const SERVER_SETTINGS: ServerSettings<'static, Unaided> = ServerSettings {
     http: HttpSettings {
         origin: None,
@@ -246,7 +246,7 @@ pub const SERVER_SETTINGS: ServerSettings<'static, Unaided> = ServerSettings {
     served_file: &Unaided,
 };
 
-/// Returns the codes of an evening, if it has any; no wrong code was sent before.
+/// Returns the codes of an evening, if it has any; no wrong code has been sent yet.
 fn codes_of(alloc: Global, evening: Evening<'_>) -> Result<Option<Codes>, Fail> {
     let Some(text) = evening.codes else {
         return Ok(None);
@@ -284,7 +284,7 @@ fn terms_of(held: &Option<Codes>) -> ServerSettings<'_, Unaided> {
     }
 }
 
-/// A file next to which nothing can be made: no copy, and no journal.
+/// A file that can have neither a copy nor a journal.
 #[derive(Clone, Copy)]
 pub struct Unaided;
 

@@ -1,4 +1,4 @@
-//! Steps of tests with an office on the disks of a host that can be stopped.
+//! Test steps with an office on the disks of a host that can be stopped.
 //!
 //! They are generic over the host, so their proofs don't depend on the store, and are short.
 
@@ -8,14 +8,14 @@ use std::alloc::Global;
 use std::process::Abort;
 use std::test::Fail;
 
-/// Which of the two files stops.
+/// The file that stops.
 #[derive(Clone, Copy)]
 pub enum File {
     Log,
     Database,
 }
 
-/// A part of a play.
+/// A part of a test's script.
 #[derive(Clone, Copy, Debug)]
 pub enum Act {
     /// Orders and their replies, as a transcript.
@@ -26,19 +26,19 @@ pub enum Act {
 
 /// A host with the log and the database file of an office.
 pub trait TestHost: Sized {
-    /// New files; the log fails after `log` calls, and the database file after `db` calls.
+    /// Returns new files; the log fails after `log` calls, and the database file after `db` calls.
     fn stopping(alloc: Global, log: u64, db: u64) -> Self;
 
-    /// Files with the same bytes, of which this one fails after so many calls.
+    /// Returns files with the same bytes, of which this one fails after this many calls.
     fn copied(&self, alloc: Global, file: File, calls: u64) -> Result<Self, Fail>;
 
-    /// The host restarts: bytes that weren't synced are lost, and no call fails from then on.
+    /// Restarts the host: bytes that weren't synced are lost, and no call fails from then on.
     fn restarted(self) -> Self;
 
-    /// Opens the database, and runs the steps on it. If the store stops while the database is opened, nothing is printed.
+    /// Opens the database, and runs the steps on it. If the store stops while the database is being opened, nothing is printed.
     fn play(self, alloc: Global, script: &[Step<'_>]) -> Result<(Vec<StepPrinted>, Self), Fail>;
 
-    /// Copies the office to other files. If those stop while they are opened, nothing is printed.
+    /// Copies the office to other files. If those stop while they are being opened, nothing is printed.
     fn copy_onto(
         self,
         alloc: Global,
@@ -57,12 +57,12 @@ pub fn are_same(alloc: Global, rows: &str, others: &str) -> Result<bool, Fail> {
     Ok(sorted(alloc, rows)?.as_slice() == sorted(alloc, others)?.as_slice())
 }
 
-/// New files that never fail.
+/// Returns new files that never fail.
 pub fn lasting<M: TestHost + Drop>(alloc: Global) -> M {
     M::stopping(alloc, u64::MAX, u64::MAX)
 }
 
-/// Runs the steps, each of which must have this result.
+/// Runs the steps, each of which must have its expected result.
 pub fn expect<M: TestHost + Drop>(
     rt: &(impl Abort + AllocGlobal),
     host: M,
@@ -86,7 +86,7 @@ pub fn rows<M: TestHost + Drop>(alloc: Global, host: M) -> Result<(String, M), F
     }
 }
 
-/// Runs the orders of a transcript, each of which must have the reply in it.
+/// Runs a transcript's orders, each of which must have the reply in the transcript.
 pub fn follow<M: TestHost + Drop>(
     rt: &(impl Abort + AllocGlobal),
     host: M,
@@ -97,7 +97,7 @@ pub fn follow<M: TestHost + Drop>(
     expect(rt, host, &cases)
 }
 
-/// Runs the steps, each of which must have this result, and none of which may change a row.
+/// Runs the steps, each of which must have its expected result, and none of which may change a row.
 pub fn expect_unchanged<M: TestHost + Drop>(
     rt: &(impl Abort + AllocGlobal),
     host: M,
@@ -109,7 +109,7 @@ pub fn expect_unchanged<M: TestHost + Drop>(
     Ok(host)
 }
 
-/// The same for one case.
+/// Does the same for one step.
 pub fn hear_one_unchanged<M: TestHost + Drop>(
     rt: &(impl Abort + AllocGlobal),
     host: M,
@@ -118,7 +118,7 @@ pub fn hear_one_unchanged<M: TestHost + Drop>(
     expect_unchanged(rt, host, &[case])
 }
 
-/// Both clerks of batch 12 key these papers, a file's text.
+/// Both clerks of batch 12 key these papers, given as a file's text.
 fn key<M: TestHost + Drop>(
     rt: &(impl Abort + AllocGlobal),
     host: M,
@@ -157,7 +157,7 @@ pub fn do_act<M: TestHost + Drop>(
     }
 }
 
-/// Plays acts on new files.
+/// Runs parts on new files.
 pub fn run_parts<M: TestHost + Drop>(
     rt: &(impl Abort + AllocGlobal),
     acts: &[Act],

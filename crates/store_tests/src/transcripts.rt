@@ -10,8 +10,8 @@
 //! # UPDATE ward SET phase = 2
 //! ```
 //!
-//! A line `$ ..` has the words after DB, separated by single spaces; `# ..` has statements, for any database. The lines below it
-//! are those of the file that the words name, those of the output, and, after a status, those of the error output.
+//! A line `$ ..` contains the words after DB, separated by single spaces; `# ..` contains SQL statements, for any database. The
+//! lines below it are those of the file that the words name, those of the output, and, after a status, those of the error output.
 
 use super::steps::{Case, Step};
 use std::alloc::{AllocError, Global};

@@ -1,4 +1,4 @@
--- What a query of some rows finds.
+-- What a query for some rows finds.
 use Rattle.std.proofs.Common.{◌≡◌, ◌⊎◌, inl, inr, List, [], ◌∷◌, map, filter, length, Option, Some, None, IfSome, slice_index_or, option_map, Bool, refl, sym, ap, subst, ◌∙◌, arith}
 use Rattle.std.specs.Option.{option_to_list}
 use Rattle.std.specs.List.{AllByRecursion}
@@ -24,7 +24,7 @@ use Rattle.tables.proofs.ListingLemmas.{office_of}
 pub itself : (t : Table) (c : Contents) (s : State) → Rests c s → (r : Row) → Has (c t) r → at (column_places t) r ≡ r
 itself t c s rests r there = typed_at (columns_of t) r (test_has (is_row_of t) (c t) r ((office_of c s rests).holds t).typed there)
 
--- the rows of the entries are the rows found
+-- the rows of the entries are the rows that were found
 pub found_as : (t : Table) (test : Row → Bool) (c : Contents) (rows shown : List Row) → Finds t test c rows → map (at (column_places t)) rows ≡ shown → (s : State) → Rests c s → Finds t test c shown
 found_as t test c rows shown finds is s rests =
     let whole : map (at (column_places t)) rows ≡ rows =
@@ -32,7 +32,7 @@ found_as t test c rows shown finds is s rests =
     ∙ mapped_itself rows in
     subst (Finds t test c) (sym whole ∙ is) finds
 
--- if all rows represent entries, the only fault is out of memory
+-- if all rows represent entries, the only fault is `Memory`
 pub found_cause : (t : Table) (test : Row → Bool) (c : Contents) (IsRow : Row → Type 0) (rows : List Row) (f : Fault) → Finds t test c rows → AllByRecursion IsRow (c t)
     → (f ≡ Memory) ⊎ ((f ≡ Damaged) × HasInvalidRow IsRow rows) → f ≡ Memory
 found_cause t test c IsRow rows f finds all (inl memory) = memory
@@ -43,7 +43,7 @@ found_cause t test c IsRow rows f finds all (inr wrong) =
 
 -- ---- the row with a key
 
--- the only row of a query represents no entry
+-- the only row of a query doesn't represent an entry
 pub one_other : (IsRow : Row → Type 0) (o : Option Row) (rows : List Row) → rows ≡ option_to_list o → HasInvalidRow IsRow rows → ¬ IfSome o IsRow
 one_other IsRow None rows is wrong fits = let low = wrong.1 in let none = ap length is in omega (arith, low, none)
 one_other IsRow (Some r) rows is wrong fits =

@@ -18,7 +18,7 @@ fault_number WrongDatabase = 105
 fault_number NewerSchema = 106
 fault_number OlderSchema = 108
 
--- and its text
+-- the text of a fault
 abbrev pub fault_text : Fault → List ℕ
 fault_text Memory = codes "memory"
 fault_text Store = codes "store"
@@ -28,12 +28,12 @@ fault_text WrongDatabase = codes "wrong database"
 fault_text NewerSchema = codes "newer schema"
 fault_text OlderSchema = codes "older schema"
 
--- out of memory, or another refusal by the store
+-- `Memory` for an allocation that failed, `Store` for any other refusal by the store
 abbrev pub fault_of : Error → Fault
 fault_of (SqliteFailure OutOfMemory) = Memory
 fault_of _ = Store
 
--- a value that can't be read as what its column holds, or out of memory
+-- `Memory` for an allocation that failed, `Damaged` for a value that isn't what its column should contain
 abbrev pub value_fault : Error → Fault
 value_fault (SqliteFailure OutOfMemory) = Memory
 value_fault _ = Damaged

@@ -17,7 +17,7 @@ pub enum Fault {
     Damaged,
     /// An earlier fault closed the office.
     Closed,
-    /// The database has no office or, if one is to be created, has a table with one of its names.
+    /// The database contains no office or, if one is to be created, already has a table with one of its names.
     WrongDatabase,
     /// A later program created the tables.
     NewerSchema,

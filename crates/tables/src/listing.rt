@@ -1,4 +1,4 @@
-//! All rows of a table, and the entries that they represent.
+//! Lists all rows of a table, and the entries that they represent.
 
 ghost use Rattle.std.specs.Prelude.{◌≡◌, ◌⊎◌, false, map, IfOk, IfErr, OnOk, IsTrue};
 ghost use Rattle.sqlite.specs.Effect.{Database};
@@ -19,7 +19,7 @@ use crate::table::Table;
 use sqlite::{Alter, Connection, Row};
 use std::alloc::Global;
 
-/// Returns the entries of rows; `Damaged` if a row represents no entry.
+/// Returns the entries of rows; `Damaged` if a row doesn't represent an entry.
 pub(crate) fn entries_of<E: Entries>(alloc: Global, rows: &[Row]) -> Result<Vec<E::Entry>, Fault>
     ensures reads { IfOk result (λ found. map (at (column_places E.TABLE)) rows.now ≡ map E.row_of found.items) }
     ensures cause { IfErr result (λ f. (f ≡ Fault.Memory) ⊎ ((f ≡ Fault.Damaged) × HasInvalidRow E.is_row rows.now)) }
@@ -34,7 +34,7 @@ pub(crate) fn entries_of<E: Entries>(alloc: Global, rows: &[Row]) -> Result<Vec<
     Ok(entries)
 }
 
-/// Returns all rows of a table in key order, after checking, if its rows change, that no two share a rowid.
+/// Returns all rows of a table in key order. For a table whose rows change, first checks that no two rows share a rowid.
 pub fn keyed_rows<S: Alter>(
     alloc: Global,
     conn: &mut Connection<S>,
@@ -59,8 +59,8 @@ pub fn keyed_rows<S: Alter>(
     Ok(rows)
 }
 
-/// Returns all entries of a table, in key order. `Damaged` if a row represents no entry, or its key is not above that of the
-/// row before.
+/// Returns all entries of a table, in key order. `Damaged` if a row doesn't represent an entry, or if its key isn't above
+/// that of the row before.
 pub fn all_entries<E: Entries, S: Alter>(
     alloc: Global,
     conn: &mut Connection<S>,

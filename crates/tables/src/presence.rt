@@ -13,7 +13,7 @@ use sqlite::{Alter, Connection};
 use sqlite_schema::names::same_name;
 use sqlite_schema::schema::Schema;
 
-/// Which tables of an office a database has. If it lacks the last ones, an older program created it.
+/// The tables of an office that a database has. If it lacks the last ones, it was created by an older program.
 #[derive(Clone, Copy, PartialEq, Eq)]
 pub enum TablesPresent {
     /// All tables.
@@ -26,13 +26,13 @@ pub enum TablesPresent {
     Other,
 }
 
-/// The number of tables of an office before third clerks had one.
+/// The number of tables of an office before there was one for third clerks.
 const BEFORE_THIRD: usize = 10;
 
-/// The number of tables before those from which a count resumes.
+/// The number of tables of an office before there were those from which a count resumes.
 const BEFORE_COUNTS: usize = 8;
 
-/// Returns whether there is a table with this one's name, ignoring the case of ASCII letters.
+/// Returns whether there is a table with the name of this one, ignoring the case of ASCII letters.
 fn is_named(schema: &Schema, table: Table) -> bool
     ensures { result ≡ has_table table schema.now }
 {
@@ -58,7 +58,7 @@ fn has_all(schema: &Schema, tables: &[Table]) -> bool
     tables.iter().all(|table| is_named(schema, *table))
 }
 
-/// Returns whether the database has a table with this one's name.
+/// Returns whether the database has a table with the name of this one.
 pub fn has_table<S: Alter>(conn: &Connection<S>, table: Table) -> bool
     ensures value { result ≡ has_table table (state S.Store conn.now).now.schema }
     ensures live { IsLive (state S.Store conn.now) }

@@ -1,4 +1,4 @@
-//! Reading rows, outside a transaction.
+//! Reads rows outside a transaction.
 
 ghost use Rattle.std.specs.Prelude.{◌≡◌, ◌⊎◌, ◌≤◌, [], ◌∷◌, true, false, ℕ, List, length, map, IfOk, IfErr, OnOk, IsTrue};
 ghost use Rattle.std.specs.List.Sorted.{IsPermutation};
@@ -68,7 +68,7 @@ fn copy_next<S: Alter>(rows: &mut Rows<'_, S>, found: &mut Vec<Row>) -> Result<b
     }
 }
 
-/// Appends copies of all remaining rows; `Memory` also past 2^64 - 2 rows.
+/// Appends copies of all remaining rows; `Memory` also if there are more than 2^64 - 2.
 fn copy_rest<S: Alter>(rows: &mut Rows<'_, S>, found: &mut Vec<Row>) -> Result<(), Fault>
     ensures same_reference { rows.new.conn.ghost_name ≡ rows.old.conn.ghost_name }
     ensures shows { HasCleanDisk (state S.Store rows.new.conn.now) → (sql : List ℕ) → (params : Entry) → HasGiven S.Store sql params rows.old.conn.now found.old.items
@@ -88,8 +88,8 @@ fn copy_rest<S: Alter>(rows: &mut Rows<'_, S>, found: &mut Vec<Row>) -> Result<(
     Err(Fault::Memory)
 }
 
-/// Returns all rows of a table with all their columns, in the order in which the table stores them. They are read one at
-/// a time, so that `sqlite` never holds them all: it would keep the memory for later queries.
+/// Returns all rows of a table with all their columns, in the order in which the table stores them. They are read one at a
+/// time to keep `sqlite` from holding them all: it would keep the memory for later queries.
 fn scanned_rows<S: Alter>(
     alloc: Global,
     conn: &mut Connection<S>,
@@ -112,8 +112,8 @@ fn scanned_rows<S: Alter>(
 }
 
 /// Returns all rows of a table with all their columns, in key order. Requires only that the schema begins with the tables up
-/// to this one. The rows are read in stored order and sorted here: if asked for key order, `sqlite` would look up each row
-/// through the key's index.
+/// to this one. The rows are read in stored order and sorted here, because `sqlite`, asked for key order, would look up each
+/// row through the key's index.
 pub fn all_rows<S: Alter>(
     alloc: Global,
     conn: &mut Connection<S>,
@@ -156,7 +156,7 @@ pub fn rows_beginning<S: Alter>(
     query(conn, select_text(table, key.len()), key)
 }
 
-/// Returns the rows with a value in a column outside the key, with all their columns, in key order.
+/// Returns the rows with this value in a column outside the key, with all their columns, in key order.
 pub fn rows_referring<S: Alter>(
     conn: &mut Connection<S>,
     reference: Reference,

@@ -1,4 +1,4 @@
-//! New books of worked elections.
+//! New books for worked elections.
 //!
 //! Tests are generic over the count, so their proofs don't depend on how a count stores its papers, and are short.
 
@@ -45,7 +45,7 @@ pub fn by_parcels<C: Counting>(
     on_papers(rt, alloc, worked, &papers, counting)
 }
 
-/// Returns a new book; makes it once more if an allocation failed.
+/// Returns a new book. If an allocation fails, creates the book once more.
 fn begin_again(
     alloc: Global,
     candidates: Columns,

@@ -33,7 +33,7 @@ fn read_back(alloc: Global, worked: &Worked, rows: &Tabulation) -> Result<Stored
     }
 }
 
-/// Asserts that the count that was read back equals the original after so many stages.
+/// Asserts that the count that was read back equals the original after this many stages.
 fn is_as_it_stood(
     rt: &impl Abort,
     worked: &Worked,
@@ -47,7 +47,7 @@ fn is_as_it_stood(
     assert!(rt; is_so, "{}: {stages}", worked.name);
 }
 
-/// Tabulates a worked election after so many stages, and reads it back.
+/// Tabulates a worked election after this many stages, and reads it back.
 fn is_read_back(
     rt: &impl Abort,
     alloc: Global,
@@ -71,7 +71,7 @@ pub fn is_read_back_at_each(rt: &impl Abort, alloc: Global, worked: &Worked) -> 
     Ok(())
 }
 
-/// A bundle's list, its number of papers and its holder; and whether a count can have such a bundle.
+/// A bundle's list, the number of its papers, and its holder; and whether a count can have such a bundle.
 const BUNDLES: [(&[u8], u32, u32, bool); 6] = [
     (&[1, 2], 1, 1, true),
     (&[1, 1], 1, 1, false),
@@ -81,7 +81,7 @@ const BUNDLES: [(&[u8], u32, u32, bool); 6] = [
     (&[1, 2], 1, 257, false),
 ];
 
-/// A bundle of these papers.
+/// Returns a bundle of these papers.
 fn placed(
     alloc: Global,
     list: &[u8],
@@ -97,7 +97,7 @@ fn placed(
     })
 }
 
-/// Returns whether a count with this one bundle is read back.
+/// Returns whether a count with this one bundle can be read back.
 fn has_count(alloc: Global, bundle: PlacedBundle) -> Result<bool, AllocError> {
     let found = count_of(alloc, first_columns(3), 1, &[bundle], &[])?;
     Ok(found.is_some())

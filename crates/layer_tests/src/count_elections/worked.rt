@@ -2,8 +2,8 @@
 
 use count::Action;
 
-/// An expected stage: its action, the figures of candidates 1, 2 and so on, the newly elected, and the non-transferable and the
-/// lost, in units.
+/// An expected stage: its action, the figures of candidates 1, 2 and so on, the newly elected candidates, and the
+/// non-transferable votes and the votes lost by fractions, in units.
 pub struct Expected {
     pub action: Action,
     pub votes: &'static [u64],
@@ -21,7 +21,7 @@ pub struct Worked {
     pub stages: &'static [Expected],
 }
 
-/// All of them. (A proof that reads them by this call knows none of them, and is short.)
+/// Returns all of them. (A proof that uses this call sees none of their contents, and is short.)
 pub fn elections() -> &'static [Worked] {
     &WORKED
 }

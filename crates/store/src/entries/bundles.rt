@@ -13,7 +13,7 @@ use std::alloc::Global;
 use tables::value_conversion::{amount_at, bytes, bytes_at, number, number_at};
 use tables::{Entries, Fault, Table};
 
-/// The bundles, by ward and list of preferences.
+/// The bundles, ordered by ward and list of preferences.
 pub(crate) struct PlacedBundles;
 
 impl Entries for PlacedBundles {

@@ -19,20 +19,20 @@ use sqlite::Alter;
 use std::alloc::Global;
 use tables::Fault;
 
-/// The standing of a batch by the keyings of its current round.
+/// The standing of a batch, by the keyings of its current round.
 #[derive(Clone, Copy, PartialEq, Eq)]
 pub enum BatchStanding {
-    /// Two of them are equal.
+    /// Two of the keyings are equal.
     Taken,
-    /// There are at least two, and no two are equal.
+    /// There are at least two keyings, and no two are equal.
     Differing,
-    /// There are fewer than two.
+    /// There are fewer than two keyings.
     Waiting,
 }
 
-/// A batch, and its two or three clerks in the order of their numbers; its standing; and how many doubtful papers
-/// without a verdict it has, once it is taken. `twin` is the number of the first other batch that is taken with exactly
-/// the same papers, of a ward with the same candidates' numbers.
+/// A batch, and its two or three clerks ordered by number; its standing; and, once it is taken, how many of its
+/// doubtful papers have no verdict. `twin` is the number of the first other batch that is taken with exactly the same
+/// papers and whose ward has the same candidate numbers.
 #[derive(Drop)]
 pub struct BatchOverview {
     pub batch: Batch,
@@ -42,7 +42,7 @@ pub struct BatchOverview {
     pub twin: Option<u32>,
 }
 
-/// Returns the standing of a batch by these keyings of its current round.
+/// Returns the standing of a batch with these keyings of its current round.
 fn standing_by(keyings: &Keyings) -> BatchStanding
     ensures { result ≡ standing_by (keyings_by keyings.now) }
 {
@@ -55,7 +55,7 @@ fn standing_by(keyings: &Keyings) -> BatchStanding
     }
 }
 
-/// Returns the overview of a batch by its clerks, its keyings and the verdicts on its papers, without its twin.
+/// Returns the overview of a batch, without its twin, from its clerks, its keyings and the verdicts on its papers.
 fn overview_by(
     batch: Batch,
     clerks: Vec<ClerkOverview>,
@@ -73,7 +73,7 @@ fn overview_by(
     }
 }
 
-/// Returns the overviews of the batches of a ward, from what was read of all batches. An error is `Memory`.
+/// Returns the overviews of a ward's batches, from the data that was read for all batches. The only error is `Memory`.
 fn overviews_among(alloc: Global, read: Vec<ReadBatch>) -> Result<Vec<BatchOverview>, Fault>
     ensures is { IfOk result (λ found. (s : OfficeState) (ward : ℕ) → map read_view read.items ≡ map (read_view_of s ward) s.batches → map batch_view found.items ≡ batch_views s ward) }
     ensures cause { IfErr result (λ f. f ≡ Fault.Memory) }
@@ -123,7 +123,7 @@ impl<S: Alter> Store<S> {
         Ok(Some(overview))
     }
 
-    /// Returns the papers that a batch is taken with by these keyings, as one text; none if it isn't taken.
+    /// Returns the agreed papers of a batch with these keyings, as one text; `None` if the batch isn't taken.
     pub(crate) fn pile_in(
         &mut self,
         batch: &Batch,
@@ -143,7 +143,7 @@ impl<S: Alter> Store<S> {
         Ok(Some(text))
     }
 
-    /// Reads what the overviews of this ward need of a batch.
+    /// Reads the data of a batch that is needed for the overviews of this ward.
     fn read_batch(&mut self, batch: Batch, ward: u32) -> Result<ReadBatch, Fault>
         ensures { Loads S.Store self.old self.new result (λ s found. read_view found ≡ read_view_of s ward (batch_entry batch)) }
     {
@@ -183,11 +183,11 @@ impl<S: Alter> Store<S> {
         Ok(found)
     }
 
-    /// Returns the overviews of the batches of the ward with this number, in the order of their numbers; none if there
-    /// is no such ward. The batches of all wards are read once, one after another, each with its keyings of the current
-    /// round, since a batch's twin may be of another ward. The papers of the taken ones are held in memory as texts, by
-    /// which twins are found. Changes nothing, and adds nothing to what a stop may leave. `Memory` or `Store` if a row
-    /// can't be read.
+    /// Returns the overviews of the batches of the ward with this number, ordered by batch number; `None` if there is
+    /// no such ward. The batches of all wards are read once, one after another, each with its keyings of the current
+    /// round, because a batch's twin may belong to another ward. The papers of taken batches are held in memory as
+    /// texts, which are compared to find twins. Changes nothing, and doesn't add to the states that a stop may leave
+    /// behind. Returns `Memory` or `Store` if a row can't be read.
     pub fn load_batches(&mut self, ward: u32) -> Result<Option<Vec<BatchOverview>>, Fault>
         ensures { Loads S.Store self.old self.new result (λ s found. option_map (λ batches. map batch_view batches.items) found ≡ batch_views_at s ward) }
     {

@@ -1,4 +1,4 @@
-//! Where the keyings of a batch differ, read from the tables.
+//! The papers on which the keyings of a batch differ, read from the tables.
 
 ghost use Rattle.std.specs.Prelude.{◌≡◌, ◌∷◌, [], ◌&&◌, map, filter, option_map, IfOk, IfErr};
 ghost use Rattle.register.specs.Offices.{batch_entry, keyed_entry};
@@ -37,14 +37,15 @@ fn has_alike(keyed: &KeyedPaper, keying: &[KeyedPaper]) -> bool
 }
 
 #[tactic(auto, using(crate::proofs::OverviewLemmas::apart_two))]
-/// Returns whether one of the two other keyings, if it is there, has the paper with other marks.
+/// Returns whether at least one of the two other keyings exists and has the paper with different marks.
 fn differs_in(keyed: &KeyedPaper, second: &[KeyedPaper], third: &[KeyedPaper]) -> bool
     ensures { result ≡ differs_in (filter is_keyed (map keyed_entry second.now ∷ map keyed_entry third.now ∷ [])) (keyed_entry keyed.now) }
 {
     (is_keyed(second) & !has_alike(keyed, second)) | (is_keyed(third) & !has_alike(keyed, third))
 }
 
-/// Returns the numbers of the papers of one keying that one of the two others, if it is there, has with other marks.
+/// Returns the numbers of those papers of one keying that at least one of the two others has with different marks. A
+/// keying that doesn't exist is ignored.
 fn differing_among(
     alloc: Global,
     keying: &[KeyedPaper],
@@ -63,8 +64,8 @@ fn differing_among(
 }
 
 #[tactic(auto, using(crate::proofs::OverviewLemmas::apart_three))]
-/// Returns the numbers of the papers on which these keyings differ: those of the first one there that another one has
-/// with other marks.
+/// Returns the numbers of the papers on which these keyings differ: those that another keying has with different marks
+/// than the first existing one.
 fn differing_papers(alloc: Global, keyings: &Keyings) -> Result<Vec<u32>, AllocError>
     ensures { IfOk result (λ papers. papers.items ≡ differing_papers (keyings_by keyings.now)) }
 {
@@ -81,7 +82,7 @@ fn differing_papers(alloc: Global, keyings: &Keyings) -> Result<Vec<u32>, AllocE
     }
 }
 
-/// Returns a batch, and where these keyings of its current round differ. An error is `Memory`.
+/// Returns a batch, and where these keyings of its current round differ. The only error is `Memory`.
 fn differences_by(alloc: Global, batch: Batch, keyings: &Keyings) -> Result<Differences, Fault>
     ensures is { IfOk result (λ found. differences_view found ≡ differences_by (batch_entry batch) (keyings_by keyings.now)) }
     ensures cause { IfErr result (λ f. f ≡ Fault.Memory) }
@@ -107,9 +108,9 @@ impl<S: Alter> Store<S> {
     }
 
     /// Returns the batch with this number, if there is one; whether its keyings differ; and the numbers of the papers
-    /// on which keyings of its current round differ, in the order of the papers. The numbers are returned even if two
-    /// of three keyings are equal. Changes nothing, and adds nothing to what a stop may leave. `Memory` or `Store` if a
-    /// row can't be read.
+    /// on which keyings of its current round differ, ordered by paper. The numbers are returned even if two of three
+    /// keyings are equal. Changes nothing, and doesn't add to the states that a stop may leave behind. Returns `Memory`
+    /// or `Store` if a row can't be read.
     pub fn load_differences(&mut self, batch: u32) -> Result<Option<Differences>, Fault>
         ensures { Loads S.Store self.old self.new result (λ s found. option_map differences_view found ≡ differences_at s batch) }
     {

@@ -1,4 +1,4 @@
-//! What is kept in memory of the batches, refreshed from the tables.
+//! The cache of batches, refreshed from the tables.
 
 ghost use Rattle.std.specs.Prelude.{◌≡◌, map, option_map, string_bytes};
 ghost use Rattle.sqlite.specs.Held.{state};
@@ -14,7 +14,7 @@ use register::Batch;
 use sqlite::Alter;
 use tables::Fault;
 
-/// Returns what is kept of a batch with this overview and, if it is taken, these papers.
+/// Returns the cache entry of a batch with this overview and, if it is taken, these papers.
 fn known_with(overview: BatchOverview, papers: &Option<String>) -> CachedBatch
     ensures { known_view result ≡ record { view = batch_view overview; pile = option_map checksum (option_map string_bytes papers.now) } }
 {
@@ -25,7 +25,7 @@ fn known_with(overview: BatchOverview, papers: &Option<String>) -> CachedBatch
 }
 
 impl<S: Alter> Store<S> {
-    /// Reads what is kept of a batch.
+    /// Reads the cache entry of a batch from the tables.
     fn read_known(&mut self, batch: Batch) -> Result<CachedBatch, Fault>
         ensures { Loads S.Store self.old self.new result (λ s found. known_view found ≡ known_of s (batch_entry batch)) }
     {
@@ -35,7 +35,7 @@ impl<S: Alter> Store<S> {
         Ok(known_with(overview, &papers))
     }
 
-    /// Returns what is kept of a batch, if that is at this place; otherwise reads it.
+    /// Returns a copy of a batch's cache entry, if it is at this index; otherwise reads it.
     fn known_or_read(
         &mut self,
         known: &[CachedBatch],
@@ -54,7 +54,7 @@ impl<S: Alter> Store<S> {
         }
     }
 
-    /// Returns what is kept of batches in the order of their numbers, and reads those of which nothing is.
+    /// Returns the cache entries of these batches in the same order, reading those that are missing.
     fn all_known(
         &mut self,
         known: &[CachedBatch],
@@ -75,7 +75,7 @@ impl<S: Alter> Store<S> {
         Ok(found)
     }
 
-    /// Returns what is kept of every batch: what is in memory, or else what is read.
+    /// Returns the cache entry of every batch: the existing one, or else a new one that is read.
     fn refreshed(&mut self, known: &[CachedBatch]) -> Result<Vec<CachedBatch>, Fault>
         ensures { Loads S.Store self.old self.new result (λ s found. AreKnown s known.now → KnowsAll s found.items) }
     {
@@ -84,8 +84,8 @@ impl<S: Alter> Store<S> {
         Ok(found)
     }
 
-    /// Refreshes the cache, so that it has every batch. Reads the rows of all batches, and the papers of those that
-    /// aren't in the cache.
+    /// Refreshes the cache, after which it contains every batch. Reads the rows of all batches, and the papers of those
+    /// that weren't cached.
     pub(crate) fn refresh(&mut self, known: &mut Vec<CachedBatch>) -> Result<(), Fault>
         ensures refreshes { Loads S.Store self.old self.new result (λ s _. AreKnown s known.old.items → KnowsAll s known.new.items) }
         ensures stays { StaysKnown (state S.Store self.old) (state S.Store self.new) known.old.items known.new.items }

@@ -1,4 +1,4 @@
-//! The status of a ward, its next step, and the overviews of all wards, from the cached batches.
+//! The status of a ward, its next step, and the overviews of all wards, based on the cached batches.
 
 ghost use Rattle.std.specs.Prelude.{◌≡◌, [], ◌∷◌, ◌++◌, List, map, option_map, Some, IfOk};
 ghost use Rattle.sqlite.specs.Held.{state};
@@ -23,7 +23,7 @@ use sqlite::Alter;
 use std::alloc::{AllocError, Global};
 use tables::Fault;
 
-/// Appends the overview of a batch to others, if it is of this ward.
+/// Appends the overview of a batch to others, if the batch belongs to this ward.
 fn put_own(
     alloc: Global,
     found: &mut Vec<BatchOverview>,
@@ -39,7 +39,7 @@ fn put_own(
     Ok(())
 }
 
-/// Returns the overviews of the batches of a ward, without their twins.
+/// Returns the overviews of a ward's batches, without their twins.
 fn overviews_in(
     alloc: Global,
     known: &[CachedBatch],
@@ -139,7 +139,7 @@ impl<S: Alter> Store<S> {
         })
     }
 
-    /// Returns the overviews of these wards, all those of an office, from the cached batches.
+    /// Returns the overviews of these wards, which are all wards of an office, from the cached batches.
     fn ward_overviews_by(
         &mut self,
         known: &[CachedBatch],
@@ -158,7 +158,7 @@ impl<S: Alter> Store<S> {
         Ok(found)
     }
 
-    /// Returns the same as `load_wards`, from the cache, which it refreshes first.
+    /// Returns the same as `load_wards`, from the cache, after refreshing it.
     pub(crate) fn wards_with(
         &mut self,
         known: &mut Vec<CachedBatch>,
@@ -186,7 +186,7 @@ impl<S: Alter> Store<S> {
         }
     }
 
-    /// Returns the same as `load_status`, from the cache, which it refreshes first.
+    /// Returns the same as `load_status`, from the cache, after refreshing it.
     pub(crate) fn status_with(
         &mut self,
         known: &mut Vec<CachedBatch>,
@@ -228,7 +228,7 @@ impl<S: Alter> Store<S> {
         }
     }
 
-    /// Returns the same as `load_next`, from the cache, which it refreshes first.
+    /// Returns the same as `load_next`, from the cache, after refreshing it.
     pub(crate) fn next_with(
         &mut self,
         known: &mut Vec<CachedBatch>,

@@ -1,4 +1,4 @@
-//! The papers of batches that are taken, as texts, and which batches have the same ones.
+//! The papers of taken batches as texts, and which batches have the same papers.
 
 ghost use Rattle.std.specs.Prelude.{◌≡◌, ◌∷◌, [], ◌++◌, not, ◌==◌, ℕ, List, map, find, if◌then◌else◌, IfOk, option_map, string_bytes};
 ghost use Rattle.std.specs.List.{flat_map};
@@ -14,8 +14,8 @@ use register::KeyedPaper;
 use std::alloc::{AllocError, Global};
 use std::collections::HashMap;
 
-/// What was read of a batch: its number; its papers as one text, if it is taken; and its overview without its twin, if
-/// it is of the ward asked for.
+/// The data that was read for a batch: its number; its papers as one text, if it is taken; and its overview without its
+/// twin, if it belongs to the requested ward.
 #[derive(Drop)]
 pub(crate) struct ReadBatch {
     pub(crate) number: u32,
@@ -31,7 +31,7 @@ fn put_line(text: &mut String, line: &str) -> Result<(), AllocError>
     text.push_str("\n")
 }
 
-/// Appends candidates' numbers to a text, one per line.
+/// Appends candidate numbers to a text, one per line.
 fn put_numbers(alloc: Global, text: &mut String, numbers: &[u8]) -> Result<(), AllocError>
     ensures { IfOk result (λ _. string_bytes text.new ≡ string_bytes text.old ++ candidate_lines numbers.now) }
 {
@@ -54,7 +54,7 @@ fn put_papers(text: &mut String, papers: &[KeyedPaper]) -> Result<(), AllocError
 
 #[tactic(auto, unfolding(crate::specs::Overviews::pile_text))]
 /// Returns the papers of a batch, and the numbers of its ward's candidates, as one text: two such texts are equal if
-/// and only if the candidates' numbers and all papers are.
+/// and only if the candidate numbers and all papers are equal.
 pub(crate) fn pile_text(
     alloc: Global,
     columns: &Columns,
@@ -69,7 +69,7 @@ pub(crate) fn pile_text(
     Ok(text)
 }
 
-/// Appends a batch's number to those that have the same pile.
+/// Appends a batch's number to the group of those that have the same pile.
 fn put_under(
     alloc: Global,
     numbers: &mut HashMap<String, Vec<u32>>,
@@ -83,7 +83,7 @@ fn put_under(
     Ok(())
 }
 
-/// Appends the number of a batch that was read, if it is taken.
+/// Appends the number of a batch that was read to its group, if the batch is taken.
 fn put_batch(
     alloc: Global,
     numbers: &mut HashMap<String, Vec<u32>>,
@@ -140,7 +140,7 @@ fn twin_under(
     first_other(group, number)
 }
 
-/// Returns the overview of a batch that was read, with its twin found in these numbers.
+/// Returns the overview of a batch that was read, with its twin, which is found in these numbers.
 fn paired(numbers: &HashMap<String, Vec<u32>>, batch: ReadBatch) -> Option<BatchOverview>
     ensures { option_map batch_view result ≡ paired (numbers_under numbers.now) (read_view batch) }
 {

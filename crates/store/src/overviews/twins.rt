@@ -1,5 +1,5 @@
-//! Twins: batches that are taken with exactly the same papers, found from the cached batches. The
-//! papers of two batches are read and compared only if their checksums are equal.
+//! Twins: batches that are taken with exactly the same papers, found from the cached batches. The papers of two batches
+//! are read and compared only if their checksums are equal.
 
 ghost use Rattle.std.specs.Prelude.{◌≡◌, ◌++◌, true, map, find, Some, List, ℕ, option_map, string_bytes, IfOk};
 ghost use Rattle.std.specs.Option.{option_to_list};
@@ -19,7 +19,7 @@ use sqlite::Alter;
 use std::alloc::AllocError;
 use tables::Fault;
 
-/// Returns whether there are two checksums, and they are equal.
+/// Returns whether both checksums exist and are equal.
 fn same_sum(one: Option<u64>, other: Option<u64>) -> bool
     ensures { result ≡ same_sum one other }
 {
@@ -29,14 +29,14 @@ fn same_sum(one: Option<u64>, other: Option<u64>) -> bool
     }
 }
 
-/// Returns whether another batch may be a batch's twin, by what is kept of both.
+/// Returns whether another batch may be a batch's twin, by the cache entries of both.
 fn may_be_twin(one: &CachedBatch, other: &CachedBatch) -> bool
     ensures { result ≡ may_be_twin one.now other.now }
 {
     (other.overview.batch.number != one.overview.batch.number) & same_sum(one.pile, other.pile)
 }
 
-/// Returns whether there are two texts, and they are equal.
+/// Returns whether both texts exist and are equal.
 fn same_texts(one: &Option<String>, other: &Option<String>) -> bool
     ensures { (a b : List ℕ) → option_map string_bytes one.now ≡ Some a → option_map string_bytes other.now ≡ Some b → result ≡ bytes_eq a b }
 {
@@ -63,7 +63,7 @@ fn put_some(
 }
 
 impl<S: Alter> Store<S> {
-    /// Returns the papers that a batch is taken with, as one text; none if it isn't taken.
+    /// Returns the agreed papers of a batch, as one text; `None` if the batch isn't taken.
     fn pile_of(&mut self, batch: &Batch) -> Result<Option<String>, Fault>
         ensures { Loads S.Store self.old self.new result (λ s found. option_map string_bytes found ≡ pile_in s (batch_entry batch.now)) }
     {
@@ -72,7 +72,7 @@ impl<S: Alter> Store<S> {
         Ok(papers)
     }
 
-    /// Returns whether two batches that are taken have the same papers, and their wards the same candidates' numbers.
+    /// Returns whether two taken batches have the same papers, and their wards have the same candidate numbers.
     fn have_same_papers(&mut self, one: &Batch, other: &Batch) -> Result<bool, Fault>
         ensures { Loads S.Store self.old self.new result (λ s found. is_taken s (batch_entry one.now) ≡ true → is_taken s (batch_entry other.now) ≡ true
             → found ≡ bytes_eq (pile_text_of s (batch_entry one.now)) (pile_text_of s (batch_entry other.now))) }
@@ -82,7 +82,7 @@ impl<S: Alter> Store<S> {
         Ok(same_texts(&own, &others))
     }
 
-    /// Returns whether another batch is a twin of one that is taken, by what is kept of both.
+    /// Returns whether another batch is a twin of a taken batch. The cache entries of both are compared first.
     fn is_twin(&mut self, one: &CachedBatch, other: &CachedBatch) -> Result<bool, Fault>
         requires { IsOpen S.Store self.old }
         ensures { Loads S.Store self.old self.new result (λ s found. IsKnown s one.now → is_taken s (row_of one.now) ≡ true → IsKnown s other.now
@@ -95,7 +95,7 @@ impl<S: Alter> Store<S> {
         Ok(same)
     }
 
-    /// Returns the number of the first of these batches that is a twin of one that is taken.
+    /// Returns the number of the first of these batches that is a twin of a taken batch.
     fn find_twin(&mut self, known: &[CachedBatch], one: &CachedBatch) -> Result<Option<u32>, Fault>
         requires { IsOpen S.Store self.old }
         ensures { Loads S.Store self.old self.new result (λ s found. IsKnown s one.now → is_taken s (row_of one.now) ≡ true → AreKnown s known.now
@@ -137,7 +137,7 @@ impl<S: Alter> Store<S> {
         }
     }
 
-    /// Returns the same for a batch of this ward, and nothing for one of another ward.
+    /// Returns the same if the batch belongs to this ward, otherwise `None`.
     fn with_twin_in(
         &mut self,
         known: &[CachedBatch],
@@ -174,8 +174,8 @@ impl<S: Alter> Store<S> {
         Ok(found)
     }
 
-    /// Returns the overviews of the batches of the ward with this number, in the order of their numbers, from the
-    /// cached batches; none if there is no such ward.
+    /// Returns the overviews of the batches of the ward with this number, ordered by batch number, from the cached
+    /// batches; `None` if there is no such ward.
     fn batches_by(
         &mut self,
         known: &[CachedBatch],
@@ -194,7 +194,7 @@ impl<S: Alter> Store<S> {
         }
     }
 
-    /// Returns the same as `load_batches`, from the cache, which it refreshes first.
+    /// Returns the same as `load_batches`, from the cache, after refreshing it.
     pub(crate) fn batches_with(
         &mut self,
         known: &mut Vec<CachedBatch>,

@@ -25,7 +25,7 @@ impl<S: Alter> Store<S> {
         find_entry::<Batches, S>(&mut self.conn, &[number(batch)])
     }
 
-    /// Returns the batches of a ward, in the order of their numbers.
+    /// Returns the batches of a ward, ordered by number.
     pub(crate) fn list_batches(&mut self, ward: u32) -> Result<Vec<Batch>, Fault>
         ensures { Loads S.Store self.old self.new result (λ s found. map batch_entry found.items ≡ batches_of s ward) }
     {
@@ -37,7 +37,7 @@ impl<S: Alter> Store<S> {
         )
     }
 
-    /// Returns all batches, in the order of their numbers.
+    /// Returns all batches, ordered by number.
     pub(crate) fn all_batches(&mut self) -> Result<Vec<Batch>, Fault>
         ensures { Loads S.Store self.old self.new result (λ s found. map batch_entry found.items ≡ s.batches) }
     {

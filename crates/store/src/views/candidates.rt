@@ -26,7 +26,7 @@ impl<S: Alter> Store<S> {
         find_entry::<Candidates, S>(&mut self.conn, &[number(ward), number(candidate)])
     }
 
-    /// Returns the candidates of a ward, in the order of their numbers.
+    /// Returns the candidates of a ward, ordered by number.
     pub(crate) fn list_candidates(&mut self, ward: u32) -> Result<Vec<Candidate>, Fault>
         ensures { Loads S.Store self.old self.new result (λ s found. map candidate_entry found.items ≡ candidates_of s ward) }
     {

@@ -1,4 +1,4 @@
-//! What the commands about a ward's count need, read for a request.
+//! The inputs of commands about a ward's count, read for a request.
 
 ghost use Rattle.std.specs.Prelude.{◌≡◌, ◌≤◌, true, Option, MatchOption, option_map, IfOk, IfErr, IsOk};
 ghost use Rattle.votes.specs.Units.{max_seats};
@@ -21,7 +21,7 @@ use std::alloc::Global;
 use tables::Fault;
 
 /// Returns the input of a command that needs the poll of an election, if there is one. It fails only if the ward has no
-/// seats, or more than a ward can have; no ward of an office does.
+/// seats or too many, which is never the case in an office.
 fn polled(alloc: Global, found: Option<Election>) -> Result<CommandInput, Fault>
     ensures part { IfOk result (λ part. (entry : Option ElectionEntry) → IsFoundFor found entry → input_entries part ≡ polled_part entry) }
     ensures cause { IfErr result (λ f. f ≡ Fault.Store) }
@@ -41,7 +41,8 @@ fn polled(alloc: Global, found: Option<Election>) -> Result<CommandInput, Fault>
     })
 }
 
-/// Returns the progress of a ward's count. That of an uncontested ward is finished, and all its candidates are elected.
+/// Returns the progress of a ward's count. The count of an uncontested ward is finished, and all its candidates are
+/// elected.
 fn progress_of(found: &CountedWard) -> Progress
     ensures { (e : ElectionEntry) → IsWardCount e found.now → (result.due ≡ due_of e) × (result.elected ≡ elected_of e) }
 {
@@ -54,7 +55,8 @@ fn progress_of(found: &CountedWard) -> Progress
     }
 }
 
-/// Returns the input of a command that needs what is due in the count of a ward, if there is one, those elected, and the count.
+/// Returns the input of a command that needs the count of a ward, if there is one: what is due in it, the elected
+/// candidates, and the count itself.
 fn counted(alloc: Global, found: Option<CountedWard>) -> CommandInput
     ensures part { (entry : Option ElectionEntry) → IsCountedFor entry found → input_entries result ≡ counted_part entry }
     ensures count { (entry : Option ElectionEntry) → IsCountedFor entry found → IsCountIfExists entry result.count }
@@ -83,8 +85,8 @@ impl<S: Alter> Store<S> {
         Ok(part)
     }
 
-    /// Returns the count of a contested ward with no stage done, begun from its papers, and how many of the papers are
-    /// rejected. None if the ward has more seats than a ward can have; no ward of an office does.
+    /// Returns the count of a contested ward before its first stage, begun from its papers, and how many of the papers
+    /// are rejected. `None` if the ward has too many seats, which is never the case in an office.
     pub(crate) fn begin_sheet(&mut self, contest: CountedWard) -> Result<Option<WardSheet>, Fault>
         ensures { Loads S.Store self.old self.new result
             (λ s found. WasFound s contest → has_count (election_in s contest) ≡ true → contest.ward.done ≡ 0 → IsBegun (election_in s contest) found) }
@@ -97,8 +99,8 @@ impl<S: Alter> Store<S> {
         }
     }
 
-    /// Returns the count of a contested ward that has a stage, as it was stored, from the tabulation alone. None if the
-    /// tabulation is not that of any count; in an office it always is.
+    /// Returns the count of a contested ward that has a stage, as it was stored, from the tabulation alone. `None` if
+    /// the tabulation is not that of any count; in an office it always is.
     pub(crate) fn resume_count(
         &mut self,
         contest: CountedWard,
@@ -152,8 +154,8 @@ impl<S: Alter> Store<S> {
         Ok(count)
     }
 
-    /// Returns the input of a command that needs the progress of a ward's count: the ward, what is due, those elected,
-    /// and the count itself.
+    /// Returns the input of a command that needs the progress of a ward's count: the ward, what is due, the elected
+    /// candidates, and the count itself.
     pub(crate) fn count_part(&mut self, ward: u32) -> Result<CommandInput, Fault>
         ensures { Loads S.Store self.old self.new result
             (λ s part. (input_entries part ≡ record empty_input { ward = ward_at s ward; due = due_for s (ward_at s ward); elected = elected_for s (ward_at s ward) })
@@ -163,7 +165,7 @@ impl<S: Alter> Store<S> {
         Ok(counted(self.allocator(), found))
     }
 
-    /// Returns the part of the command about a lot: the progress of the ward's count, and the candidate.
+    /// Returns the input of the command about a lot: the progress of the ward's count, and the candidate.
     pub(crate) fn lot_part(&mut self, ward: u32, candidate: u32) -> Result<CommandInput, Fault>
         ensures { Loads S.Store self.old self.new result
             (λ s part. input_entries part ≡ record empty_input {

@@ -1,4 +1,4 @@
-//! What the declaration and the stage sheet of a ward are written from.
+//! The data from which the declaration and the stage sheet of a ward are written.
 
 ghost use Rattle.std.specs.Prelude.{◌≡◌, true, option_map};
 ghost use Rattle.register.specs.Offices.{ward_at};
@@ -17,9 +17,10 @@ use sqlite::Alter;
 use tables::Fault;
 
 impl<S: Alter> Store<S> {
-    /// Returns the ward with this number, if there is one, with all that its declaration needs. The count is included if the ward
-    /// is in count; once a stage is done, it is read from the tabulation, and no paper is read. Changes nothing, and
-    /// adds nothing to what a stop may leave. `Memory` or `Store` if a row can't be read.
+    /// Returns the ward with this number, if there is one, with everything that its declaration needs. The count is
+    /// included if the ward is in count; once a stage is done, it is read from the tabulation, and no papers are read.
+    /// Changes nothing, and doesn't add to the states that a stop may leave behind. Returns `Memory` or `Store` if a
+    /// row can't be read.
     pub fn load_counted(&mut self, ward: u32) -> Result<Option<CountedWard>, Fault>
         ensures { Loads S.Store self.old self.new result (λ s found. IsCountedInFor (option_map (election_of s) (ward_at s ward)) found) }
     {
@@ -38,7 +39,7 @@ impl<S: Alter> Store<S> {
     }
 
     /// Returns how many papers of a ward in count with these columns are rejected, by code. The papers are read row by
-    /// row, and none is held.
+    /// row and aren't kept in memory.
     fn rejected_of(&mut self, ward: u32, columns: Columns) -> Result<[u32; REJECTIONS], Fault>
         ensures { Loads S.Store self.old self.new result (λ s rejected. IsInCount s ward → rejected ≡ (ballots_in columns (piles_of s ward)).rejected) }
     {
@@ -47,7 +48,7 @@ impl<S: Alter> Store<S> {
     }
 
     /// Returns the count of a ward in count that has a stage, from the tabulation alone; and how many of its papers are
-    /// rejected. None if the tabulation is not that of any count; in an office it always is.
+    /// rejected. `None` if the tabulation is not that of any count; in an office it always is.
     fn resume_sheet(&mut self, contest: CountedWard) -> Result<Option<WardSheet>, Fault>
         ensures { Loads S.Store self.old self.new result
             (λ s found. WasFound s contest → is_in_count_of (election_in s contest) ≡ true → (contest.ward.done ≡ 0 → ⊥) → IsSheet (election_in s contest) found) }
@@ -61,7 +62,8 @@ impl<S: Alter> Store<S> {
         }
     }
 
-    /// Returns what the sheet of a ward in count is written from. If no stage is done, its papers are read once for both.
+    /// Returns the data for the sheet of a ward in count. If no stage is done, the papers are read once for both the
+    /// count and the rejected papers.
     fn sheet_in_count(&mut self, contest: CountedWard) -> Result<Option<WardSheet>, Fault>
         ensures { Loads S.Store self.old self.new result
             (λ s found. WasFound s contest → is_in_count_of (election_in s contest) ≡ true → IsSheet (election_in s contest) found) }
@@ -73,9 +75,9 @@ impl<S: Alter> Store<S> {
         }
     }
 
-    /// Returns what the stage sheet of the ward with this number is written from, if there is one. It is the result of
-    /// `load_counted`, and how many of its papers are rejected, counted from the papers. Changes nothing, and adds
-    /// nothing to what a stop may leave. `Memory` or `Store` if a row can't be read.
+    /// Returns the data for the stage sheet of the ward with this number, if there is one: the result of
+    /// `load_counted`, and how many of the ward's papers are rejected, counted from the papers. Changes nothing, and
+    /// doesn't add to the states that a stop may leave behind. Returns `Memory` or `Store` if a row can't be read.
     pub fn load_sheet(&mut self, ward: u32) -> Result<Option<WardSheet>, Fault>
         ensures { Loads S.Store self.old self.new result (λ s found. IsSheetFor (option_map (election_of s) (ward_at s ward)) found) }
     {

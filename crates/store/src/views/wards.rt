@@ -21,7 +21,7 @@ impl<S: Alter> Store<S> {
         find_entry::<Wards, S>(&mut self.conn, &[number(ward)])
     }
 
-    /// Returns all wards, in the order of their numbers.
+    /// Returns all wards, ordered by number.
     pub(crate) fn all_wards(&mut self) -> Result<Vec<Ward>, Fault>
         ensures { Loads S.Store self.old self.new result (λ s found. map ward_entry found.items ≡ s.wards) }
     {

@@ -1,4 +1,4 @@
-//! What an older office lacks, written inside a transaction.
+//! Writes what an older office lacks, inside a transaction.
 
 ghost use Rattle.std.specs.Prelude.{◌≡◌, []};
 ghost use Rattle.register.specs.Offices.{OfficeState};
@@ -38,8 +38,8 @@ fn create_missing<S: Alter>(tx: &mut Transaction<'_, S>, form: OlderForm) -> Res
     }
 }
 
-/// Migrates an older office to this program's version: writes the tables that it lacks, the version in the office row,
-/// and the rows that it lacks.
+/// Migrates an older office to this program's version: creates the tables that it lacks, writes the version to the
+/// office row, and inserts the rows that it lacks.
 pub(crate) fn write_migration<S: Alter>(
     alloc: Global,
     tx: &mut Transaction<'_, S>,

@@ -1,4 +1,4 @@
--- The invariant of the loop in `last_keyed`: the clerk keyed none of the rounds after those that are left.
+-- The invariant of the loop in `last_keyed`: the clerk keyed none of the rounds searched so far.
 use Rattle.std.proofs.Common.{◌≡◌, Ok}
 use Rattle.sqlite.specs.Held.{state}
 use Rattle.store.specs.EarlierKeyings.{last_keyed}
