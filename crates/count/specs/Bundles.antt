@@ -7,7 +7,7 @@ use Rattle.std.specs.declared.cmp.Ordering.{Ordering}
 use Rattle.std.specs.Cmp.Lexicographic.{slice_cmp}
 use Rattle.paper.specs.Ranking.{IsRanking}
 
--- a list of preferences, and how many papers have it
+-- a list of preferences, and the number of papers that have it
 abbrev pub Bundle : Type 0
 Bundle = List ℕ × ℕ
 
@@ -19,7 +19,7 @@ list_cmp = slice_cmp nat_cmp
 abbrev pub papers_of : List Bundle → List (List ℕ)
 papers_of bundles = flat_map (λ (b : Bundle). replicate b.1 b.0) bundles
 
--- bundles with more papers of one list: the number of its papers increases, or the list is inserted in its place with that number
+-- bundles with more papers for one list: either its number increases, or the list is inserted at its position with that number
 abbrev pub with_papers : List Bundle → List ℕ → ℕ → List Bundle
 with_papers [] list n = (list, n) ∷ []
 with_papers (b ∷ bs) list n = match_ordering (list_cmp list b.0) ((list, n) ∷ b ∷ bs) ((b.0, b.1 + n) ∷ bs) (b ∷ with_papers bs list n)

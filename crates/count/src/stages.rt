@@ -34,23 +34,23 @@ impl fmt::Display for Action {
     }
 }
 
-/// A stage that is done: its action, and the resulting figures.
+/// A completed stage: its action, and the resulting figures.
 #[derive(Clone, Copy, Debug, PartialEq, Eq)]
 pub struct Stage {
     pub action: Action,
-    /// The votes of candidate c at index c - 1 ("Transfer of ballot papers"), at most one for each paper, and 0 for numbers that
-    /// aren't candidates.
+    /// The votes of candidate c at index c - 1 ("Transfer of ballot papers"), at most one per paper, and 0 for numbers that aren't
+    /// candidates.
     pub votes: [Votes; MAX_CANDIDATES],
     /// The candidates newly elected at this stage ("Quota"; "Filling of last vacancies").
     pub elected: Columns,
-    /// The values of the papers without a next preference, for all stages up to this one ("Transfer of ballot papers"), at most one
-    /// vote for each paper.
+    /// The total value of the papers without a next preference, over all stages up to this one ("Transfer of ballot papers"), at
+    /// most one vote per paper.
     pub non_transferable: Votes,
-    /// The loss by fractions on surpluses, for all stages up to this one ("Transfer values"), at most one vote for each paper.
+    /// The loss by fractions on surpluses, over all stages up to this one ("Transfer values"), at most one vote per paper.
     pub lost: Votes,
 }
 
-/// What candidates are tied for.
+/// The kind of tie between candidates.
 #[derive(Clone, Copy, PartialEq, Eq)]
 pub enum TiedFor {
     /// Equal highest surpluses ("Transfer of ballot papers").
@@ -59,7 +59,7 @@ pub enum TiedFor {
     Exclusion,
 }
 
-/// What is due next in a count.
+/// What comes next in a count.
 #[derive(Clone, Copy, PartialEq, Eq)]
 pub enum Due {
     /// An action is due.

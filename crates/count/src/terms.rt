@@ -1,4 +1,4 @@
-//! What a count is held on.
+//! The terms of a count.
 
 ghost use Rattle.std.specs.Prelude.{◌≡◌, ◌<◌};
 ghost use Rattle.count.specs.Bundles.{papers_of, AreBundles};
