@@ -22,7 +22,7 @@ use Rattle.count.proofs.Law.OwnLotLemmas.{drawn-own}
 by_itself : History → Stage → Option ℕ
 by_itself before s = candidate_of s.action
 
--- the stages of a book can be numbered in one byte
+-- the stage numbers of a book fit in one byte
 pub book-few : (contest : Contest) (stages : List Stage) (holdings : List Holding) → IsBook contest (reverse stages) holdings → length stages < 255
 unfolding by_itself
 book-few contest stages holdings book =

@@ -51,7 +51,7 @@ rankings_of (b ∷ bs) each = rankings_more b.1 b.0 (papers_of bs) each.0.2 (ran
 rankings-book : (contest : Contest) (history : History) (bundles : List Bundle) (places : List Placed) → IsBundled contest history bundles places → AreRankings contest.papers
 rankings-book contest history bundles places book = subst AreRankings (sym book.papers_are) (rankings_of bundles book.bundles_are.each)
 
--- the stages of a book can be numbered in one byte
+-- the stage numbers of a book fit in one byte
 pub bundled-few : (contest : Contest) (stages : List Stage) (bundles : List Bundle) (places : List Placed) → IsBundled contest (reverse stages) bundles places → length stages < 255
 unfolding by_itself
 bundled-few contest stages bundles places book =
@@ -96,7 +96,7 @@ figured-adds terms bundles old new action bare figured is_added =
       };
     }
 
--- the places after the action are those after its stage
+-- the places computed for the action are those after its stage
 pub places-adds : (contest : Contest) (old new : History) (action : Action) (bundles : List Bundle) → Adds contest old action new →
     places_after contest (begun action [] ∷ old) bundles ≡ places_after contest new bundles
 places-adds contest old new action bundles adds =
@@ -122,7 +122,7 @@ own_lots contest handed [] right = tt
 own_lots contest handed (s ∷ before) right =
     (own_lots contest handed before right.0, record { was_due = drawn-own contest before (handed before s) (due_after contest before) s.action right.1.was_due; tells = right.1.tells })
 
--- stages that are right for some lots are right for those that they name themselves
+-- stages that are right for some lots are right for the lots that they name themselves
 pub some-own : (contest : Contest) (stages : History) → IsRightForSome contest stages → IsRightByItself contest stages
 some-own contest stages right = own_lots contest (λ before s. lot_for right.lots (length before + 1)) stages right.right
 

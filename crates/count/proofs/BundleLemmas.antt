@@ -75,7 +75,7 @@ above-with_papers : (x list : List ℕ) (n : ℕ) (bs : List Bundle) → list_cm
 above-with_papers x list n [] new all = (new, tt)
 above-with_papers x list n (b ∷ bs) new all = above_at x list n b bs (list_cmp list b.0) new all (above-with_papers x list n bs new all.1)
 
--- a list below another is below those above that
+-- a list below another is below all lists above that
 above_both : (x y : List ℕ) (zs : List (List ℕ)) → list_cmp x y ≡ Less → AllByRecursion (λ z. list_cmp y z ≡ Less) zs → AllByRecursion (λ z. list_cmp x z ≡ Less) zs
 above_both x y [] below all = tt
 above_both x y (z ∷ zs) below all = (nat_list_cmp_total.trans x y z below all.0, above_both x y zs below all.1)
