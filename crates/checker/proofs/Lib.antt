@@ -1,4 +1,4 @@
--- What the proofs of the readers share.
+-- What the proofs about the readers share.
 pub mod TokenLemmas
 pub mod RankLemmas
 pub mod NameLemmas
