@@ -1,4 +1,4 @@
--- What the proofs of the writers share.
+-- What the proofs about the writers share.
 pub mod Candidates
 pub mod Joined
 pub mod Writing

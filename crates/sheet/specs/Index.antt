@@ -36,7 +36,7 @@ standing_words Declared = codes "<b>declared</b>"
 abbrev pub elected_name : (ℕ × List ℕ) → List ℕ
 elected_name candidate = line (codes "<li>" ∷ named candidate.0 candidate.1 ∷ codes "</li>" ∷ [])
 
--- the row of a ward, up to but excluding the elected candidates
+-- the part of a ward's row before the elected candidates
 abbrev pub row_opening : ListedEntry → List ℕ
 row_opening ward = line (
     codes "<tr><th scope=\"row\">" ∷ named ward.number ward.name ∷ codes "</th><td>" ∷ decimal ward.seats ∷ codes "</td><td>" ∷ standing_words ward.standing ∷

@@ -229,7 +229,7 @@ fn write_papers<W: Sink>(sink: &mut W, ward: &Ward, bundles: &Bundles) -> Result
 /// Writes the ballots of a ward, as a file in the format that counting programs share: its bundles of equal valid papers, and the
 /// recorded lots, each a stage and a candidate. An uncontested ward has no bundles.
 ///
-/// Allocates nothing. `Broken` only if the sink fails, which has then accepted a prefix of the file and counts one more failure.
+/// Allocates nothing. `Broken` only if the sink fails; it has then accepted a prefix of the file and counts one more failure.
 pub fn write_ballots<W: Sink>(
     sink: &mut W,
     ward: &Ward,

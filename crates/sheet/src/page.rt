@@ -255,7 +255,7 @@ fn write_foot<W: Sink>(
 /// and a candidate), and the stages both as a chart and as tables; if the ward is declared, it also has lines for signatures. An
 /// empty title is omitted. For an uncontested ward, stages and lots aren't read.
 ///
-/// Allocates nothing. `Broken` only if the sink fails, which has then accepted a prefix of the page and counts one more failure.
+/// Allocates nothing. `Broken` only if the sink fails; it has then accepted a prefix of the page and counts one more failure.
 pub fn write_page<W: Sink>(
     sink: &mut W,
     ward: &Ward,

@@ -14,7 +14,7 @@ use Rattle.std.proofs.lemmas.List.Sums.{sum_by-le-sum_by}
 use Rattle.count.proofs.Law.CutLemmas.{cuts_le}
 use Rattle.std.proofs.Math.Nat.{mul-zero, zero-div}
 
--- the total value of all papers, whoever holds them
+-- the total value of all papers, whatever their holders
 abbrev pub all_values : Contest → History → ℕ
 all_values contest stages = sum_by (λ paper. (place contest stages paper).value) contest.papers
 
