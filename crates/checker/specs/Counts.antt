@@ -86,7 +86,7 @@ abbrev pub IsWardCount : Option Poll → SheetEntry → List Bundle → List (�
 IsWardCount None ward bundles lots count = IsUncontestedCount ward count
 IsWardCount (Some poll) ward bundles lots count = IsContestedCount ward bundles lots count
 
--- the reason why a contest isn't counted: it is no contest, a recorded lot isn't drawn, or an allocation failed
+-- the reason why a contest isn't counted: it isn't a contest, a recorded lot isn't drawn, or an allocation failed
 abbrev pub IsNotCounted : Contest → List (ℕ × ℕ) → Problem → Type 0
 IsNotCounted contest lots (problem.Line line flaw) = ⊥
 IsNotCounted contest lots problem.NoContest = ¬ (IsContest contest)
@@ -100,7 +100,7 @@ abbrev pub IsWardNotCounted : Option Poll → SheetEntry → List Bundle → Lis
 IsWardNotCounted None ward bundles lots why = why ≡ problem.Memory
 IsWardNotCounted (Some poll) ward bundles lots why = IsNotCounted (contest_in ward bundles) lots why
 
--- ---- its texts
+-- ---- the texts of a count
 
 -- whether a count is finished
 abbrev pub is_finished : CountEnd → Bool

@@ -19,7 +19,7 @@ pub record Quoting : Type 0 where
   pub comment : Text
   pub within : Within
 
--- the same with another position of the next byte
+-- the same, with another position for the next byte
 abbrev pub moved_to : Within → Quoting → Quoting
 moved_to within quoting = record { name = quoting.name; comment = quoting.comment; within = within }
 

@@ -1,4 +1,4 @@
--- What two outputs accept of the text for them.
+-- What the two outputs accept of their texts.
 use Rattle.std.specs.Prelude.{ℕ, ◌≡◌, ◌⊎◌, ◌+◌, List, Option, codes}
 use Rattle.std.specs.Io.KnownBytes.{Appends}
 use Rattle.streams.specs.Streams.{AppendsBeginning}

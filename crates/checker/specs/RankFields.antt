@@ -67,7 +67,7 @@ with_candidate paper c =
 abbrev pub with_rank : List Text → PaperEntry → Text → Result PaperEntry BallotsFlaw
 with_rank names paper field = if length field == 0 then Ok (with_gap paper) else and_then (candidate_named names field) (with_candidate paper)
 
--- the next field, given the maximum number of fields
+-- the next field, given the number of rank columns
 abbrev pub with_rank_within : List Text → ℕ → PaperEntry → Text → Result PaperEntry BallotsFlaw
 with_rank_within names ranks paper field = if nat_le ranks paper.fields then Err flaw.FieldCount else with_rank names paper field
 

@@ -20,7 +20,7 @@ pub record Ranked : Type 0 where
 abbrev pub is_zero : Text → Bool
 is_zero word = pointwise nat_eq word (codes "0")
 
--- the same with another position of the next word
+-- the same, with another position for the next word
 abbrev pub at_next : NextWord → Ranked → Ranked
 at_next next ranks = record { named = ranks.named; next = next }
 

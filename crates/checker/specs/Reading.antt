@@ -78,7 +78,7 @@ with_withdrawn_line reading words =
 abbrev pub with_size_line : ReaderEntry → List Text → Result ReaderEntry BallotsFlaw
 with_size_line reading words = and_then (with_size reading.papers words) (λ papers. Ok (with_papers_at reading place.Withdrawn papers))
 
--- a name: one for each number up to the highest, followed by the ward's
+-- a name: one for each number up to the highest, followed by the name of the ward
 abbrev pub with_name : ReaderEntry → Text → ReaderEntry
 with_name reading name =
     if nat_lt (length reading.names.names) reading.papers.highest

@@ -38,7 +38,7 @@ impl Model for RankedPaper {
     ghost invariant = { λ a. IsRanking a.preferences.items };
 }
 
-/// Returns whether a field names the candidate with a number and a name.
+/// Returns whether a field names the candidate with this number and this name.
 fn is_of(field: &[u8], c: u8, name: &str) -> bool
     ensures { result ≡ is_of field.now c name.now }
 {

@@ -1,4 +1,4 @@
--- The laws of a count hold for every book by bundles, and one that advances remains one.
+-- The laws of a count hold for every book by bundles, and a book that advances remains a book by bundles.
 use Rattle.std.proofs.Common.{◌≡◌, ℕ, suc, zero, ◌+◌, ◌<◌, ◌≤◌, List, [], ◌∷◌, ◌++◌, length, map, replicate, reverse, Option, sym, ap, ◌∙◌, arith, subst, Some}
 use Rattle.std.specs.List.{AllByRecursion}
 use Rattle.std.proofs.lemmas.List.{length-reverse}
@@ -79,7 +79,7 @@ pub bundled-filled : (contest : Contest) (history : History) (bundles : List Bun
 unfolding by_itself
 bundled-filled contest history bundles places book h = finished-elected contest by_itself history book.fair book.right h
 
--- a stage with its figures and its newly elected is what the law states for its action
+-- a stage with its figures and its newly elected candidates is what the law states for its action
 pub figured-adds : (terms : Terms) (bundles : List Bundle) (old new : History) (action : Action) (bare : Stage) → IsFigured (contest_on terms bundles) old action bare → IsAdded terms old bare new →
     Adds (contest_on terms bundles) old action new
 figured-adds terms bundles old new action bare figured is_added =
@@ -103,7 +103,7 @@ places-adds contest old new action bundles adds =
     ap (λ (a : Action). places_after contest (begun a [] ∷ old) bundles) (sym adds.of_action)
     ∙ ap (λ (h : History). places_after contest h bundles) (sym adds.one_more)
 
--- a book that advances remains one
+-- a book that advances remains a book by bundles
 pub adds-bundled : (contest : Contest) (before : History) (lot : Option ℕ) (action : Action) (after : History) (bundles : List Bundle) (old new : List Placed) →
     IsBundled contest before bundles old → drawn contest before lot (due_after contest before) ≡ Some action →
     Adds contest before action after → new ≡ places_after contest after bundles → IsBundled contest after bundles new

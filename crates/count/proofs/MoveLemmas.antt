@@ -1,4 +1,4 @@
--- What an action that is due can assume.
+-- What can be assumed about an action that is due.
 use Rattle.std.proofs.Common.{◌≡◌, ℕ, ◌<◌, ◌≤◌, ◌⊎◌, inl, inr, Bool, true, false, cond, nat_eq, List, [], ◌∷◌, sym, ap, ◌∙◌, arith, subst}
 use Rattle.std.specs.List.{list_any}
 use Rattle.paper.specs.Columns.{IsColumn}
@@ -21,7 +21,7 @@ pub record IsUnderWay (contest : Contest) (stages : History) (holdings : List Ho
   pub hold : HoldPapers contest stages holdings
   pub rankings : AreRankings contest.papers
 
--- what a surplus that is due can assume
+-- what can be assumed about a surplus that is due
 pub record IsLawful (contest : Contest) (stages : History) (c : ℕ) : Type 0 where
   pub column : IsColumn c
   pub above : contest.quota < newest_votes stages c

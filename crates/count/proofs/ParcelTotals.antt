@@ -37,7 +37,7 @@ total_of-set f parcels i old new rest within is same more =
     let here : on_parcel f (get_or parcels i old) ≡ on_parcel f old = ap (on_parcel f) (sym is) in
     omega (arith, sum_by-set (on_parcel f) parcels i new old within, grown, here)
 
--- a holding is replaced by one with more
+-- a holding is replaced by one with more papers
 pub total-set : (f : ℕ → List ℕ → ℕ → ℕ) (holdings : List Holding) (i k : ℕ) (old new : Holding) →
     i < length holdings → old ≡ get_or holdings i old → new.holder ≡ old.holder →
     total_of (f old.holder) new.parcels.items ≡ total_of (f old.holder) old.parcels.items + k →
@@ -82,7 +82,7 @@ pub total-more : (f : ℕ → List ℕ → ℕ → ℕ) (holdings : List Holding
 total-more f holdings i holding within is =
     sum_by_more (on_holding f) holdings i holding within ∙ ap (λ n. total f (take i holdings) + n) (ap (on_holding f) (sym is))
 
--- equal functions have the same sum on some parcels
+-- equal functions have the same sum over some parcels
 pub total_of-same : (f g : List ℕ → ℕ → ℕ) (parcels : List Parcel) → ((rest : List ℕ) (v : ℕ) → f rest v ≡ g rest v) → total_of f parcels ≡ total_of g parcels
 total_of-same f g parcels h = sum_by-same _ _ parcels (λ (p : Parcel). sum_by-same _ _ p.papers.items (λ (r : Bor (List ℕ)). h r.now p.value))
 

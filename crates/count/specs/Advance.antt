@@ -30,7 +30,7 @@ pub record Advances (contest : Contest) (old : History) (lot : Option ℕ) (new 
 abbrev pub AdvancesBy : Contest → List (ℕ × ℕ) → History → History → Type 0
 AdvancesBy contest lots old new = Advances contest old (lot_for lots (length old + 1)) new
 
--- a history with one more stage, which is that of a given action
+-- a history with one more stage, that of a given action
 pub record Adds (contest : Contest) (old : History) (action : Action) (new : History) : Type 0 where
   pub stage : Stage
   pub one_more : new ≡ stage ∷ old

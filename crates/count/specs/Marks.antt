@@ -41,7 +41,7 @@ surplus_now = 3
 abbrev pub excluded_now : ℕ
 excluded_now = 4
 
--- the candidate is excluded at this stage so that the last vacancies are filled, and nothing is transferred
+-- the candidate is excluded at this stage to fill the last vacancies, and nothing is transferred
 abbrev pub excluded_last : ℕ
 excluded_last = 5
 

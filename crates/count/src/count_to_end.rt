@@ -30,7 +30,7 @@ pub fn lot_at(lots: &[(u8, u8)], stage: u8) -> Option<u8>
     lots.iter().find(|lot| lot.0 == stage).map(|lot| lot.1)
 }
 
-/// Adds the stage due, if there is one.
+/// Adds the stage that is due, if there is one.
 fn advanced<B: CountBook>(book: &mut B, lot: Option<u8>) -> Result<Option<CountEnd>, AllocError>
     requires { refusal lot (due_after (B.contest book.old) (B.history book.old)) ≡ None }
     ensures same { B.contest book.new ≡ B.contest book.old }
@@ -44,7 +44,7 @@ fn advanced<B: CountBook>(book: &mut B, lot: Option<u8>) -> Result<Option<CountE
     }
 }
 
-/// Adds the stage due, or returns the reason why there is none.
+/// Adds the stage that is due, or returns the reason why there is none.
 #[tactic(auto, using(crate::proofs::Law::DueLemmas::due_lot))]
 pub fn step<B: CountBook>(book: &mut B, lots: &[(u8, u8)]) -> Result<Option<CountEnd>, AllocError>
     ensures same { B.contest book.new ≡ B.contest book.old }

@@ -35,7 +35,7 @@ fn action_on(terms: &Terms, stages: &[Stage], kind: TiedFor, c: u8) -> Action
     }
 }
 
-/// Returns the action on the only candidate of a group, or a lot if there are several.
+/// Returns the action on the only candidate of a group, or otherwise a lot among its members.
 #[tactic(auto, using(crate::proofs::Law::DueLemmas::among_sizes))]
 fn among(terms: &Terms, stages: &[Stage], kind: TiedFor, group: &Columns) -> Due
     requires few { length stages.now < 255 }

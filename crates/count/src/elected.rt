@@ -82,7 +82,7 @@ fn is_transferred(stages: &[Stage], c: u8) -> bool
     stages.iter().any(|stage| stage.action.transfers(c))
 }
 
-/// Returns whether a candidate's surplus has been transferred, including by one more action.
+/// Returns whether a candidate's surplus has been transferred by these stages or by one more action.
 pub fn is_transferred_with(stages: &[Stage], action: &Action, c: u8) -> bool
     ensures { result ≡ (transfers_of action.now c || is_transferred_of (reverse stages.now) c) }
 {

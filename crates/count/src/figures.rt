@@ -35,7 +35,7 @@ const SURPLUS_NOW: u32 = 3;
 /// The mark of a candidate excluded at this stage, whose papers are transferred.
 const EXCLUDED_NOW: u32 = 4;
 
-/// The mark of a candidate excluded at this stage so that the last vacancies are filled.
+/// The mark of a candidate excluded at this stage to fill the last vacancies.
 const EXCLUDED_LAST: u32 = 5;
 
 /// A figure of a stage: a candidate's votes, in units, and mark. Marks are 0 continuing, 1 elected, 2 excluded earlier, 3 elected

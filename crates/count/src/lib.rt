@@ -1,7 +1,7 @@
 //! The Order's count by the single transferable vote, stage by stage.
 //!
-//! A [`CountBook`] is a count in progress: the stages done, what is [`Due`], and [`CountBook::advance`], which adds the one stage
-//! that is due. [`ParcelBook`] stores the papers in parcels, as a teller does. [`BundleBook`] stores equal papers as one of
+//! A [`CountBook`] is a count in progress: the completed stages, what is [`Due`], and [`CountBook::advance`], which adds the one
+//! stage that is due. [`ParcelBook`] stores the papers in parcels, as a teller does. [`BundleBook`] stores equal papers as one of
 //! [`Bundles`], each [`Placed`] with one holder, and can resume another count of this kind. [`StoredCount`] resumes a stored count
 //! one stage at a time, wherever it was read from. [`run_count`] counts to the end with the recorded lots, and [`count_to`] counts
 //! a given number of stages. [`due_by`] and [`dues_to`] return what is due, given those lots.
@@ -32,7 +32,7 @@ mod so_far;
 mod moving;
 mod parcel;
 mod sorting_papers;
-// what a stage records of these papers
+// the figures that a stage records for parcels
 mod parcel_figures;
 mod stage_adding;
 // the book that stores parcels

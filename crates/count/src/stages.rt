@@ -4,7 +4,7 @@ use paper::{Columns, MAX_CANDIDATES};
 use std::fmt;
 use votes::Votes;
 
-/// What is done at a stage; candidates are identified by their numbers, 1 to `MAX_CANDIDATES`.
+/// The action of a stage; candidates are identified by their numbers, 1 to `MAX_CANDIDATES`.
 #[derive(Clone, Copy, Debug, PartialEq, Eq)]
 pub enum Action {
     /// Each paper is credited to its first preference, as one vote ("Transfer of ballot papers").
@@ -13,8 +13,7 @@ pub enum Action {
     Surplus(u8),
     /// A candidate is excluded, and the candidate's papers are transferred ("Exclusion of candidates").
     Exclude(u8),
-    /// A candidate is excluded so that the last vacancies are filled; nothing is transferred
-    /// ("Filling of last vacancies").
+    /// A candidate is excluded to fill the last vacancies; nothing is transferred ("Filling of last vacancies").
     ExcludeLast(u8),
 }
 
@@ -59,7 +58,7 @@ pub enum TiedFor {
     Exclusion,
 }
 
-/// What comes next in a count.
+/// The next step of a count.
 #[derive(Clone, Copy, PartialEq, Eq)]
 pub enum Due {
     /// An action is due.

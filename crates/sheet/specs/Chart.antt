@@ -68,7 +68,7 @@ ending_words (Elected k) = codes "<b>elected</b> at stage "
 ending_words (Excluded k) = codes "excluded at stage "
 ending_words (Neither k) = codes "not elected up to stage "
 
--- the number of the stage of an outcome
+-- the number of an outcome's stage
 abbrev pub ending_stage : Ending → ℕ
 ending_stage (Elected k) = k
 ending_stage (Excluded k) = k

@@ -160,7 +160,7 @@ fn ending_words(ending: Ending) -> &'static str
     }
 }
 
-/// Returns the number of the stage of an outcome.
+/// Returns the number of an outcome's stage.
 fn ending_stage(ending: Ending) -> u64
     ensures { result ≡ stage_of ending }
 {

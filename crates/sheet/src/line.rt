@@ -40,7 +40,7 @@ pub enum Piece<'a> {
     Escaped(&'a str),
     /// The number and the name of a candidate or a ward, on a page.
     Named(u8, &'a str),
-    /// The number and the name of a ward or a candidate on the page of all wards; the number may be larger.
+    /// The same as `Named`, with a larger range of numbers, for the page of all wards.
     Listed(u32, &'a str),
 }
 

@@ -62,7 +62,7 @@ bundles_for candidates papers fair =
 
 -- ---- in a state
 
--- the papers with which a ward's batches are accepted are within the limit
+-- the number of papers taken from a ward's batches is within the limit
 few_judged : (s : OfficeState) (columns : List ℕ) (ward : ℕ) → list_all is_batch s.batches ≡ true → list_all (λ b. are_rounds_to s b b.round) s.batches ≡ true → IsStrictlySortedBy batch_cmp s.batches
     → length (judgements columns (piles_of s ward)) ≤ max_papers
 few_judged s columns ward fine rounds up =

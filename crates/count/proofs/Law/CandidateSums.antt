@@ -58,7 +58,7 @@ one-within contest stages c =
     sum_by-le-sum_by (λ p. value_with c (place contest stages p)) (λ p. (place contest stages p).value) contest.papers
     (λ p. let at = place contest stages p in within_value (eqb at.holder c) at.value)
 
--- a function that is smaller on each member has a smaller sum
+-- if a function is at most another on each member, so is its sum
 pub sum-le : (f g : ℕ → ℕ) (xs : List ℕ) → ((c : ℕ) → list_any (nat_eq c) xs ≡ true → f c ≤ g c) → sum_by f xs ≤ sum_by g xs
 sum-le f g [] h = omega arith
 sum-le f g (x ∷ xs) h =

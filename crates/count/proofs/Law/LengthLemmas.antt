@@ -148,7 +148,7 @@ either_way : (a b : Bool) → (a || b) ≡ true → (a ≡ true) ⊎ (b ≡ true
 either_way true b h = inl refl
 either_way false b h = inr h
 
--- a candidate with a surplus isn't excluded, and an excluded candidate's surplus isn't transferred
+-- a surplus is that of a candidate who hasn't been excluded, and an exclusion is that of one whose surplus hasn't been transferred
 apart_step : (contest : Contest) (handed : History → Stage → Option ℕ) (s s' : Stage) (before : History) (c : ℕ) → IsContest contest → AreRankings contest.papers →
     IsRightBy contest handed (s ∷ s' ∷ before) → In c contest.candidates →
     IsSurplus contest (s' ∷ before) s.action ⊎ IsExclusion contest (s' ∷ before) s.action → (is_transferred (s' ∷ before) c ≡ true → is_excluded (s' ∷ before) c ≡ true → ⊥) →

@@ -196,7 +196,7 @@ whole_count contest lots whole end right ended =
     let count : IsCount contest lots whole = (right, ended-next contest whole (lot_for lots (length whole + 1)) (due_after contest whole) end ended) in
     record { ended = count; begins_each = begins_each_right contest lots whole end right ended; equals_each = equals_each contest lots whole count }
 
--- a history is a prefix of itself, and remains one if a stage is added
+-- a history is a prefix of itself, and remains a prefix if a stage is added
 pub begins_itself : (stages : History) → IsBeginning stages stages
 begins_itself stages =
     let none : length stages - length stages ≡ 0 = omega arith in

@@ -31,7 +31,7 @@ pub record IsExclusion (contest : Contest) (stages : History) (action : Action) 
   pub not_elected : is_elected contest stages c ≡ false
   pub not_excluded : is_excluded stages c ≡ false
 
--- what follows a stage is the surplus of an elected candidate or the exclusion of a continuing one
+-- each stage is followed by the surplus of an elected candidate or the exclusion of a continuing one
 pub step-is : (contest : Contest) (s : Stage) (before : History) (lot : Option ℕ) (action : Action) →
     drawn contest (s ∷ before) lot (due_after contest (s ∷ before)) ≡ Some action → IsSurplus contest (s ∷ before) action ⊎ IsExclusion contest (s ∷ before) action
 step-is contest s before lot action h =

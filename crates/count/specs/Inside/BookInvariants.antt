@@ -1,4 +1,4 @@
--- How the papers of a book match the places that the law assigns them, and what is added to its stages.
+-- How the papers of a book match the places that the law assigns to them, and what is added to its stages.
 use Rattle.std.specs.Prelude.{◌≡◌, ℕ, ◌+◌, ◌==◌, not, List, [], ◌∷◌, map}
 use Rattle.std.specs.List.{filter, sum_by}
 use Rattle.count.specs.Law.Contest.{Contest, History, IsContest, numbers}

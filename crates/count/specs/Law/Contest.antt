@@ -18,7 +18,7 @@ abbrev pub contest_for : List ℕ → ℕ → List (List ℕ) → Contest
 contest_for candidates seats papers =
     record { candidates = candidates; seats = seats; quota = quota_of (length papers) seats; papers = papers }
 
--- c is one of a list of candidates
+-- c is in a list of candidates
 abbrev pub In : ℕ → List ℕ → Type 0
 In c candidates = list_any (nat_eq c) candidates ≡ true
 

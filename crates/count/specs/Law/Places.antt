@@ -36,8 +36,7 @@ passed_on contest before c paper at new_value =
 
 -- The place to which an action after some stages moves a paper.
 -- At the first stage: to its first preference, as one vote.
--- Transfer of ballot papers, Transfer values: on a surplus, all papers of c are transferred, each at its value times the share of the surplus, rounded
--- down.
+-- Transfer of ballot papers, Transfer values: on a surplus, all papers of c are transferred, each at its value times the share of the surplus, rounded down.
 -- Exclusion of candidates: on an exclusion, all papers of c are transferred, each at the value at which it was received.
 -- Filling of last vacancies: an exclusion that fills the last vacancies moves nothing.
 abbrev pub moved : Contest → History → Action → List ℕ → Place → Place
