@@ -15,7 +15,7 @@ use std::process::ExitCode;
 use std::{env, fs};
 use streams::Counted;
 
-/// The path that stands for standard input.
+/// The path that names standard input.
 const STANDARD_INPUT: &str = "-";
 
 /// The files of this machine, including its standard input.

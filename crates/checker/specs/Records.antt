@@ -29,8 +29,8 @@ pub record WardEntry : Type 0 where
   pub name : Text
   pub candidates : List Text
 
--- What has been read so far: whether the first line has been read, whether lines begin with a number of papers, the number of rank columns if the columns
--- aren't for candidates, the candidates' names, the papers, and the rejected papers by code.
+-- What has been read so far. The first two fields are whether the first line has been read, and whether lines begin with a number of papers. Then come
+-- the number of rank columns if the columns aren't for candidates, the candidates' names, the papers, and the rejected papers by code.
 pub record RecordsEntry : Type 0 where
   pub headed : Bool
   pub counted : Bool

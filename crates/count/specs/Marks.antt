@@ -8,7 +8,7 @@ use Rattle.count.specs.declared.stages.Action.{Action}
 use Rattle.count.specs.declared.stages.Action.TheVariants.{First, Surplus, Exclude, ExcludeLast}
 use Rattle.count.specs.declared.stages.Stage.{Stage}
 
--- the numbers that stand for the non-transferable votes and the loss by fractions
+-- the numbers for the non-transferable votes and for the loss by fractions
 abbrev pub no_candidate : ℕ
 no_candidate = 0
 

@@ -14,10 +14,10 @@ use paper::{Columns, MAX_CANDIDATES};
 use std::alloc::{AllocError, Global};
 use votes::Votes;
 
-/// The number that stands for the non-transferable votes among a stage's figures.
+/// The number for the non-transferable votes among a stage's figures.
 pub const NO_CANDIDATE: u32 = 0;
 
-/// The number that stands for the loss by fractions among a stage's figures.
+/// The number for the loss by fractions among a stage's figures.
 pub const FRACTIONS: u32 = 99;
 
 /// The mark of a continuing candidate, and of figures that don't belong to a candidate.
