@@ -122,7 +122,7 @@ hindered_text problem.Memory = error_line (problem_text problem.Memory)
 abbrev pub unread_text : Text → Text → Text
 unread_text path why = joined (codes "error: " ∷ shown path ∷ codes " can't be read: " ∷ why ∷ codes "\n" ∷ [])
 
--- the message about the flaw in a request to count ballots, with what to do about it
+-- the message about a flaw in a request to count ballots, and what to do about it
 abbrev pub words_text : WordsFlaw → Text
 words_text words.NoBallots = codes "error: give the path of the ballots; --help says more\n"
 words_text words.SecondBallots = codes "error: give one path, that of the ballots; --help says more\n"
@@ -136,11 +136,11 @@ words_text words.Seats = codes "error: give the seats of the ward, 1 to 15, such
 words_text words.Candidates = codes "error: give the names of the candidates, at most 30 of 1 to 1000 bytes, such as --candidate Ann --candidate Bob; --help says more\n"
 words_text words.HalfWard = codes "error: cast-vote records need --seats and --name; --help says more\n"
 
--- the message about a second lot for a stage, with what to do about it
+-- the message about a second lot for a stage, and what to do about it
 abbrev pub second_lot_text : ℕ → Text
 second_lot_text stage = joined (codes "error: a lot for stage " ∷ decimal stage ∷ codes " is given a second time: give one, in the ballots or by --lot\n" ∷ [])
 
--- the message about the reason why ballots weren't counted, with what to do about it
+-- the message that says why ballots weren't counted, and what to do about it
 abbrev pub uncounted_text : CountProblem → Text
 uncounted_text (uncounted.LotTwice stage) = second_lot_text stage
 uncounted_text (uncounted.Ballots problem) = hindered_text problem ++ remedy problem

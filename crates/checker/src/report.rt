@@ -144,7 +144,7 @@ fn hindered_text(alloc: Global, problem: &Problem) -> Result<String, AllocError>
     }
 }
 
-/// Returns the message about the flaw in a request to count ballots, with what to do about it.
+/// Returns the message about a flaw in a request to count ballots, and what to do about it.
 fn words_text(flaw: WordsFlaw) -> &'static str
     ensures { result.now ≡ words_text flaw }
 {
@@ -185,7 +185,7 @@ fn unread_text(alloc: Global, path: &str, why: &str) -> Result<String, AllocErro
     format!(in alloc; "error: {path} can't be read: {why}\n")
 }
 
-/// Returns the message about the reason why ballots weren't counted, with what to do about it.
+/// Returns the message that says why ballots weren't counted, and what to do about it.
 fn uncounted_text(alloc: Global, problem: &CountProblem) -> Result<String, AllocError>
     ensures { IfOk result (λ text. string_bytes text ≡ uncounted_text problem.now) }
 {

@@ -45,7 +45,7 @@ excluded_now = 4
 abbrev pub excluded_last : ℕ
 excluded_last = 5
 
--- the mark of c at a stage whose action isn't on c
+-- the mark of c at a stage that doesn't act on c
 abbrev pub standing_mark : History → ℕ → ℕ
 standing_mark stages c = if is_named stages c then elected else if is_excluded stages c then excluded else continuing
 

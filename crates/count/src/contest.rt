@@ -1,4 +1,4 @@
-//! Tests of whether a count can be held.
+//! Checking whether a count can be held.
 
 ghost use Rattle.std.specs.Prelude.{◌≡◌, ◌↔◌, ◌≤◌, ◌<◌, true, length, IsTrue};
 ghost use Rattle.votes.specs.Units.{max_seats};

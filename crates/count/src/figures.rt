@@ -55,7 +55,7 @@ fn is_named(stages: &[Stage], c: u8) -> bool
     stages.iter().any(|stage| stage.elected.has(c))
 }
 
-/// Returns the mark of a candidate at a stage whose action isn't on the candidate.
+/// Returns the mark of a candidate at a stage that doesn't act on the candidate.
 fn standing_mark(stages: &[Stage], c: u8) -> u32
     ensures { result ≡ standing_mark_of (reverse stages.now) c }
 {

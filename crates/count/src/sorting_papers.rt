@@ -28,7 +28,7 @@ pub fn first_preference(rest: &[u8]) -> u8
     }
 }
 
-/// Returns an empty holding for no one and one for each number.
+/// Returns empty holdings: one for no one, and one for each number.
 fn empty_holdings<'a>(alloc: Global) -> Result<Vec<Holding<'a>>, AllocError>
     ensures len { IfOk result (λ holdings. vec_len holdings ≡ holder_count) }
     ensures numbered { IfOk result (λ holdings. AreNumbered 0 holdings.items) }

@@ -76,9 +76,9 @@ impl StoredCount {
         })
     }
 
-    /// Returns a stored count, or `None` if its data is out of range for any count. It is if it has more stages than a count can
-    /// have, a holder above `MAX_CANDIDATES`, a value above one vote, or a loss at the newest stage above one vote per paper.
-    /// Allocates nothing.
+    /// Returns a stored count, or `None` if its data is out of range for any count. This means more stages than a count can have, a
+    /// holder above `MAX_CANDIDATES`, a value above one vote, or a loss at the newest stage above one vote per paper. Allocates
+    /// nothing.
     pub fn resume(
         candidates: Columns,
         seats: u8,

@@ -35,7 +35,7 @@ abbrev pub votes_or : ℕ → Option Stage → ℕ → ℕ
 votes_or others None c = others
 votes_or others (Some stage) c = votes_at stage c
 
--- a candidate's votes before a stage; at the first stage, before which nothing has moved, the votes at it
+-- a candidate's votes before a stage; for the first stage, before which nothing has moved, the votes at that stage
 abbrev pub votes_before : List Stage → Stage → ℕ → ℕ
 votes_before earlier stage c = votes_or (votes_at stage c) (slice_get earlier (length earlier - 1)) c
 

@@ -28,7 +28,7 @@ pub enum Cell<'a> {
     Lost,
 }
 
-/// Returns the votes of a candidate before a stage; at the first stage, those at it.
+/// Returns the votes of a candidate before a stage; for the first stage, the votes at that stage.
 fn votes_before(earlier: &[Stage], stage: &Stage, c: u8) -> Votes
     ensures { result ≡ before_of earlier.now stage.now c }
 {

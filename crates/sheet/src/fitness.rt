@@ -1,4 +1,4 @@
-//! Checks of whether a ward can be printed.
+//! Checking whether a ward can be printed.
 
 ghost use Rattle.std.specs.Prelude.{◌↔◌, map, IsTrue};
 ghost use Rattle.sheet.specs.Wards.{Ascend, CanBePrinted, HasFewPapers};

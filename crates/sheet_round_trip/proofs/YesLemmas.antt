@@ -67,7 +67,7 @@ alone_among text own other differ (checked.Differs at should_be) none is told to
 
 -- ---- a ward
 
--- a text of a ward is confirmed and has no other result, and only a failed allocation prevents the check
+-- a text of a ward is confirmed and has no other result, and only a failed allocation can prevent the check
 pub record HasYes (ward : SheetEntry) (bundles : List Bundle) (lots : List (ℕ × ℕ)) (text : List ℕ) (answer : Checked) : Type 0 where
   pub told : IsWardCheck ward.poll ward bundles lots text answer
   pub alone : (other : Checked) → IsWardCheck ward.poll ward bundles lots text other → other ≡ answer

@@ -61,7 +61,7 @@ step-vacant contest s before lot action h = vacant_choice contest (s ∷ before)
 pub step-first : (contest : Contest) (lot : Option ℕ) (action : Action) → drawn contest [] lot (due_after contest []) ≡ Some action → action ≡ First
 step-first contest lot action h = cc
 
--- what a stage records of a candidate
+-- what a stage records for a candidate
 pub told-votes : (contest : Contest) (s : Stage) (before : History) (c : ℕ) → Tells contest before s → IsColumn c → newest_votes (s ∷ before) c ≡ votes_after contest (s ∷ before) c
 told-votes contest s before c tells column = ap (λ vs. slice_index vs (c - 1)) tells.votes_told ∙ at_number (votes_after contest (s ∷ before)) c column
 
