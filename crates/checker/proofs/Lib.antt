@@ -1,4 +1,4 @@
--- What the proofs of the readers share.
+-- Lemmas shared by the proofs about the readers.
 pub mod TokenLemmas
 pub mod RankLemmas
 pub mod NameLemmas

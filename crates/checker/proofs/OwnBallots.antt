@@ -1,4 +1,4 @@
--- The result of checking a text against the ballots of a ward is that of comparing it with that ward.
+-- Checking a text against the ballots of a ward has the same result as comparing it with that ward.
 use Rattle.std.proofs.Common.{◌≡◌, ◌∙◌, ℕ, List, refl, sym, subst, Ok}
 use Rattle.std.specs.Prelude.{Option, Some, None}
 use Rattle.count.specs.Bundles.{Bundle}
@@ -14,7 +14,7 @@ use Rattle.checker.specs.declared.problem.Problem.{Problem}
 use Rattle.checker.specs.declared.problem.Problem.TheVariants as problem
 use Rattle.checker.proofs.ReadBackLaws.{ballots_back}
 
--- a fact about the ward in a file is one about the ward whose ballots it contains
+-- a fact about the ward in a file is a fact about the ward whose ballots the file contains
 told_of_own : (P : SheetEntry → List Bundle → List (ℕ × ℕ) → Type 0) (ward : SheetEntry) (bundles : List Bundle) (lots : List (ℕ × ℕ)) (back : IsReadBack ward bundles lots) (reading : ReaderEntry) →
     read (ballots ward bundles lots) ≡ Ok reading
     → P (ward_told reading) reading.papers.bundles reading.remarks.lots → P ward bundles lots

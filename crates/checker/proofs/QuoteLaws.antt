@@ -1,4 +1,4 @@
--- The names are read back.
+-- The names read back.
 use Rattle.std.proofs.Common.{◌≡◌, ◌∙◌, ℕ, zero, suc, ◌+◌, ◌<◌, ◌≤◌, ◌||◌, List, [], ◌∷◌, ◌++◌, Bool, true, false, length, map, refl, sym, ap, subst, arith, append_assoc, append-nil}
 use Rattle.std.proofs.Common.{length-append, Ok, Some}
 use Rattle.std.specs.Prelude.{◌==◌, codes, fold, if◌then◌else◌, Option, option_map}
@@ -37,7 +37,7 @@ name_inside acc (b ∷ name) rest =
     ∙ (byte_inside (b == 34) (b == 92) b acc (flat_map escaped name ++ rest) refl refl
     ∙ (name_inside (acc ++ b ∷ []) name rest ∙ ap (λ n. fold with_byte (inside n) rest) (append_assoc acc (b ∷ []) name)))
 
--- a quoted name is read back
+-- a quoted name reads back
 pub name_back : (name : Text) → IsName name → name_in (quoted name) ≡ Ok name
 name_back name is = rw (name_inside [] name (34 ∷ []), le-ltb max_name (length name) is.short, is.text) refl
 

@@ -28,7 +28,7 @@ or_both a b h k = rw (h, k) refl
 other : (a b : ℕ) → (a == b) ≡ false → (b == a) ≡ false
 other a b h = ne_eqb b a (λ e. eqb-false a b h (sym e))
 
--- one more at the end, who isn't among them
+-- a ranking with one more candidate at the end, who isn't in it yet
 pub ranking_more : (xs : List ℕ) (c : ℕ) → IsRanking xs → 1 ≤ c → c ≤ max_candidates → list_any (λ d. d == c) xs ≡ false → IsRanking (xs ++ c ∷ [])
 ranking_more [] c rank some few none = (some, few, refl, tt)
 ranking_more (x ∷ xs) c rank some few none =
@@ -49,21 +49,21 @@ kept_ranking : (b : Bool) (x : ℕ) (xs : List ℕ) → 1 ≤ x → x ≤ max_ca
 kept_ranking true x xs some few none rank = (some, few, none, rank)
 kept_ranking false x xs some few none rank = rank
 
--- those that pass a test
+-- the members of a ranking that pass a test form a ranking
 pub ranking_kept : (p : ℕ → Bool) (xs : List ℕ) → IsRanking xs → IsRanking (filter p xs)
 ranking_kept p [] rank = tt
 ranking_kept p (x ∷ xs) rank = kept_ranking (p x) x (filter p xs) rank.0 rank.1 (none_kept p x xs rank.2) (ranking_kept p xs rank.3)
 
--- those who aren't withdrawn
+-- and so do the candidates who haven't withdrawn
 pub ranking_without : (withdrawn named : List ℕ) → IsRanking named → IsRanking (without withdrawn named)
 ranking_without withdrawn named rank = ranking_kept (λ c. not (list_any (nat_eq c) withdrawn)) named rank
 
--- a candidate who is already in the list
+-- naming a candidate who is already in the list is a flaw
 pub named_twice : (highest : ℕ) (ranks : Ranked) (word : List ℕ) (c : ℕ) → candidate_in highest word ≡ Ok c → list_any (λ d. d == c) ranks.named ≡ true →
     Err CandidateTwice ≡ with_candidate highest ranks word
 named_twice highest ranks word c is named = rw (is, named) refl
 
--- nobody withdrew: those who didn't are all
+-- if nobody has withdrawn, all remain
 all_kept : (named : List ℕ) → filter (λ c. true) named ≡ named
 all_kept [] = refl
 all_kept (c ∷ named) = ap (λ (xs : List ℕ). c ∷ xs) (all_kept named)
@@ -101,7 +101,7 @@ passed_alone : (r : Result ℕ BallotsFlaw) (withdrawn : List ℕ) (ranks : Rank
 passed_alone (Err flaw) withdrawn ranks = refl
 passed_alone (Ok c) withdrawn ranks = refl
 
--- a word without an equals sign is the rank of one candidate
+-- a word without an equals sign is a rank with one candidate
 pub alone_word : (highest : ℕ) (withdrawn named : List ℕ) (next : NextWord) (word : Text) → is_zero word ≡ false → list_any (parts Equals) word ≡ false →
     with_alone next highest (record { named = named; next = next }) word ≡ with_word highest withdrawn (record { named = named; next = next }) word
 alone_word highest withdrawn named BehindZero word some alone = refl

@@ -1,4 +1,4 @@
--- The numbers of the candidates in records: 1, 2, 3, ..
+-- The numbers of the candidates in cast-vote records: 1, 2, 3, ..
 use Rattle.std.proofs.Common.{◌≡◌, ◌∙◌, ℕ, zero, suc, ◌+◌, ◌≤◌, List, [], ◌∷◌, ◌++◌, sym, ap, subst, add-zero, add-one, arith}
 use Rattle.std.specs.List.{range_with_len}
 use Rattle.paper.specs.Columns.{IsCandidateSet, max_candidates}
@@ -15,7 +15,7 @@ range_ascends : (k n : ℕ) → k + n ≤ max_candidates → Ascends k (range_wi
 range_ascends k zero few = tt
 range_ascends k (suc n) few = (omega arith, omega arith, range_ascends (k + 1) n (omega arith))
 
--- the set of the first numbers, with the next one
+-- the set of the first numbers, extended by the next one
 pub columns_more : (n : ℕ) (columns more : List ℕ) → n + 1 ≤ max_candidates → columns ≡ range_with_len 1 n → (IsCandidateSet (columns ++ (n + 1) ∷ []) → more ≡ columns ++ (n + 1) ∷ []) →
     more ≡ range_with_len 1 (n + 1)
 columns_more n columns more few are last =

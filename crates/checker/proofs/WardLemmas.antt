@@ -41,7 +41,7 @@ candidates_set withdrawn names candidates few is =
 abbrev numbers_in : List (ℕ × String Global) → List ℕ
 numbers_in candidates = map (λ candidate. candidate.0) candidates
 
--- the number of each candidate is one that a candidate can have
+-- the number of each candidate is a possible candidate number
 IsColumn-candidate : {X : Type 0} (number : X → ℕ) (xs : List X) (i : ℕ) (d : X) → i < length xs → IsCandidateSet (map number xs) → IsColumn (number (get_or xs i d))
 IsColumn-candidate number xs i d within set =
     subst IsColumn (get_or-map number xs i d 0 within) (set.within i (omega (arith, length-map xs number)))
@@ -51,7 +51,7 @@ pub number_is : (candidates : List (ℕ × String Global)) (i : ℕ) (candidate 
 number_is candidates i candidate set here is =
     subst IsColumn (sym (ap (λ (c : ℕ × String Global). c.0) is)) (IsColumn-candidate (λ (c : ℕ × String Global). c.0) candidates i candidate here set)
 
--- one more of them
+-- one more of the numbers
 pub number_more : (candidates : List (ℕ × String Global)) (i : ℕ) (candidate : ℕ × String Global) (columns more : List ℕ) → IsCandidateSet (numbers_in candidates) → i < length candidates →
     candidate ≡ get_or candidates i candidate
     → columns ≡ take i (numbers_in candidates) → (IsCandidateSet (columns ++ candidate.0 ∷ []) → more ≡ columns ++ candidate.0 ∷ []) → more ≡ take (i + 1) (numbers_in candidates)

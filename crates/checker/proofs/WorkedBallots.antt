@@ -1,4 +1,4 @@
--- The definitions of reading, computed for example lines and an example file.
+-- The definitions of reading, evaluated on example lines and an example file.
 use Rattle.std.proofs.Common.{◌≡◌, ℕ, List, [], ◌∷◌, ◌++◌, refl, Ok, Err, Some, None}
 use Rattle.std.specs.Prelude.{codes, Result}
 use Rattle.checker.specs.BallotsComments.{Remarks, with_comment}

@@ -19,8 +19,7 @@ use Rattle.checker.specs.InputFiles.{InputFiles, Holds, Withholds}
 
 -- ---- the request
 
--- help about checking; the check of a text against ballots, each by its path; help about counting; a count of ballots; or arguments that aren't
--- understood
+-- a request: for help on checking; to check a text against ballots, each given by its path; for help on counting; to count ballots; or one that isn't understood
 pub data Request : Type 0 where
   help : Request
   check : Text → Text → Request
@@ -40,7 +39,7 @@ check_asked (word ∷ []) = if is_help word then help else nothing
 check_asked (ballots ∷ text ∷ []) = check ballots text
 check_asked (ballots ∷ text ∷ other ∷ words) = nothing
 
--- a request to count
+-- a request to count, or for help on counting
 abbrev pub is_help_alone : List Text → Bool
 is_help_alone [] = false
 is_help_alone (word ∷ []) = is_help word
@@ -80,15 +79,15 @@ IsCheckOutcome ballots text (report.Checked checked hint) = IsChecked ballots te
 IsCheckOutcome ballots text (report.Hindered why) = IsProblem ballots why
 IsCheckOutcome ballots text other = ⊥
 
--- the outcome of checking the file of a text against ballots
+-- the outcome of checking a file's text against ballots
 abbrev pub IsTextOutcome : InputFiles → Text → Text → Report → Type 0
 IsTextOutcome held ballots path told = IsUnreadFile held path told ⊎ ((text : Text) × Holds held path text × IsCheckOutcome ballots text told)
 
--- the outcome for the files of ballots and of a text
+-- the outcome of checking one file against the ballots in another
 abbrev pub IsFilesOutcome : InputFiles → Text → Text → Report → Type 0
 IsFilesOutcome held path text_path told = IsUnreadFile held path told ⊎ ((ballots : Text) × Holds held path ballots × IsTextOutcome held ballots text_path told)
 
--- the content of a file of ballots in a form
+-- the content of a file of ballots in a given form
 abbrev pub read_in : FormEntry → Text → Result ReaderEntry (ℕ × BallotsFlaw)
 read_in blt bytes = read bytes
 read_in (records ward) bytes = read_records ward bytes

@@ -1,4 +1,4 @@
--- How many columns records may have.
+-- The maximum number of columns in cast-vote records.
 use Rattle.std.specs.Prelude.{◌≤◌, length}
 use Rattle.paper.specs.Columns.{max_candidates}
 use Rattle.checker.specs.declared.file_content.RecordColumns.{RecordColumns}

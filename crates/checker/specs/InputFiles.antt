@@ -20,7 +20,7 @@ Holds held path bytes = IfSome (held path) (λ file. file ≡ Ok bytes)
 abbrev pub Withholds : InputFiles → Text → Text → Type 0
 Withholds held path why = IfSome (held path) (λ file. file ≡ Err why)
 
--- the reason why a file wasn't read: it can't be, or an allocation failed
+-- the reason why a file wasn't read: it can't be read, or an allocation failed
 abbrev pub IsUnreadBy : InputFiles → Text → NotRead → Type 0
 IsUnreadBy held path unread.Memory = ⊤
 IsUnreadBy held path (unread.Because why) = Withholds held path (string_bytes why)

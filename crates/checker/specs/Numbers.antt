@@ -14,12 +14,12 @@ in_range most number = if nat_le number most then Ok number else Err TooLarge
 abbrev pub with_digit : ℕ → ℕ → ℕ → Result ℕ BallotsFlaw
 with_digit most number byte = if is_ascii_digit byte then in_range most (number * 10 + (byte - 48)) else Err NotNumber
 
--- a number continued by some digits
+-- a number followed by some more digits
 abbrev pub number_from : ℕ → ℕ → Text → Result ℕ BallotsFlaw
 number_from most number [] = Ok number
 number_from most number (byte ∷ bytes) = and_then (with_digit most number byte) (λ more. number_from most more bytes)
 
--- the number in a word of digits, if it is at most the maximum
+-- the number in a word of digits, if it is at most the given maximum
 abbrev pub number_in : ℕ → Text → Result ℕ BallotsFlaw
 number_in most [] = Err NotNumber
 number_in most (byte ∷ bytes) = number_from most 0 (byte ∷ bytes)

@@ -1,11 +1,11 @@
--- What two outputs accept of a page.
+-- What the two outputs accept of their texts.
 use Rattle.std.specs.Prelude.{ℕ, ◌≡◌, ◌⊎◌, ◌+◌, List, Option, codes}
 use Rattle.std.specs.Io.KnownBytes.{Appends}
 use Rattle.streams.specs.Streams.{AppendsBeginning}
 use Rattle.checker.specs.Reports.{ReportEntry}
 use Rattle.checker.specs.Tokens.{Text}
 
--- an output: the bytes that it accepted, as far as known, and how many of its calls failed
+-- an output: the bytes that it has accepted, as far as they are known, and how many of its calls failed
 pub record Output : Type 0 where
   pub taken : Option (List ℕ)
   pub failed : ℕ
@@ -41,13 +41,13 @@ pub record IsWhole (old new : Outputs) (page : ReportEntry) (status : ℕ) : Typ
   pub err : Took old.err new.err page.err
   pub ends : status ≡ page.status
 
--- the output failed after a prefix; the error output reports that, unless it fails too; and the program ends with 3
+-- the output failed after a prefix; the error output reports that, unless it fails too; the program ends with status 3
 pub record IsOutputBroken (old new : Outputs) (page : ReportEntry) (status : ℕ) : Type 0 where
   pub out : BrokeOff old.out new.out page.out
   pub told : Took old.err new.err broken_line ⊎ BrokeOff old.err new.err broken_line
   pub ends : status ≡ 3
 
--- the error output failed after a prefix, and the program ends with 3
+-- the error output failed after a prefix; the program ends with status 3
 pub record IsErrorOutputBroken (old new : Outputs) (page : ReportEntry) (status : ℕ) : Type 0 where
   pub out : Took old.out new.out page.out
   pub err : BrokeOff old.err new.err page.err

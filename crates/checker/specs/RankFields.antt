@@ -1,4 +1,4 @@
--- A line of cast-vote records with a rank in each column. A field names the candidate with that rank, by number or by name; an empty one names nobody.
+-- A line of cast-vote records with a rank in each column. A field names the candidate with that rank, by number or by name; an empty field names nobody.
 use Rattle.std.specs.Prelude.{ℕ, ◌+◌, ◌==◌, ◌||◌, nat_le, Bool, true, false, if◌then◌else◌, List, [], ◌∷◌, ◌++◌, fold, length, Option, Some, None, is_some, Result, Ok, Err}
 use Rattle.std.specs.List.{list_any}
 use Rattle.paper.specs.Columns.{max_candidates}
@@ -21,7 +21,7 @@ is_number (Err flaw) c = false
 abbrev pub is_of : Text → ℕ → Text → Bool
 is_of field c name = is_word name field || is_number (number_in max_candidates field) c
 
--- the only candidate that a field names, given the one found among those before this number
+-- the only candidate that a field names, given the one found among the numbers before this one
 abbrev pub candidate_from : Text → Option ℕ → ℕ → List Text → Result ℕ BallotsFlaw
 candidate_from field None c [] = Err flaw.NotCandidate
 candidate_from field (Some found) c [] = Ok found
@@ -30,24 +30,24 @@ candidate_from field found c (name ∷ names) =
     then (if is_some found then Err flaw.SeveralCandidates else candidate_from field (Some c) (c + 1) names)
     else candidate_from field found (c + 1) names
 
--- the only candidate with these names that a field names
+-- the only candidate that a field names, given the candidates' names
 abbrev pub candidate_named : List Text → Text → Result ℕ BallotsFlaw
 candidate_named names field = candidate_from field None 1 names
 
 -- ---- the fields of a paper
 
--- how many fields are read, the preferences, whether no field was empty, and the candidates after an empty field
+-- how many fields have been read, the preferences, whether no field has been empty so far, and the candidates after an empty field
 pub record PaperEntry : Type 0 where
   pub fields : ℕ
   pub preferences : List ℕ
   pub is_open : Bool
   pub later : List ℕ
 
--- before the first field
+-- the paper before its first field
 abbrev pub nothing_ranked : PaperEntry
 nothing_ranked = record { fields = 0; preferences = []; is_open = true; later = [] }
 
--- an empty field: preferences after it aren't read
+-- an empty field: preferences after it are ignored
 abbrev pub with_gap : PaperEntry → PaperEntry
 with_gap paper = record { fields = paper.fields + 1; preferences = paper.preferences; is_open = false; later = paper.later }
 
@@ -58,7 +58,7 @@ with_next paper c =
     then record { fields = paper.fields + 1; preferences = paper.preferences ++ c ∷ []; is_open = true; later = paper.later }
     else record { fields = paper.fields + 1; preferences = paper.preferences; is_open = false; later = paper.later ++ c ∷ [] }
 
--- the next candidate, who must be new
+-- the next candidate, who must not have appeared before
 abbrev pub with_candidate : PaperEntry → ℕ → Result PaperEntry BallotsFlaw
 with_candidate paper c =
     if list_any (λ d. d == c) paper.preferences || list_any (λ d. d == c) paper.later then Err flaw.CandidateTwice else Ok (with_next paper c)
@@ -67,21 +67,21 @@ with_candidate paper c =
 abbrev pub with_rank : List Text → PaperEntry → Text → Result PaperEntry BallotsFlaw
 with_rank names paper field = if length field == 0 then Ok (with_gap paper) else and_then (candidate_named names field) (with_candidate paper)
 
--- the next field, of at most this many
+-- the next field, given the number of rank columns
 abbrev pub with_rank_within : List Text → ℕ → PaperEntry → Text → Result PaperEntry BallotsFlaw
 with_rank_within names ranks paper field = if nat_le ranks paper.fields then Err flaw.FieldCount else with_rank names paper field
 
 abbrev pub with_rank_field : List Text → ℕ → Result PaperEntry BallotsFlaw → Text → Result PaperEntry BallotsFlaw
 with_rank_field names ranks paper field = and_then paper (λ told. with_rank_within names ranks told field)
 
--- a paper with all fields
+-- a paper for which all fields have been read
 abbrev pub complete : ℕ → PaperEntry → Result PaperEntry BallotsFlaw
 complete ranks paper = if paper.fields == ranks then Ok paper else Err flaw.FieldCount
 
--- the paper of a line that was read to its end
+-- the paper of a line that has been read to its end
 abbrev pub paper_of : List Text → ℕ → FieldsEntry (Result PaperEntry BallotsFlaw) → Result PaperEntry BallotsFlaw
 paper_of names ranks entry = and_then (ended (with_rank_field names ranks) entry) (λ paper. and_then paper (complete ranks))
 
--- the paper of a line, given the candidates' names and the number of columns
+-- the paper of a line, given the candidates' names and the number of rank columns
 abbrev pub ranked_in : List Text → ℕ → Text → Result PaperEntry BallotsFlaw
 ranked_in names ranks line = paper_of names ranks (fold (with_byte (with_rank_field names ranks)) (begun (Ok nothing_ranked)) line)

@@ -1,4 +1,4 @@
--- Records as the specification sees them.
+-- Cast-vote records, as the specification sees them.
 use Rattle.std.specs.Prelude.{map, string_bytes}
 use Rattle.checker.specs.Records.{RecordsEntry, WardEntry}
 use Rattle.checker.specs.RecordsHeader.{ColumnsEntry, HeaderEntry, of_candidates, of_ranks}
@@ -9,7 +9,7 @@ use Rattle.checker.specs.declared.file_content.RecordColumns.{RecordColumns}
 use Rattle.checker.specs.declared.file_content.RecordColumns.TheVariants as columns
 use Rattle.checker.specs.declared.records_ward.RecordsWard.{RecordsWard}
 
--- what the records of a ward don't say
+-- what cast-vote records don't say about their ward
 abbrev pub ward_told : RecordsWard → WardEntry
 ward_told ward = record { seats = ward.seats; name = ward.name.now; candidates = map (λ c. c.now) ward.candidates.items }
 

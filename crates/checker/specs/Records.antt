@@ -1,5 +1,4 @@
--- Cast-vote records: comma-separated values with a line for each paper or for several equal ones. The first line names the columns, each of a candidate
--- or of a rank.
+-- Cast-vote records: comma-separated values with a line for each paper or for several equal ones. The first line names the columns, each for a candidate or for a rank.
 use Rattle.std.specs.Prelude.{ℕ, ◌+◌, ◌-◌, ◌==◌, nat_le, Bool, true, false, if◌then◌else◌, List, [], ◌∷◌}
 use Rattle.std.specs.Prelude.{length, take, slice_get, slice_index, slice_set, Option, Some, None, Result, Ok, Err}
 use Rattle.std.specs.List.{list_any, range_with_len}
@@ -24,14 +23,14 @@ use Rattle.checker.specs.declared.file_content.NextLine.TheVariants.{End}
 use Rattle.checker.specs.declared.tokens.LineKind.{LineKind}
 use Rattle.checker.specs.declared.tokens.LineKind.TheVariants.{Empty, Comment, Content}
 
--- what the records of a ward don't say: its seats, its name, and the names of its candidates, if there is a rank in each column
+-- what cast-vote records don't say about their ward: its seats, its name, and the names of its candidates if each column is for a rank
 pub record WardEntry : Type 0 where
   pub seats : ℕ
   pub name : Text
   pub candidates : List Text
 
--- What is read so far. First come whether the first line is read, and whether lines begin with a number of papers. Then come the number of columns of ranks
--- if they aren't the candidates', the candidates' names, the papers, and the rejected papers by code.
+-- What has been read so far. The first two fields are whether the first line has been read, and whether lines begin with a number of papers. Then come
+-- the number of rank columns if the columns aren't for candidates, the candidates' names, the papers, and the rejected papers by code.
 pub record RecordsEntry : Type 0 where
   pub headed : Bool
   pub counted : Bool
@@ -42,7 +41,7 @@ pub record RecordsEntry : Type 0 where
 
 -- ---- the first line
 
--- the papers of a ward with these candidates and seats, and none yet
+-- a ward with these candidates and seats, and no papers yet
 abbrev pub papers_for : ℕ → List Text → PapersEntry
 papers_for seats names = record { highest = length names; seats = seats; withdrawn = []; bundles = [] }
 
@@ -54,7 +53,7 @@ abbrev pub with_columns : RecordsEntry → Bool → ColumnsEntry → RecordsEntr
 with_columns entry counted (of_candidates names) = with_names entry counted None names
 with_columns entry counted (of_ranks number) = with_names entry counted (Some number) entry.names
 
--- the columns are the candidates', unless their names are given
+-- the columns are for candidates, unless the candidates' names are given
 abbrev pub with_header : RecordsEntry → Text → Result RecordsEntry BallotsFlaw
 with_header entry line = and_then (header_in (length entry.names == 0) line) (λ header. Ok (with_columns entry header.counted header.columns))
 
@@ -72,7 +71,7 @@ with_valid entry papers list =
       rejected = entry.rejected;
     }))
 
--- rejected papers under the code after this number
+-- rejected papers under code k + 1
 abbrev pub with_rejected : RecordsEntry → ℕ → ℕ → Result RecordsEntry BallotsFlaw
 with_rejected entry papers k =
     if nat_le (slice_index entry.rejected k + papers) 4294967295
@@ -86,7 +85,7 @@ with_rejected entry papers k =
     })
     else Err flaw.TooManyPapers
 
--- papers by their marks: rejected without a first preference, or with several; valid otherwise
+-- papers, given their marks: rejected if they have no first preference or several; valid otherwise
 abbrev pub with_judged : RecordsEntry → ℕ → Marking → Option Rejection → Result RecordsEntry BallotsFlaw
 with_judged entry papers marking None = with_valid entry papers (preferences marking)
 with_judged entry papers marking (Some NoFirstPreference) = with_rejected entry papers 0
@@ -102,24 +101,24 @@ with_keyed entry papers (Err TooLarge) = Err flaw.NotRank
 with_keyed entry papers (Ok Doubtful) = Err flaw.NotRank
 with_keyed entry papers (Ok (Marked marking)) = with_judged entry papers marking (rejection_of marking)
 
--- the candidates' columns
+-- the numbers of the candidates' columns
 abbrev pub columns_of : List Text → List ℕ
 columns_of names = range_with_len 1 (length names)
 
--- papers by their marks text
+-- papers, given the text of their marks
 abbrev pub with_marks : RecordsEntry → ℕ → Text → Result RecordsEntry BallotsFlaw
 with_marks entry papers text = with_keyed entry papers (reading (columns_of entry.names) text)
 
--- papers by their preferences: rejected if there are none
+-- papers, given their preferences: rejected if there are none
 abbrev pub with_preferences : RecordsEntry → ℕ → List ℕ → Result RecordsEntry BallotsFlaw
 with_preferences entry papers [] = with_rejected entry papers 0
 with_preferences entry papers (c ∷ list) = with_valid entry papers (c ∷ list)
 
--- papers by the candidates in the columns of ranks
+-- papers, given the candidates in their rank columns
 abbrev pub with_ranks : RecordsEntry → ℕ → ℕ → Text → Result RecordsEntry BallotsFlaw
 with_ranks entry papers ranks text = and_then (ranked_in entry.names ranks text) (λ paper. with_preferences entry papers paper.preferences)
 
--- papers by the fields of their line
+-- papers, given the fields of their line
 abbrev pub with_columns_of : Option ℕ → RecordsEntry → ℕ → Text → Result RecordsEntry BallotsFlaw
 with_columns_of None entry papers text = with_marks entry papers text
 with_columns_of (Some ranks) entry papers text = with_ranks entry papers ranks text
@@ -139,7 +138,7 @@ after_comma (byte ∷ bytes) = if byte == 44 then bytes else after_comma bytes
 abbrev pub has_comma : Text → Bool
 has_comma line = list_any (λ byte. byte == 44) line
 
--- `12,2,1,3`: how many papers have these fields
+-- `12,2,1,3`: the number of papers with these fields
 abbrev pub with_counted : RecordsEntry → Text → Result RecordsEntry BallotsFlaw
 with_counted entry line =
     if has_comma line then and_then (papers_in (before_comma line)) (λ papers. with_papers entry papers (after_comma line)) else Err flaw.FieldCount
@@ -150,7 +149,7 @@ with_record entry line = if entry.counted then with_counted entry line else with
 
 -- ---- the lines
 
--- a line without a carriage return at its end
+-- a line without the carriage return at its end, if there is one
 abbrev pub is_return : Option ℕ → Bool
 is_return None = false
 is_return (Some byte) = byte == 13
@@ -161,7 +160,7 @@ without_return line = if is_return (slice_get line (length line - 1)) then take 
 abbrev pub with_content : RecordsEntry → Text → Result RecordsEntry BallotsFlaw
 with_content entry line = if entry.headed then with_record entry line else with_header entry line
 
--- a line: one with blanks alone is skipped
+-- a line: one with only blanks is skipped
 abbrev pub with_line_of : LineKind → RecordsEntry → Text → Result RecordsEntry BallotsFlaw
 with_line_of Empty entry line = Ok entry
 with_line_of Comment entry line = with_content entry (without_return line)
@@ -177,7 +176,7 @@ abbrev pub records_from : ℕ → RecordsEntry → List Text → Result RecordsE
 records_from k entry [] = on_line k (at_end entry) (λ read. Ok read)
 records_from k entry (line ∷ lines) = on_line (k + 1) (with_line entry line) (λ more. records_from (k + 1) more lines)
 
--- before the first line of a ward's records
+-- the state before the first line of a ward's records
 abbrev pub nothing_recorded : WardEntry → RecordsEntry
 nothing_recorded ward = record {
   headed = false;
@@ -188,7 +187,7 @@ nothing_recorded ward = record {
   rejected = 0 ∷ 0 ∷ 0 ∷ 0 ∷ 0 ∷ [];
 }
 
--- the ward with a name, as if its ballots had been read
+-- the content that would have resulted if the ward's ballots, with this name, had been read
 abbrev pub as_read : Text → RecordsEntry → ReaderEntry
 as_read name entry = record {
   place = End;

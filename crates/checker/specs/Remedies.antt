@@ -1,4 +1,4 @@
--- What to do about ballots that aren't counted, as a line in brackets.
+-- What to do about ballots that can't be counted, as a line in brackets.
 use Rattle.std.specs.Prelude.{[], codes}
 use Rattle.checker.specs.Tokens.{Text}
 use Rattle.checker.specs.declared.problem.BallotsFlaw.{BallotsFlaw}
@@ -6,7 +6,7 @@ use Rattle.checker.specs.declared.problem.BallotsFlaw.TheVariants as flaw
 use Rattle.checker.specs.declared.problem.Problem.{Problem}
 use Rattle.checker.specs.declared.problem.Problem.TheVariants as problem
 
--- about the flaw of a line
+-- what to do about the flaw in a line
 abbrev pub flaw_remedy : BallotsFlaw → Text
 flaw_remedy flaw.Size = codes "(give the highest number of a candidate and the seats, such as 4 2)\n"
 flaw_remedy flaw.NoSeat = codes "(give the seats of the ward, 1 to 15)\n"
@@ -43,7 +43,7 @@ flaw_remedy flaw.NotRank = codes "(write a rank from 1 to 99 in digits, or nothi
 flaw_remedy flaw.NotCandidate = codes "(write the number or the name of a candidate, as given by --candidate, or nothing)\n"
 flaw_remedy flaw.SeveralCandidates = codes "(write the number of the candidate; no name may be the number of another one)\n"
 
--- about a problem; nothing if the problem says it
+-- what to do about a problem; empty if the description of the problem already says it
 abbrev pub remedy : Problem → Text
 remedy (problem.Line line flaw) = flaw_remedy flaw
 remedy problem.NoContest = codes "(remove the papers and the line of rejected ones, or correct the seats)\n"

@@ -16,7 +16,7 @@ use Rattle.checker.specs.declared.requests.TextOption.TheVariants as option
 use Rattle.checker.specs.declared.requests.WordsFlaw.{WordsFlaw}
 use Rattle.checker.specs.declared.requests.WordsFlaw.TheVariants as flaw
 
--- the request so far, and what its next word is
+-- the request so far, and the meaning of its next word
 pub record WordsEntry : Type 0 where
   pub next : NextWord
   pub ballots : Option Text
@@ -27,7 +27,7 @@ pub record WordsEntry : Type 0 where
   pub name : Option Text
   pub candidates : List Text
 
--- the form of the ballots: a BLT file, or cast-vote records of a ward
+-- the form of the ballots: a BLT file, or cast-vote records for a ward
 pub data FormEntry : Type 0 where
   blt : FormEntry
   records : WardEntry → FormEntry
@@ -43,7 +43,7 @@ pub record CountEntry : Type 0 where
 abbrev pub nothing_asked : WordsEntry
 nothing_asked = record { next = next.Any; ballots = None; text = None; title = None; lots = []; seats = None; name = None; candidates = [] }
 
--- `--declaration`: the text that an option asks for
+-- `--declaration`: the text that an option requests
 abbrev pub text_option : Text → Option TextOption
 text_option word =
     if is_word (codes "--declaration") word then Some option.Declaration else (
@@ -61,13 +61,13 @@ lot_of (stage ∷ candidate ∷ other ∷ words) = None
 abbrev pub lot_in_word : Text → Option (ℕ × ℕ)
 lot_in_word word = lot_of (pieces_of Colon [] word)
 
--- a word that begins with a hyphen, but isn't one alone
+-- whether a word begins with a hyphen and isn't just a hyphen
 abbrev pub is_option : Text → Bool
 is_option [] = false
 is_option (byte ∷ []) = false
 is_option (byte ∷ other ∷ bytes) = byte == 45
 
--- the request with a text, with a path, with a title, or with a lot
+-- the request with a text, a path, a title, or a lot
 abbrev pub with_text : WordsEntry → TextOption → Result WordsEntry WordsFlaw
 with_text words text =
     if is_some words.text then Err flaw.SecondText
@@ -138,7 +138,7 @@ with_candidate words name =
 abbrev pub with_next : WordsEntry → NextWord → WordsEntry
 with_next words next = record { next = next; ballots = words.ballots; text = words.text; title = words.title; lots = words.lots; seats = words.seats; name = words.name; candidates = words.candidates }
 
--- the request with an option that asks for a text, or else with the path of the ballots
+-- the request with an option for a text, or otherwise with the path of the ballots
 abbrev pub with_text_or_ballots : WordsEntry → Option TextOption → Text → Result WordsEntry WordsFlaw
 with_text_or_ballots words (Some text) word = with_text words text
 with_text_or_ballots words None word = with_ballots words word
@@ -164,7 +164,7 @@ with_word_at next.Candidate words word = with_candidate words word
 abbrev pub with_word : WordsEntry → Text → Result WordsEntry WordsFlaw
 with_word words word = with_word_at words.next words word
 
--- the text of a request; only a page has a title
+-- the text that a request asks for; only a page may have a title
 abbrev pub text_asked : Option TextOption → Option Text → Result TextEntry WordsFlaw
 text_asked None None = Ok sheet_asked
 text_asked (Some option.Declaration) None = Ok declaration_asked
@@ -177,7 +177,7 @@ text_asked (Some option.Page) (Some title) = Ok (page_asked title)
 text_asked (Some option.Table) (Some title) = Err flaw.TitleAlone
 text_asked (Some option.Ballots) (Some title) = Err flaw.TitleAlone
 
--- the form of the ballots; only cast-vote records need seats, at most as many as a ward can have, and a name
+-- the form of the ballots; only cast-vote records need a number of seats, at most as many as a ward can have, and a name
 abbrev pub form_asked : Option ℕ → Option Text → List Text → Result FormEntry WordsFlaw
 form_asked None None [] = Ok blt
 form_asked None None (candidate ∷ candidates) = Err flaw.HalfWard
@@ -207,17 +207,17 @@ abbrev pub request_of : Result WordsEntry WordsFlaw → Result CountEntry WordsF
 request_of (Ok words) = request_at words.next words
 request_of (Err why) = Err why
 
--- the request with some more words
+-- the request so far, with some more words
 abbrev pub with_words : Result WordsEntry WordsFlaw → List Text → Result WordsEntry WordsFlaw
 with_words (Err why) more = Err why
 with_words (Ok words) [] = Ok words
 with_words (Ok words) (word ∷ more) = with_words (with_word words word) more
 
--- the request in some words
+-- the request made up of some words
 abbrev pub count_request : List Text → Result CountEntry WordsFlaw
 count_request words = request_of (with_words (Ok nothing_asked) words)
 
--- another value if a word is understood
+-- another value if a word was understood
 abbrev pub done_as : {X Y : Type 0} → Result X WordsFlaw → Y → Result Y WordsFlaw
 done_as (Ok x) y = Ok y
 done_as (Err why) y = Err why

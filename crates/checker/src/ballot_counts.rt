@@ -1,4 +1,4 @@
-//! The count of a file of ballots, and its texts.
+//! The count of a file of ballots, and the texts of that count.
 
 ghost use Rattle.std.specs.Prelude.{◌≡◌, option_map, string_bytes, IfOk, IfErr};
 ghost use Rattle.sheet.specs.Entries.{shown};
@@ -28,9 +28,9 @@ use std::alloc::{AllocError, Global};
 pub enum CountText<'a> {
     /// The stage sheet.
     Sheet,
-    /// The declaration of a finished count; nothing before that.
+    /// The declaration of a finished count; empty until then.
     Declaration,
-    /// The page for a browser, under this title: of the declared ward if its count is finished.
+    /// The page for a browser, with this title; it shows the ward as declared if its count is finished.
     Page(&'a str),
     /// The table of the stages for a spreadsheet.
     Table,
@@ -38,12 +38,12 @@ pub enum CountText<'a> {
     Ballots,
 }
 
-/// A text of a count, which may wait for a lot.
+/// A text of a count, which may be waiting for a lot.
 #[derive(Drop)]
 pub struct CountedText {
-    /// The text, for the stages so far.
+    /// The text, covering the stages so far.
     pub text: String,
-    /// The line about the lot that the count waits for; `None` if the count is finished.
+    /// The line about the lot that the count is waiting for; `None` if the count is finished.
     pub lot_needed: Option<String>,
 }
 
@@ -52,7 +52,7 @@ pub struct CountedText {
 pub enum CountProblem {
     /// A second lot is given for this stage.
     LotTwice { stage: u8 },
-    /// The ballots or their lots prevent it; or an allocation failed.
+    /// The ballots or their lots have a problem, or an allocation failed.
     Ballots(Problem),
 }
 
@@ -66,7 +66,7 @@ fn is_finished(end: CountEnd) -> bool
     }
 }
 
-/// Returns the lots of a contested ward; none of an uncontested one.
+/// Returns the lots of a contested ward; none for an uncontested one.
 fn lots_in<'a>(election: &Election<'a>) -> &'a [(u8, u8)]
     ensures { result.now ≡ lots_in election.now.ward.poll election.now.lots.now }
 {
@@ -76,7 +76,7 @@ fn lots_in<'a>(election: &Election<'a>) -> &'a [(u8, u8)]
     }
 }
 
-/// Returns the declaration of a finished count; an empty text before that.
+/// Returns the declaration of a finished count; empty until then.
 fn declared(alloc: Global, election: &Election, count: &WardCount) -> Result<String, AllocError>
     requires { CanBePrinted election.now.ward }
     ensures { IfOk result (λ told. string_bytes told ≡ text_shown declaration_asked (shown election.now.ward) election.now.bundles.now election.now.lots.now count.now) }
@@ -117,7 +117,7 @@ fn text_of(
     }
 }
 
-/// Returns the line about the lot that a count waits for, if it waits for one.
+/// Returns the line about the lot that a count is waiting for, if any.
 fn lot_needed(alloc: Global, election: &Election, end: CountEnd) -> Result<Option<String>, Problem>
     ensures ok { IfOk result (λ line. IsLotLine (shown election.now.ward) end (option_map string_bytes line)) }
     ensures err { IfErr result (λ problem. IsNoLotLine end problem) }
@@ -177,10 +177,10 @@ fn counted_as(
 }
 
 /// Counts the ballots of a ward, and returns a text of the count: the stage sheet, the declaration, the page, the table, or the
-/// ballots and lots. It is the text that an office prints of a ward with just these papers and lots.
+/// ballots and lots. It is the text that an office prints for a ward with exactly these papers and lots.
 ///
 /// The ballots are read as for [`check`](crate::check). The further lots, each a stage, counted from 1, and a candidate, are added to
-/// those that the file records; no two may be for one stage. If a lot is needed that isn't there, the text is of the stages so far,
+/// those that the file records; no two may be for the same stage. If a lot is needed but missing, the text covers the stages so far,
 /// and a line names the stage and the tied candidates.
 pub fn count_ballots(
     alloc: Global,
@@ -203,11 +203,12 @@ pub fn count_ballots(
 
 /// Counts the cast-vote records of a ward, and returns a text of the count, as [`count_ballots`] does.
 ///
-/// The records are comma-separated values. The first line names the columns: a first column `count` says how many papers each line is
-/// for. If no candidates are given, each other column is a candidate's, and a line has the ranks that a paper gives to them. Its
-/// preferences are then the candidates with ranks 1, 2, 3, .., as far as each rank is given to exactly one. If candidates are given,
-/// each other column is a rank's, and a line has the candidates, by number or by name. Its preferences are then those before the first
-/// empty field. Without a first preference, or with several, the paper is rejected.
+/// The records are comma-separated values. The first line names the columns; if the first column is `count`, it contains the number
+/// of papers that each line represents. If no candidates are given, each other column is for a candidate, and a line contains the
+/// ranks that a paper gives to them. Its preferences are then the candidates with ranks 1, 2, 3, .., for as long as each rank is
+/// given to exactly one candidate. If candidates are given, each other column is for a rank, and a line contains the candidates, by
+/// number or by name. Its preferences are then those before the first empty field. A paper with no first preference, or with several,
+/// is rejected.
 pub fn count_records(
     alloc: Global,
     ward: &RecordsWard,

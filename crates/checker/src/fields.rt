@@ -16,9 +16,9 @@ pub(crate) enum FieldPlace {
     Start,
     /// In a field without quotation marks.
     Plain,
-    /// In a field in quotation marks.
+    /// In a field with quotation marks.
     Quoted,
-    /// After a quotation mark in such a field, which ends it or is the first of two.
+    /// After a quotation mark in such a field, which either ends the field or is the first of two.
     Closed,
     /// After something that isn't part of a field.
     Astray,
@@ -27,11 +27,11 @@ pub(crate) enum FieldPlace {
 /// The meaning of a byte at a position.
 #[derive(Clone, Copy)]
 pub(crate) enum FieldStep {
-    /// The field ends before it.
+    /// The field ends before this byte.
     Ends,
-    /// It is one of the field, and the next byte is at this position.
+    /// The byte is part of the field, and the next byte is at this position.
     Adds(FieldPlace),
-    /// It isn't one of the field, and the next byte is at this position.
+    /// The byte isn't part of the field, and the next byte is at this position.
     Moves(FieldPlace),
 }
 
@@ -43,7 +43,7 @@ pub(crate) struct Fields {
     place: FieldPlace,
 }
 
-/// Returns the meaning of a byte outside quotation marks, given the position after a quotation mark.
+/// Returns the meaning of a byte outside quotation marks, given the position to which a quotation mark leads.
 fn outside_step(next: FieldPlace, byte: u8) -> FieldStep
     ensures { result ≡ outside_step next byte }
 {
@@ -84,7 +84,7 @@ pub(crate) fn step_of(place: FieldPlace, byte: u8) -> FieldStep
 }
 
 impl Fields {
-    /// Returns no fields yet.
+    /// Returns the state before the first byte.
     fn new(alloc: Global) -> Fields
         ensures { fields_told result ≡ begun [] }
     {
@@ -114,7 +114,7 @@ impl Fields {
         Ok(())
     }
 
-    /// Returns the fields of a line that was read to its end.
+    /// Returns the fields of a line that has been read to its end.
     fn into_fields(self) -> Result<Result<Vec<Vec<u8>>, BallotsFlaw>, AllocError>
         ensures { IfOk result (λ told. told_as (λ all. map (λ field. field.items) all.items) told ≡ ended with_field (fields_told self)) }
     {
@@ -129,7 +129,7 @@ impl Fields {
     }
 }
 
-/// Returns the fields of a line.
+/// Splits a line into its fields.
 pub(crate) fn fields_in(
     alloc: Global,
     line: &[u8],

@@ -1,11 +1,11 @@
-//! Comments that are ignored, and those that are refused because they begin like ours.
+//! Comments that are ignored, and those that are rejected because they begin like ours.
 
 ghost use Rattle.std.specs.Prelude.{◌≡◌};
 ghost use Rattle.checker.specs.ForeignComments.{begins_as_ours, behind_number_sign, after_signs, first_letters, is_count_office_word, skip_foreign};
 
 use crate::problem::BallotsFlaw;
 
-/// Returns a text from its first letter or digit on.
+/// Returns a text starting at its first letter or digit.
 fn after_signs(text: &[u8]) -> &[u8]
     ensures { result.now ≡ after_signs text.now }
 {
@@ -44,7 +44,7 @@ fn begins_as_ours(comment: &[u8]) -> bool
     is_count_office_word(first_letters(after_signs(comment)))
 }
 
-/// Ignores a comment that isn't one of ours, unless it begins like ours.
+/// Ignores a comment that isn't one of ours. Rejects one that begins like ours.
 pub(crate) fn skip_foreign(comment: &[u8]) -> Result<(), BallotsFlaw>
     ensures { result ≡ skip_foreign comment.now }
 {
@@ -54,7 +54,7 @@ pub(crate) fn skip_foreign(comment: &[u8]) -> Result<(), BallotsFlaw>
     Ok(())
 }
 
-/// Returns the rest of a line of numbers after its `#`.
+/// Returns what follows the `#` in a line of numbers.
 pub(crate) fn behind_number_sign(line: &[u8]) -> &[u8]
     ensures { result.now ≡ behind_number_sign line.now }
 {

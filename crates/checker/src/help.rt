@@ -1,6 +1,6 @@
 //! The program's help.
 
-/// The text that the program prints about checking.
+/// The help on checking.
 pub(crate) const HELP: &str =
     "Checks a stage sheet or a declaration against the ballots of its ward, without an office.
 
@@ -17,7 +17,7 @@ it should be. It is 2 where the words or the ballots are not understood, or a lo
 It is 3 where a file can't be read, memory is wanting, or an output fails.
 ";
 
-/// The text that the program prints about counting.
+/// The help on counting.
 pub(crate) const COUNT_HELP: &str =
     "Counts the ballots of a ward, without an office, and prints the stage sheet.
 

@@ -1,4 +1,4 @@
-//! The source of the two files.
+//! The source of the files.
 
 ghost use Rattle.std.specs.Prelude.{◌≡◌, IfOk, IfErr, None};
 

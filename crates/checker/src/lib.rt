@@ -1,8 +1,8 @@
 //! Counts the ballots of a ward, and checks a stage sheet or a declaration against them: whether the text is exactly the result of
-//! these ballots, rejected papers and lots. Nothing from an office is needed.
+//! these ballots, rejected papers and lots. Needs nothing from an office.
 //!
-//! [`check`] reads the ballots, as printed by `ballots` or written by other counting programs (BLT), counts them to the end with the
-//! recorded lots, and compares. A [`Problem`] is the part of the ballots that isn't understood, or the lot that is missing.
+//! [`check`] reads the ballots, as printed by `ballots` or as written by other counting programs (BLT), counts them to the end with
+//! the recorded lots, and compares. A [`Problem`] is the line of the ballots that isn't understood, or the lot that is missing.
 //! [`count_ballots`] counts them in the same way, and returns a [`CountText`] of the count. [`run`] executes the request in the
 //! program's arguments: it reads the files through an [`InputFiles`], and prints the outcome on two outputs.
 //!
@@ -15,13 +15,13 @@
 //! ```
 #![tactic(auto)]
 
-// what the check reports
+// the outcome of a check
 mod differences;
 mod problem;
-// a text in lines, a line in words, and words that are numbers
+// splitting a text into lines and a line into words, and parsing words as numbers
 mod numbers;
 mod tokens;
-// what a file contains so far, and what each of its lines adds
+// the content of a file so far, and what each line adds to it
 mod comments;
 mod file_content;
 mod foreign_comments;
@@ -29,14 +29,14 @@ mod names;
 mod papers;
 mod ranks;
 mod reading;
-// the same of cast-vote records
+// the same for cast-vote records
 mod fields;
 mod rank_fields;
 mod ranked_paper;
 mod records;
 mod records_header;
 mod records_ward;
-// the ward in a file, its count by the lots, the texts of the count, and the comparison of a text with them
+// the ward in a file, its count with the lots, the texts of the count, and the comparison of a text with them
 mod ballot_counts;
 mod checking;
 mod counting;

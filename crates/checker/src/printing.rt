@@ -41,7 +41,7 @@ fn print_page<O: Sink, E: Sink>(
     }
 }
 
-/// Prints an outcome, and returns its status. If an allocation fails, it prints that instead.
+/// Prints an outcome and returns its status. If an allocation fails, prints that instead.
 pub(crate) fn print_report<O: Sink, E: Sink>(
     alloc: Global,
     report: Report,

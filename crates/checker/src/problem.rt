@@ -1,4 +1,4 @@
-//! Problems in ballots, and in checking against them.
+//! Problems with ballots, and with checking against them.
 
 ghost use Rattle.std.specs.Prelude.{◌≡◌};
 
@@ -6,24 +6,24 @@ use paper::Columns;
 use std::error::Error;
 use std::fmt;
 
-/// The flaw of a line of the ballots.
+/// The flaw in a line of the ballots.
 #[derive(Clone, Copy, Debug)]
 pub enum BallotsFlaw {
     /// The first line isn't two numbers.
     Size,
     /// There are no seats.
     NoSeat,
-    /// A word doesn't consist of digits; or a word for a withdrawn candidate isn't a number after a minus.
+    /// A word isn't made of digits, or the word for a withdrawn candidate isn't a minus followed by a number.
     NotNumber,
     /// A number is out of range.
     TooLarge,
-    /// There are no papers in a bundle.
+    /// A bundle has no papers.
     NoPapers,
-    /// A candidate's number is 0, or above the highest.
+    /// A candidate number is 0 or above the highest.
     NoSuchCandidate,
     /// A candidate appears twice among the preferences of a line.
     CandidateTwice,
-    /// There is no single first preference for a candidate who isn't withdrawn.
+    /// There is no single first preference among the candidates who aren't withdrawn.
     NoPreference,
     /// A line of papers doesn't end with 0, or has words after it.
     NoZero,
@@ -37,7 +37,7 @@ pub enum BallotsFlaw {
     LongName,
     /// A name isn't UTF-8.
     NotUtf8,
-    /// The line follows the name of the ward.
+    /// The line comes after the name of the ward.
     BehindName,
     /// The comment doesn't contain the number of a ward.
     Ward,
@@ -45,17 +45,17 @@ pub enum BallotsFlaw {
     Rejected,
     /// The comment doesn't contain a stage and a candidate.
     Lot,
-    /// A comment begins with one of our words, but isn't in our format.
+    /// A comment begins with one of our words, but doesn't have our format.
     Astray,
     /// The comment repeats the subject of an earlier one.
     Twice,
     /// The file ends before its first line of numbers.
     NoSize,
-    /// The file ends before the line `0` after the papers.
+    /// The file ends before the line `0` that follows the papers.
     NoEnd,
     /// The file ends before the name of the ward.
     NamesWanting,
-    /// A field is in quotation marks only in part.
+    /// Only part of a field is in quotation marks.
     Field,
     /// The file ends before its first line.
     NoColumns,
@@ -63,19 +63,19 @@ pub enum BallotsFlaw {
     LoneColumn,
     /// A column has no name.
     NoColumnName,
-    /// A column may be of something other than a candidate.
+    /// A column might be for something other than a candidate.
     NotCandidateColumn,
-    /// A column isn't that of the next rank.
+    /// A column isn't the one for the next rank.
     NotNextRank,
     /// There are more columns than a ward can have candidates.
     TooManyColumns,
-    /// The number of fields isn't that of the columns.
+    /// The number of fields differs from the number of columns.
     FieldCount,
-    /// A field isn't empty, and not a rank from 1 to 99.
+    /// A field is neither empty nor a rank from 1 to 99.
     NotRank,
-    /// A field isn't empty, and names no candidate.
+    /// A field is neither empty nor the name of a candidate.
     NotCandidate,
-    /// A field may name several candidates.
+    /// A field could name several candidates.
     SeveralCandidates,
 }
 
@@ -146,13 +146,13 @@ impl Error for BallotsFlaw {}
 pub enum Problem {
     /// A line of the ballots, counted from 1, has this flaw.
     Line { line: u64, flaw: BallotsFlaw },
-    /// There are papers, or rejected papers, but no more candidates than seats.
+    /// There are papers, or rejected papers, but not more candidates than seats.
     NoContest,
     /// These candidates are tied at this stage, and no lot is recorded.
     LotNeeded { stage: u8, among: Columns },
-    /// The lot recorded for this stage isn't for any of the tied candidates.
+    /// The lot recorded for this stage names none of the tied candidates.
     LotNotAmong { stage: u8 },
-    /// A lot is recorded for this stage, but none is drawn at it.
+    /// A lot is recorded for this stage, but no lot is drawn there.
     LotNotNeeded { stage: u8 },
     /// An allocation failed.
     Memory,

@@ -12,11 +12,11 @@ use crate::problem::BallotsFlaw;
 use crate::ranked_paper::RankedPaper;
 use std::alloc::{AllocError, Global};
 
-/// The bytes of a name for which there is room at once. Longer ones need one allocation or more.
+/// The length of a name, in bytes, for which room is reserved at the start. Longer names need further allocations.
 const USUAL_NAME: usize = 64;
 
-/// A line, as far as it is read: the paper of the fields so far or their flaw, the bytes of the next field, and the position of the
-/// next byte.
+/// A line as far as it has been read: the paper in the fields so far or the flaw found in them, the bytes of the next field, and
+/// the position of the next byte.
 #[derive(Drop)]
 pub(crate) struct RankReader {
     paper: RankedPaper,
@@ -26,7 +26,7 @@ pub(crate) struct RankReader {
 }
 
 impl RankReader {
-    /// Returns a line before its first byte.
+    /// Returns the state before the first byte of a line.
     fn new(alloc: Global) -> Result<RankReader, AllocError>
         ensures { IfOk result (λ reader. reader_told reader ≡ begun (Ok nothing_ranked)) }
     {
@@ -69,7 +69,7 @@ impl RankReader {
         Ok(())
     }
 
-    /// Returns the paper of a line that was read to its end.
+    /// Returns the paper of a line that has been read to its end.
     fn into_paper(
         self,
         names: &[String],
@@ -95,7 +95,7 @@ impl RankReader {
     }
 }
 
-/// Returns the paper of a line, given the candidates' names and the number of columns of ranks.
+/// Returns the paper of a line, given the candidates' names and the number of rank columns.
 pub(crate) fn ranked_in(
     alloc: Global,
     names: &[String],

@@ -14,14 +14,14 @@ use paper::MAX_CANDIDATES;
 use std::alloc::{AllocError, Global};
 use std::marker::Model;
 
-/// A paper, as far as the fields of its line are read.
+/// A paper as far as the fields of its line have been read.
 #[derive(Drop)]
 pub(crate) struct RankedPaper {
     /// The number of fields.
     fields: u8,
     /// The candidates before the first empty field.
     preferences: Vec<u8>,
-    /// Whether no field was empty.
+    /// Whether no field has been empty so far.
     is_open: bool,
     /// The candidates after an empty field.
     later: Vec<u8>,
@@ -38,7 +38,7 @@ impl Model for RankedPaper {
     ghost invariant = { λ a. IsRanking a.preferences.items };
 }
 
-/// Returns whether a field names the candidate with a number and a name.
+/// Returns whether a field names the candidate with this number and this name.
 fn is_of(field: &[u8], c: u8, name: &str) -> bool
     ensures { result ≡ is_of field.now c name.now }
 {
@@ -83,7 +83,7 @@ fn is_among(c: u8, list: &[u8]) -> bool
 }
 
 impl RankedPaper {
-    /// Returns a paper before its first field.
+    /// Returns the paper before the first field.
     pub(crate) fn new(alloc: Global) -> Result<RankedPaper, AllocError>
         ensures { IfOk result (λ paper. paper ≡ nothing_ranked) }
     {
@@ -120,7 +120,7 @@ impl RankedPaper {
         Ok(())
     }
 
-    /// Appends the next candidate, who must be new.
+    /// Appends the next candidate, who must not have appeared before.
     fn add(&mut self, c: u8) -> Result<Result<(), BallotsFlaw>, AllocError>
         requires some { 1 ≤ c }
         requires few { c ≤ max_candidates }
@@ -138,7 +138,7 @@ impl RankedPaper {
         Ok(Ok(()))
     }
 
-    /// Processes the next field, of at most so many.
+    /// Processes the next field, given the number of rank columns.
     pub(crate) fn take(
         &mut self,
         names: &[String],
@@ -162,7 +162,7 @@ impl RankedPaper {
         }
     }
 
-    /// Returns whether so many fields are read.
+    /// Returns whether a field has been read for each rank column.
     pub(crate) fn is_complete(&self, ranks: u8) -> bool
         ensures { result ≡ (self.now.fields == ranks) }
     {

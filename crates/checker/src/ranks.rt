@@ -18,9 +18,9 @@ use std::alloc::{AllocError, Global};
 /// The position of the next word in a line of papers.
 #[derive(Clone, Copy)]
 pub(crate) enum NextWord {
-    /// Where preferences are read.
+    /// At the preferences.
     Preference,
-    /// After a shared rank, where they are no longer read.
+    /// After a shared rank: later preferences are ignored.
     BehindShared,
     /// After the 0.
     BehindZero,
@@ -33,14 +33,14 @@ pub(crate) struct Ranks {
     next: NextWord,
 }
 
-/// Returns whether a word is 0, which ends a line.
+/// Returns whether a word is the 0 that ends a line.
 pub(crate) fn is_zero(word: &[u8]) -> bool
     ensures { result ≡ is_zero word.now }
 {
     word == b"0".as_slice()
 }
 
-/// Returns whether a word has no equals sign, as the number of a candidate who has a rank alone.
+/// Returns whether a word has no equals sign, so it is the number of a candidate who doesn't share a rank.
 fn is_alone(word: &[u8]) -> bool
     ensures { not result ≡ list_any (parts Separator.Equals) word.now }
 {
@@ -52,7 +52,7 @@ fn is_alone(word: &[u8]) -> bool
     true
 }
 
-/// Returns how many of the candidates in these words aren't withdrawn.
+/// Returns how many of the candidates in these words haven't withdrawn.
 fn standing_in(highest: u8, withdrawn: &Columns, words: &[&[u8]]) -> Result<usize, BallotsFlaw>
     ensures { result ≡ standing_from highest withdrawn.now 0 (map (λ w. w.now) words.now) }
 {
@@ -102,7 +102,7 @@ impl Ranks {
         Ok(Ok(()))
     }
 
-    /// Processes a rank, given how many of its candidates aren't withdrawn.
+    /// Processes a rank, given how many of its candidates haven't withdrawn.
     fn add_rank(
         &mut self,
         highest: u8,
@@ -125,7 +125,7 @@ impl Ranks {
         self.add_each(highest, words)
     }
 
-    /// Processes the number of a candidate who has a rank alone.
+    /// Processes the number of a candidate who doesn't share a rank.
     fn take_alone(
         &mut self,
         highest: u8,
@@ -183,7 +183,7 @@ impl Ranks {
             self.next = NextWord::BehindZero;
             return Ok(Ok(()));
         }
-        // most words are numbers alone: they need no list of those who share the rank
+        // most words are single numbers: they need no list of candidates who share the rank
         if is_alone(word) {
             return self.take_alone(highest, word);
         }
@@ -225,7 +225,7 @@ pub(crate) fn named_in(
     Ok(ranks.into_named())
 }
 
-/// Returns those of some candidates who aren't withdrawn.
+/// Returns the candidates who haven't withdrawn.
 fn without(alloc: Global, withdrawn: &Columns, named: &[u8]) -> Result<Vec<u8>, AllocError>
     ensures is { IfOk result (λ list. list.items ≡ without withdrawn.now named.now) }
     ensures ranking { IfOk result (λ list. IsRanking named.now → IsRanking list.items) }
@@ -240,7 +240,7 @@ fn without(alloc: Global, withdrawn: &Columns, named: &[u8]) -> Result<Vec<u8>, 
     Ok(list)
 }
 
-/// Returns the same; in most files nobody is withdrawn, and nothing is allocated.
+/// Returns the candidates who haven't withdrawn. Allocates nothing if nobody has withdrawn, as in most files.
 #[tactic(auto, using(crate::proofs::RankLemmas::none_withdrawn))]
 pub(crate) fn standing_of(
     alloc: Global,

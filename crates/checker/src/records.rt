@@ -50,7 +50,7 @@ fn after_comma(line: &[u8]) -> &[u8]
     &[]
 }
 
-/// Returns a line without a carriage return at its end.
+/// Returns a line without the carriage return at its end, if there is one.
 fn without_return(line: &[u8]) -> &[u8]
     ensures { result.now ≡ without_return line.now }
 {
@@ -60,7 +60,7 @@ fn without_return(line: &[u8]) -> &[u8]
     }
 }
 
-/// Returns the numbers of some candidates.
+/// Returns the numbers of this many candidates.
 fn columns_of(names: usize) -> Columns
     requires { names ≤ max_candidates }
     ensures { result ≡ range_with_len 1 names }
@@ -72,7 +72,7 @@ fn columns_of(names: usize) -> Columns
     columns
 }
 
-/// Returns the names that are given of a ward's candidates.
+/// Returns the given names of a ward's candidates.
 fn names_of(alloc: Global, candidates: &[&str]) -> Result<Vec<String>, AllocError>
     ensures { IfOk result (λ names. map string_bytes names.items ≡ map (λ c. c.now) candidates.now) }
 {
@@ -136,7 +136,7 @@ impl Records {
         Ok(Ok(()))
     }
 
-    /// Adds rejected papers under the code after a number.
+    /// Adds rejected papers under code k + 1.
     fn add_rejected(&mut self, papers: u32, k: usize) -> Result<(), BallotsFlaw>
         requires { k < 5 }
         ensures { outcome result (records_told self.new) ≡ with_rejected (records_told self.old) papers k }
@@ -150,7 +150,7 @@ impl Records {
         }
     }
 
-    /// Adds papers with some marks: valid ones, or rejected ones.
+    /// Adds papers with the given marks, as valid or rejected papers.
     fn add_marked(
         &mut self,
         papers: u32,
@@ -167,7 +167,7 @@ impl Records {
         }
     }
 
-    /// Adds papers as keyed; a doubtful one can't be read.
+    /// Adds papers as keyed. Doubtful ones are an error.
     fn add_keyed(
         &mut self,
         papers: u32,
@@ -182,7 +182,7 @@ impl Records {
         }
     }
 
-    /// Adds papers by their marks text.
+    /// Adds papers, given the text of their marks.
     fn add_marks(&mut self, papers: u32, text: &[u8]) -> Result<Result<(), BallotsFlaw>, AllocError>
         requires { 1 ≤ papers }
         ensures { IfOk result (λ told. outcome told (records_told self.new) ≡ with_marks (records_told self.old) papers text.now) }
@@ -194,7 +194,7 @@ impl Records {
         }
     }
 
-    /// Adds papers with some preferences; without any they are rejected.
+    /// Adds papers with the given preferences; if there are none, the papers are rejected.
     fn add_preferences(
         &mut self,
         papers: u32,
@@ -210,7 +210,7 @@ impl Records {
         self.papers.add(papers, list)
     }
 
-    /// Adds papers by the candidates in the columns of ranks.
+    /// Adds papers, given the candidates in their rank columns.
     fn add_ranks(
         &mut self,
         alloc: Global,
@@ -227,7 +227,7 @@ impl Records {
         }
     }
 
-    /// Adds papers by the fields of their line.
+    /// Adds papers, given the fields of their line.
     fn add_papers(
         &mut self,
         alloc: Global,
@@ -243,7 +243,7 @@ impl Records {
         }
     }
 
-    /// Processes the line of one or more papers.
+    /// Processes a line for one or more papers.
     fn take_record(
         &mut self,
         alloc: Global,
@@ -280,7 +280,7 @@ impl Records {
         }
     }
 
-    /// Returns the ward with a name, as if its ballots had been read.
+    /// Returns the reader that would have resulted if the ward's ballots, with this name, had been read.
     fn into_reader(self, alloc: Global, name: String) -> Reader
         ensures { reading_of result ≡ as_read (string_bytes name) (records_told self) }
     {
@@ -300,7 +300,7 @@ impl Records {
     }
 }
 
-/// Returns the papers of a ward with some candidates and seats, and none yet.
+/// Returns a ward with the given candidates and seats, and no papers yet.
 fn papers_for(alloc: Global, seats: u8, highest: u8) -> PaperTotals
     requires some { 1 ≤ seats }
     requires few { seats ≤ max_seats }
@@ -315,7 +315,7 @@ fn papers_for(alloc: Global, seats: u8, highest: u8) -> PaperTotals
     }
 }
 
-/// Returns the content of some lines, or the first of them that isn't understood.
+/// Reads some lines. The problem is the first of them that isn't understood, or a failed allocation.
 fn records_in(alloc: Global, ward: &RecordsWard, lines: &[&[u8]]) -> Result<Records, Problem>
     ensures ok { IfOk result (λ records. records_from 0 (nothing_recorded (ward_told ward.now)) (map (λ line. line.now) lines.now) ≡ Ok (records_told records)) }
     ensures err { IfErr result (λ problem. IsFlawOf (records_from 0 (nothing_recorded (ward_told ward.now)) (map (λ line. line.now) lines.now)) problem) }
@@ -344,7 +344,8 @@ fn records_in(alloc: Global, ward: &RecordsWard, lines: &[&[u8]]) -> Result<Reco
     })
 }
 
-/// Returns the ward of some records, as if its ballots had been read, or the first line that isn't understood.
+/// Reads the records of a ward, with the same result as if its ballots had been read. The problem is the first line that isn't
+/// understood, or a failed allocation.
 pub(crate) fn read_records(
     alloc: Global,
     ward: &RecordsWard,

@@ -44,7 +44,7 @@ fn candidate_fields(fields: &[Vec<u8>]) -> &[Vec<u8>]
     }
 }
 
-/// Returns whether a word names something other than a candidate in many such files, ignoring case.
+/// Returns whether a word, ignoring case, is one that often names a column for something other than a candidate.
 fn is_title(word: &[u8]) -> bool
     ensures { result ≡ is_title word.now }
 {
@@ -60,7 +60,7 @@ fn is_title(word: &[u8]) -> bool
                                         || word.eq_ignore_ascii_case(b"ballots")))))))))
 }
 
-/// Returns whether a column may be of something other than a candidate, by its name.
+/// Returns whether the name of a column suggests something other than a candidate.
 fn is_titled(field: &[u8]) -> bool
     ensures { result ≡ is_titled field.now }
 {
@@ -83,7 +83,7 @@ fn candidate_name(alloc: Global, field: &[u8]) -> Result<Result<String, BallotsF
     Ok(as_text(Vec::from_slice(alloc, field)?))
 }
 
-/// Returns the names of the candidates' columns.
+/// Returns the names in the candidates' columns.
 fn names_in(
     alloc: Global,
     fields: &[Vec<u8>],
@@ -104,7 +104,7 @@ fn names_in(
     Ok(Ok(names))
 }
 
-/// Returns a text without a space at its beginning.
+/// Returns a text without its leading space, if it has one.
 fn without_space(text: &[u8]) -> &[u8]
     ensures { result.now ≡ without_space text.now }
 {
@@ -114,7 +114,7 @@ fn without_space(text: &[u8]) -> &[u8]
     }
 }
 
-/// Returns what follows the word in the name of a column of ranks; nothing in that of another column.
+/// Returns what follows the word `rank` in the name of a rank column; empty for any other column.
 fn after_rank(field: &[u8]) -> &[u8]
     ensures { result.now ≡ after_rank field.now }
 {
@@ -130,7 +130,7 @@ fn after_rank(field: &[u8]) -> &[u8]
     }
 }
 
-/// Returns whether a column is of this rank.
+/// Returns whether a column is for this rank.
 fn is_rank(rank: u8, field: &[u8]) -> bool
     ensures { result ≡ is_rank rank field.now }
 {
@@ -140,7 +140,7 @@ fn is_rank(rank: u8, field: &[u8]) -> bool
     }
 }
 
-/// Returns the number of columns of ranks.
+/// Returns the number of rank columns.
 fn ranks_in(fields: &[Vec<u8>]) -> Result<u8, BallotsFlaw>
     ensures is { result ≡ ranks_from 0 (map (λ field. field.items) fields.now) }
     ensures few { IfOk result (λ ranks. ranks ≤ max_candidates) }
@@ -158,7 +158,7 @@ fn ranks_in(fields: &[Vec<u8>]) -> Result<u8, BallotsFlaw>
     Ok(ranks)
 }
 
-/// Returns the columns after that of the numbers of papers, if there is one: the candidates', or those of ranks.
+/// Returns the columns after the one for the number of papers, if there is one: columns for candidates or for ranks.
 fn columns_in(
     alloc: Global,
     are_candidates: bool,
@@ -179,7 +179,7 @@ fn columns_in(
     }
 }
 
-/// Returns the first line with some fields.
+/// Returns the first line with the given fields.
 fn header_of(
     alloc: Global,
     are_candidates: bool,
@@ -198,7 +198,7 @@ fn header_of(
     }
 }
 
-/// Returns the first line, whose columns are the candidates' or those of ranks.
+/// Parses the first line, whose columns are for candidates or for ranks.
 pub(crate) fn header_in(
     alloc: Global,
     are_candidates: bool,

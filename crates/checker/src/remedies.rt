@@ -1,11 +1,11 @@
-//! What to do about ballots that aren't counted.
+//! What to do about ballots that can't be counted.
 
 ghost use Rattle.std.specs.Prelude.{◌≡◌};
 ghost use Rattle.checker.specs.Remedies.{flaw_remedy, remedy};
 
 use crate::problem::{BallotsFlaw, Problem};
 
-/// Returns what to do about the flaw of a line.
+/// Returns what to do about the flaw in a line.
 fn flaw_remedy(flaw: BallotsFlaw) -> &'static str
     ensures { result.now ≡ flaw_remedy flaw }
 {
@@ -74,7 +74,7 @@ fn flaw_remedy(flaw: BallotsFlaw) -> &'static str
     }
 }
 
-/// Returns what to do about a problem, as a line in brackets; nothing if the problem says it.
+/// Returns what to do about a problem, as a line in brackets; empty if the description of the problem already says it.
 pub(crate) fn remedy(problem: &Problem) -> &'static str
     ensures { result.now ≡ remedy problem.now }
 {

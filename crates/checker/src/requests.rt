@@ -1,4 +1,4 @@
-//! The words of a request to count ballots.
+//! The arguments of a request to count ballots.
 
 ghost use Rattle.std.specs.Prelude.{◌≡◌, Ok, map, option_map, string_bytes, IfOk, IfErr};
 ghost use Rattle.checker.specs.BallotsComments.{is_word as is_word_of};
@@ -16,7 +16,7 @@ use paper::MAX_CANDIDATES;
 use std::alloc::{AllocError, Global};
 use votes::MAX_SEATS;
 
-/// What the next word is.
+/// The meaning of the next word.
 #[derive(Clone, Copy)]
 pub(crate) enum NextWord {
     /// An option, or the path of the ballots.
@@ -25,7 +25,7 @@ pub(crate) enum NextWord {
     Title,
     /// A lot.
     Lot,
-    /// The seats of the ward.
+    /// The number of seats in the ward.
     Seats,
     /// The name of the ward.
     Name,
@@ -33,7 +33,7 @@ pub(crate) enum NextWord {
     Candidate,
 }
 
-/// An option that asks for a text other than the sheet.
+/// An option that requests a text other than the sheet.
 #[derive(Clone, Copy)]
 pub(crate) enum TextOption {
     Declaration,
@@ -45,27 +45,27 @@ pub(crate) enum TextOption {
 /// The reason why the words aren't understood.
 #[derive(Clone, Copy)]
 pub enum WordsFlaw {
-    /// There is no path of the ballots.
+    /// The path of the ballots is missing.
     NoBallots,
     /// There are two paths.
     SecondBallots,
     /// There is no such option.
     UnknownOption,
-    /// Two texts are asked for.
+    /// Two texts are requested.
     SecondText,
     /// The last option has no value.
     NoValue,
     /// A lot isn't a stage and a candidate.
     Lot,
-    /// There is a title, but no page is asked for.
+    /// There is a title, but no page is requested.
     TitleAlone,
-    /// An option that can be given once is given twice.
+    /// An option that may be given only once is given twice.
     SecondTime,
-    /// The seats aren't a number in range.
+    /// The number of seats isn't a number, or is out of range.
     Seats,
     /// A candidate's name is empty or too long, or there are too many candidates.
     Candidates,
-    /// The seats or the name of the ward aren't given, but the other, or candidates.
+    /// The seats or the name of the ward is missing, although the other or a candidate is given.
     HalfWard,
 }
 
@@ -74,10 +74,10 @@ pub enum WordsFlaw {
 pub(crate) struct CountRequest<'a> {
     /// The path of the ballots.
     pub(crate) ballots: &'a str,
-    /// The ward of cast-vote records; `None` for a BLT file.
+    /// The ward of the cast-vote records; `None` for a BLT file.
     pub(crate) ward: Option<RecordsWard<'a>>,
     pub(crate) text: CountText<'a>,
-    /// Lots that the file doesn't have.
+    /// The lots to add to those in the file.
     pub(crate) lots: Vec<(u8, u8)>,
 }
 
@@ -94,7 +94,7 @@ pub(crate) struct CountWords<'a> {
     candidates: Vec<&'a str>,
 }
 
-/// Returns the text that an option asks for.
+/// Returns the text that an option requests.
 fn text_option(word: &str) -> Option<TextOption>
     ensures { result ≡ text_option word.now }
 {
@@ -131,7 +131,7 @@ fn lot_in_word(alloc: Global, word: &str) -> Result<Option<(u8, u8)>, AllocError
     Ok(lot_of(&words))
 }
 
-/// Returns whether a word begins with a hyphen, but isn't one alone.
+/// Returns whether a word begins with a hyphen and isn't just a hyphen.
 fn is_option(word: &str) -> bool
     ensures { result ≡ is_option word.now }
 {
@@ -142,7 +142,7 @@ fn is_option(word: &str) -> bool
 }
 
 impl<'a> CountWords<'a> {
-    /// Returns the request before its first word.
+    /// Returns an empty request.
     fn new(alloc: Global) -> CountWords<'a>
         ensures { words_told result ≡ nothing_asked }
     {
@@ -158,7 +158,7 @@ impl<'a> CountWords<'a> {
         }
     }
 
-    /// Stores the text that is asked for.
+    /// Stores which text is requested.
     fn take_text(&mut self, text: TextOption) -> Result<(), WordsFlaw>
         ensures { done_as result (words_told self.new) ≡ with_text (words_told self.old) text }
     {
@@ -197,7 +197,7 @@ impl<'a> CountWords<'a> {
         Ok(())
     }
 
-    /// Stores the seats of the ward.
+    /// Stores the number of seats.
     fn take_seats(&mut self, word: &str) -> Result<(), WordsFlaw>
         ensures { done_as result (words_told self.new) ≡ with_seats (words_told self.old) word.now }
     {
@@ -295,7 +295,7 @@ impl<'a> CountWords<'a> {
         }
     }
 
-    /// Returns the request after its last word.
+    /// Returns the request made up of the words so far.
     fn into_request(self) -> Result<CountRequest<'a>, WordsFlaw>
         ensures ok { IfOk result (λ request. request_at self.entry.next (words_told self.entry) ≡ Ok (request_told request)) }
         ensures err { IfErr result (λ flaw. request_at self.entry.next (words_told self.entry) ≡ Err flaw) }
@@ -324,7 +324,7 @@ impl<'a> CountWords<'a> {
     }
 }
 
-/// Returns the text of a request; only a page has a title.
+/// Returns the text that a request asks for; only a page may have a title.
 fn text_asked<'a>(
     text: Option<TextOption>,
     title: Option<&'a str>,
@@ -343,7 +343,7 @@ fn text_asked<'a>(
     }
 }
 
-/// Returns the ward of cast-vote records, if its seats and its name are given.
+/// Returns the ward of cast-vote records if its seats and name are given.
 fn ward_asked<'a>(
     seats: Option<u8>,
     name: Option<&'a str>,
@@ -377,7 +377,7 @@ fn ward_asked<'a>(
     }
 }
 
-/// Returns the request in some words.
+/// Parses the words of a request.
 pub(crate) fn count_request(
     alloc: Global,
     words: &[String],

@@ -5,7 +5,7 @@ ghost use Rattle.checker.specs.Tokens.{behind_byte_order_mark, is_blank, kind_of
 
 use std::alloc::{AllocError, Global};
 
-/// The pieces for which there is room at once, as many as the words of a usual line. More need one allocation or more.
+/// The number of pieces for which room is reserved at the start, enough for the words of a usual line. More need further allocations.
 const USUAL_PIECES: usize = 16;
 
 /// The separator at which a text is split.
@@ -15,7 +15,7 @@ pub(crate) enum Separator {
     LineFeed,
     /// A space, a tab, or a carriage return, such as before a line feed: the pieces are words.
     Blank,
-    /// The same, or a colon or a comma.
+    /// A space, a tab, a carriage return, a colon or a comma.
     Mark,
     /// An equals sign: the pieces are the candidates who share a rank.
     Equals,
@@ -54,7 +54,7 @@ fn parts(separator: Separator, byte: u8) -> bool
     }
 }
 
-/// Appends one piece; there is no word between two blanks.
+/// Appends one piece; between two blanks there is no word.
 fn with_piece<'a>(
     mut pieces: Vec<&'a [u8]>,
     separator: Separator,
@@ -73,7 +73,7 @@ fn with_piece<'a>(
     Ok(pieces)
 }
 
-/// Returns the pieces of a text.
+/// Splits a text into pieces.
 pub(crate) fn pieces_of<'a>(
     alloc: Global,
     separator: Separator,
@@ -93,7 +93,7 @@ pub(crate) fn pieces_of<'a>(
     with_piece(pieces, separator, &text[start..])
 }
 
-/// Returns a text without its byte order mark, if it begins with one.
+/// Returns a text without its leading byte order mark, if it has one.
 fn behind_byte_order_mark(text: &[u8]) -> &[u8]
     ensures { result.now ≡ behind_byte_order_mark text.now }
 {
@@ -103,7 +103,7 @@ fn behind_byte_order_mark(text: &[u8]) -> &[u8]
     }
 }
 
-/// Returns the lines of a text. A line feed ends a line, and a leading byte order mark is skipped.
+/// Splits a text into lines. A line feed ends a line, and a leading byte order mark is skipped.
 pub(crate) fn lines_of(alloc: Global, text: &[u8]) -> Result<Vec<&[u8]>, AllocError>
     ensures { IfOk result (λ lines. map (λ p. p.now) lines.items ≡ lines_of text.now) }
 {

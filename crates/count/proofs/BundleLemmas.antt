@@ -20,7 +20,7 @@ use Rattle.count.specs.Bundles.{Bundle, list_cmp, papers_of, with_papers, IsBund
 abbrev pub number_of : List ℕ → List Bundle → ℕ
 number_of list bs = unwrap_or (lookup (is_at (list_cmp list)) bs) 0
 
--- the number of papers with one list is at most that of all papers
+-- the number of papers with one list is at most the number of all papers
 number_at : (b : Bundle) (bs : List Bundle) (found : Option ℕ) (here : Bool) → unwrap_or found 0 ≤ length (papers_of bs) →
     unwrap_or (cond here (Some b.1) found) 0 ≤ length (papers_of (b ∷ bs))
 number_at b bs found true behind = omega (arith, length-append (replicate b.1 b.0) (papers_of bs), length-replicate b.1 b.0)
@@ -75,7 +75,7 @@ above-with_papers : (x list : List ℕ) (n : ℕ) (bs : List Bundle) → list_cm
 above-with_papers x list n [] new all = (new, tt)
 above-with_papers x list n (b ∷ bs) new all = above_at x list n b bs (list_cmp list b.0) new all (above-with_papers x list n bs new all.1)
 
--- a list below another is below those above that
+-- a list below another is below all lists above that
 above_both : (x y : List ℕ) (zs : List (List ℕ)) → list_cmp x y ≡ Less → AllByRecursion (λ z. list_cmp y z ≡ Less) zs → AllByRecursion (λ z. list_cmp x z ≡ Less) zs
 above_both x y [] below all = tt
 above_both x y (z ∷ zs) below all = (nat_list_cmp_total.trans x y z below all.0, above_both x y zs below all.1)
@@ -128,7 +128,7 @@ pub papers-with_papers : (list : List ℕ) (n : ℕ) (bs : List Bundle) → IsPe
 papers-with_papers list n [] = IsPermutation-refl (replicate n list ++ [])
 papers-with_papers list n (b ∷ bs) = papers_at list n b bs (list_cmp list b.0) refl (papers-with_papers list n bs)
 
--- the number of papers increases by that of the new ones
+-- the number of papers increases by the number of new ones
 pub length-with_papers : (list : List ℕ) (n : ℕ) (bs : List Bundle) → length (papers_of (with_papers bs list n)) ≡ length (papers_of bs) + n
 length-with_papers list n bs =
     let same : length (papers_of (with_papers bs list n)) ≡ length (replicate n list ++ papers_of bs) = length_permutation _ _ (papers-with_papers list n bs) in

@@ -12,7 +12,7 @@ use Rattle.std.proofs.lemmas.List.Elements.{filter_more}
 use Rattle.count.specs.Inside.Holdings.{OnlyColumns}
 use Rattle.count.proofs.Law.ActionLemmas.{in-filter, column-in}
 
--- whether any element passes a test is independent of the direction
+-- whether any element passes a test doesn't depend on the direction of iteration
 pub any-reverse : {X : Type 0} (p : X → Bool) (xs : List X) → list_any p (reverse xs) ≡ list_any p xs
 any-reverse p xs = sym (list_any-IsPermutation p xs (reverse xs) (IsPermutation-reverse xs))
 
@@ -24,7 +24,7 @@ columns-filter p xs set = record {
       (in-filter (slice_index (filter p xs) k) p xs (list_any_at (nat_eq (slice_index (filter p xs) k)) (filter p xs) k 0 at (eq-eqb _ _ refl))).1;
 }
 
--- and so are the first ones
+-- and so are its first members
 pub columns-take : (n : ℕ) (xs : List ℕ) → IsCandidateSet xs → IsCandidateSet (take n xs)
 columns-take n xs set = record {
   ascending = λ k at.
@@ -38,7 +38,7 @@ columns-take n xs set = record {
       subst IsColumn (sym here) (set.within k (omega (arith, size, at)));
 }
 
--- one more that passes the test
+-- one more member that passes the test
 pub columns-more : (p : ℕ → Bool) (xs chosen : List ℕ) (i : ℕ) → IsCandidateSet xs → chosen ≡ filter p (take i xs) → i < length xs → p (slice_index xs i) ≡ true →
     IsCandidateSet (chosen ++ slice_index xs i ∷ [])
 columns-more p xs chosen i set is within passes =

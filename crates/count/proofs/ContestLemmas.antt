@@ -25,7 +25,7 @@ pub contest-is : (candidates : List ℕ) (seats : ℕ) (papers : List (List ℕ)
 contest-is candidates seats papers set some few contested few_papers of =
     record { candidate_set = set; some_seats = some; few_seats = few; contested = contested; few_papers = few_papers; for_candidates = of; quota_is = refl }
 
--- if each bundle has a paper, a property holds for all papers exactly if it holds for each bundle's list
+-- if each bundle has a paper, a property holds for all papers if and only if it holds for each bundle's list
 all-replicated : (P : List ℕ → Type 0) (n : ℕ) (list : List ℕ) (rest : List (List ℕ)) → P list → AllByRecursion P rest → AllByRecursion P (replicate n list ++ rest)
 all-replicated P zero list rest one all = all
 all-replicated P (suc n) list rest one all = (one, all-replicated P n list rest one all)

@@ -5,7 +5,7 @@ use Rattle.paper.specs.Columns.{max_candidates}
 use Rattle.count.specs.Law.Places.{first_of}
 use Rattle.count.specs.Books.{AreRankings}
 
--- the first of a ranking is a candidate number, or 0
+-- the first element of a ranking is a candidate number, or 0
 pub first-known : (paper : List ℕ) → IsRanking paper → first_of paper ≤ max_candidates
 first-known [] h = omega arith
 first-known (x ∷ xs) h = h.1

@@ -1,4 +1,4 @@
--- Sums over parcels and holdings, one more at a time.
+-- Sums over parcels and holdings, extended by one at a time.
 use Rattle.std.proofs.Common.{◌≡◌, ℕ, suc, zero, ◌+◌, ◌<◌, ◌≤◌, List, [], ◌∷◌, ◌++◌, length, take, get_or, set, Bool, true, false, drop, cond, eqb, refl, sym, ap, ◌∙◌, arith, Bor}
 use Rattle.std.specs.List.{sum_by}
 use Rattle.std.proofs.lemmas.List.Sums.{sum_by_push, sum_by_more, sum_by-set}
@@ -37,7 +37,7 @@ total_of-set f parcels i old new rest within is same more =
     let here : on_parcel f (get_or parcels i old) ≡ on_parcel f old = ap (on_parcel f) (sym is) in
     omega (arith, sum_by-set (on_parcel f) parcels i new old within, grown, here)
 
--- a holding is replaced by one with more
+-- a holding is replaced by one with more papers
 pub total-set : (f : ℕ → List ℕ → ℕ → ℕ) (holdings : List Holding) (i k : ℕ) (old new : Holding) →
     i < length holdings → old ≡ get_or holdings i old → new.holder ≡ old.holder →
     total_of (f old.holder) new.parcels.items ≡ total_of (f old.holder) old.parcels.items + k →
@@ -47,7 +47,7 @@ total-set f holdings i k old new within is same more =
     let here : on_holding f (get_or holdings i old) ≡ on_holding f old = ap (on_holding f) (sym is) in
     omega (arith, sum_by-set (on_holding f) holdings i new old within, grown, here)
 
--- one more holding, without papers
+-- one more holding, with no papers
 pub total-empty : (f : ℕ → List ℕ → ℕ → ℕ) (holdings more : List Holding) (holding : Holding) →
     more ≡ holdings ++ holding ∷ [] → holding.parcels.items ≡ [] → total f holdings ≡ 0 → total f more ≡ 0
 total-empty f holdings more holding is none empty =
@@ -59,7 +59,7 @@ pub numbered-push : (n : ℕ) (holdings : List Holding) (holding : Holding) → 
 numbered-push n [] holding h is = (omega (arith, is), tt)
 numbered-push n (x ∷ xs) holding h is = (h.0, numbered-push (n + 1) xs holding h.1 (omega (arith, is)))
 
--- the holder at a place, and the numbers if a holding keeps its holder
+-- the holder at a position, and the numbers if a holding keeps its holder
 pub numbered-at : (n : ℕ) (holdings : List Holding) (i : ℕ) (holding : Holding) → AreNumbered n holdings → i < length holdings → holding ≡ get_or holdings i holding → holding.holder ≡ n + i
 numbered-at n [] i holding h within is = absurd (omega arith)
 numbered-at n (x ∷ xs) zero holding h within is = ap (λ (y : Holding). y.holder) is ∙ (h.0 ∙ omega arith)
@@ -82,7 +82,7 @@ pub total-more : (f : ℕ → List ℕ → ℕ → ℕ) (holdings : List Holding
 total-more f holdings i holding within is =
     sum_by_more (on_holding f) holdings i holding within ∙ ap (λ n. total f (take i holdings) + n) (ap (on_holding f) (sym is))
 
--- equal functions have the same sum on some parcels
+-- equal functions have the same sum over some parcels
 pub total_of-same : (f g : List ℕ → ℕ → ℕ) (parcels : List Parcel) → ((rest : List ℕ) (v : ℕ) → f rest v ≡ g rest v) → total_of f parcels ≡ total_of g parcels
 total_of-same f g parcels h = sum_by-same _ _ parcels (λ (p : Parcel). sum_by-same _ _ p.papers.items (λ (r : Bor (List ℕ)). h r.now p.value))
 
@@ -115,7 +115,7 @@ pub from_first-same : (p q : ℕ → Bool) (xs : List ℕ) → ((c : ℕ) → p 
 from_first-same p q [] h = refl
 from_first-same p q (x ∷ xs) h = from_choice (p x) (q x) x _ _ xs (h x) (from_first-same p q xs h)
 
--- two tests that agree on who continues have the same result
+-- two tests that agree on who continues give the same result
 pub total_passed-same : (f : ℕ → List ℕ → ℕ → ℕ) (c : ℕ) (p q : ℕ → Bool) (rule : TransferRule) (holdings : List Holding) → ((d : ℕ) → p d ≡ q d) →
     total_passed f c p rule holdings ≡ total_passed f c q rule holdings
 total_passed-same f c p q rule holdings h =

@@ -169,7 +169,7 @@ stage-read contest handed s before elected now made fair right known read =
 
 -- ---- all stages
 
--- the figures of some stages in order, which follow others
+-- the figures of some stages in order, which follow other stages
 pub figures_from : List ℕ → History → List Stage → List Figure
 figures_from candidates before [] = []
 figures_from candidates before (s ∷ later) = figures_at candidates (s ∷ before) ++ figures_from candidates (s ∷ before) later

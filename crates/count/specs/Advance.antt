@@ -13,7 +13,7 @@ use Rattle.count.specs.declared.book.AdvanceError.TheVariants.{Finished as is_fi
 use Rattle.count.specs.declared.count_to_end.CountEnd.{CountEnd}
 use Rattle.count.specs.declared.count_to_end.CountEnd.TheVariants.{Finished as has_finished, LotNeeded as needs_lot, LotNotAmong as misses_lot}
 
--- the reason why a book can't advance, by the lot passed and what is due
+-- the reason why a book can't advance, given the lot passed and what is due
 abbrev pub refusal : Option ℕ → Due → Option AdvanceError
 refusal lot (Act action) = None
 refusal lot Finished = Some is_finished
@@ -26,11 +26,11 @@ pub record Advances (contest : Contest) (old : History) (lot : Option ℕ) (new 
   pub one_more : new ≡ stage ∷ old
   pub next : IsNext contest old lot stage
 
--- the same, with the recorded lots
+-- a history with one more stage, which is next for the recorded lots
 abbrev pub AdvancesBy : Contest → List (ℕ × ℕ) → History → History → Type 0
 AdvancesBy contest lots old new = Advances contest old (lot_for lots (length old + 1)) new
 
--- a history with one more stage, which is that of an action
+-- a history with one more stage, that of a given action
 pub record Adds (contest : Contest) (old : History) (action : Action) (new : History) : Type 0 where
   pub stage : Stage
   pub one_more : new ≡ stage ∷ old
@@ -42,7 +42,7 @@ pub record IsDue (contest : Contest) (stages : History) (action : Action) : Type
   pub lot : Option ℕ
   pub is : drawn contest stages lot (due_after contest stages) ≡ Some action
 
--- the reason why a count ends, by the lot passed and what is due, if it does
+-- the reason why a count ends, if it does, given the lot passed and what is due
 abbrev pub end_of : Option ℕ → Due → Option CountEnd
 end_of lot (Act action) = None
 end_of lot Finished = Some has_finished

@@ -1,4 +1,4 @@
--- A count as it is stored along with its papers: its bundles, their places, and the stages so far.
+-- A count as it is stored with its papers: its bundles, their places, and the stages so far.
 use Rattle.std.specs.Prelude.{◌≡◌, ℕ, List, map, reverse}
 use Rattle.count.specs.Bundles.{Bundle, bundled}
 use Rattle.count.specs.Books.{placed}
@@ -8,7 +8,7 @@ use Rattle.count.specs.Law.Right.{IsRightForSome}
 use Rattle.count.specs.declared.placed.Placed.{Placed}
 use Rattle.count.specs.declared.stages.Stage.{Stage}
 
--- what is stored of a count; until it is checked, it may be anything
+-- the stored data of a count; until it is checked, it may be anything
 pub record StoredCountEntry : Type 0 where
   pub candidates : List ℕ
   pub seats : ℕ

@@ -1,6 +1,6 @@
 //! Equal papers stored once, in a tree that maps each list of preferences to the number of papers with it. A bundle is looked up by
-//! its list, and iteration is in the order of the lists. The total number of papers is stored next to the tree, and costs no
-//! iteration.
+//! its list, and iteration is in the order of the lists. The total number of papers is stored next to the tree, so it is known
+//! without iterating.
 
 ghost use Rattle.std.specs.Prelude.{◌≡◌, ℕ, ◌+◌, ◌<◌, ◌≤◌, List, [], ◌∷◌, ◌++◌, length, replicate, slice_get, Some, OnOk, OnErr};
 ghost use Rattle.std.specs.List.Sorted.{IsPermutation};
@@ -15,7 +15,7 @@ use std::collections::btree_map::Iter;
 use std::marker::Model;
 
 /// Equal papers stored once, modelled as the list of their bundles: each list of preferences with the number of papers that have it,
-/// at least 1, in the order of the lists. They contain at most `MAX_PAPERS` papers.
+/// at least 1, in the order of the lists. The total is at most `MAX_PAPERS` papers.
 #[derive(Drop)]
 pub struct Bundles {
     lists: BTreeMap<Prefs, u32>,
@@ -35,7 +35,7 @@ impl Model for Bundles {
 }
 
 impl Bundles {
-    /// Returns no bundles. Allocates nothing.
+    /// Returns an empty set of bundles. Allocates nothing.
     pub fn new(alloc: Global) -> Bundles
         ensures { result ≡ [] }
     {
@@ -64,7 +64,7 @@ impl Bundles {
         ensures adds { OnOk result (IsPermutation (replicate papers list ++ papers_of self.old) (papers_of self.new)) }
         ensures err { OnErr result (self.new ≡ self.old) }
     {
-        // the clauses of `first` tell the proof that the list is a nonempty ranking
+        // called for its postconditions: they tell the proof that the list is a nonempty ranking
         let _ = list.first();
         add_to(&mut self.lists, list, papers)?;
         self.papers += papers;
@@ -87,8 +87,8 @@ impl Bundles {
         self.lists.len()
     }
 
-    /// Returns the bundle at a place in the order of the lists: its list and its number of papers. Walks from the first bundle; to
-    /// visit all of them, use `iter`.
+    /// Returns the bundle at a position in the order of the lists: its list and its number of papers. Walks from the first bundle;
+    /// to visit all of them, use `iter`.
     pub fn get(&self, i: usize) -> (&Prefs, u32)
         requires { i < length self.now }
         ensures { slice_get self.now i ≡ Some (result.0.now, result.1) }

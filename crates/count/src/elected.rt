@@ -1,4 +1,4 @@
-//! The candidates who have reached the quota, are elected, continue or have a surplus after some stages.
+//! The candidates who, after some stages, have reached the quota, are elected, continue or have a surplus.
 
 ghost use Rattle.std.specs.Prelude.{◌≡◌, ℕ, ◌≤◌, Bool, ◌&&◌, ◌||◌, not, [], reverse, nat_lt, nat_eq};
 ghost use Rattle.paper.specs.Columns.{max_candidates};
@@ -25,7 +25,7 @@ pub fn votes_after(stage: &Stage, c: u8) -> Votes
     stage.votes[usize::from(c - 1)]
 }
 
-/// Returns a candidate's votes after the newest stage; none before the first.
+/// Returns a candidate's votes after the newest stage; 0 before the first.
 pub fn newest_votes(stages: &[Stage], c: u8) -> Votes
     requires some { 1 ≤ c }
     requires few { c ≤ max_candidates }
@@ -82,7 +82,7 @@ fn is_transferred(stages: &[Stage], c: u8) -> bool
     stages.iter().any(|stage| stage.action.transfers(c))
 }
 
-/// Returns whether a candidate's surplus has been transferred, including by one more action.
+/// Returns whether a candidate's surplus has been transferred by these stages or by one more action.
 pub fn is_transferred_with(stages: &[Stage], action: &Action, c: u8) -> bool
     ensures { result ≡ (transfers_of action.now c || is_transferred_of (reverse stages.now) c) }
 {
@@ -152,7 +152,7 @@ fn undecided_fill(terms: &Terms, stages: &[Stage]) -> bool
     with_quota(terms, stages).len() + undecided(terms, stages).len() == usize::from(terms.seats)
 }
 
-/// Returns whether a candidate is elected, given whether the undecided fill the seats.
+/// Returns whether a candidate is elected, given whether the undecided candidates fill the seats.
 fn is_elected(terms: &Terms, stages: &[Stage], fill: bool, c: u8) -> bool
     requires some { 1 ≤ c }
     requires few { c ≤ max_candidates }
@@ -175,7 +175,7 @@ pub fn elected(terms: &Terms, stages: &[Stage]) -> Columns
     those(&terms.candidates, |c| is_elected(terms, stages, fill, c))
 }
 
-/// Returns whether a candidate continues, given whether the undecided fill the seats.
+/// Returns whether a candidate continues, given whether the undecided candidates fill the seats.
 fn is_continuing(terms: &Terms, stages: &[Stage], fill: bool, c: u8) -> bool
     requires some { 1 ≤ c }
     requires few { c ≤ max_candidates }
@@ -195,7 +195,7 @@ pub fn continuing(terms: &Terms, stages: &[Stage]) -> Columns
     those(&terms.candidates, |c| is_continuing(terms, stages, fill, c))
 }
 
-/// Returns the standing of the candidates as far as the next available preference depends on it: who continues.
+/// Returns the standing of the candidates, as far as the next available preference depends on it: which of them continue.
 #[tactic(auto, using(crate::proofs::ColumnLemmas::only_columns))]
 pub fn standing(terms: &Terms, stages: &[Stage]) -> Standing
     ensures is { (c : ℕ) → continues_of result c ≡ is_continuing_of (contest_of terms.now []) (reverse stages.now) c }
@@ -222,7 +222,7 @@ pub fn with_surplus(elected: &Columns, quota: Votes, newest: &Stage) -> Columns
     those(elected, |c| quota.units() < votes_after(newest, c).units())
 }
 
-/// Returns the members of a set that aren't in another.
+/// Returns the members of a set that aren't in another set.
 pub fn without(set: &Columns, others: &Columns) -> Columns
     ensures { result ≡ filter (λ c. not (list_any (nat_eq c) others.now)) set.now }
 {

@@ -1,4 +1,4 @@
-//! Moving the papers that an action transfers from their holder.
+//! Moving papers from their holders for an action.
 
 ghost use Rattle.std.specs.Prelude.{◌≡◌, ℕ, ◌+◌, ◌-◌, ◌<◌, ◌≤◌, List, not, reverse, vec_len, vec_capacity, IfOk, OnOk};
 ghost use Rattle.std.specs.List.{filter};
@@ -29,7 +29,7 @@ pub fn surplus_rule(quota: Votes, credited: Votes) -> TransferRule
     TransferRule::Share { surplus, credited }
 }
 
-/// Returns the holdings of the papers that the action due moves, with their new holders and values.
+/// Returns the holdings of the papers that the due action moves, with their new holders and values.
 pub fn moved_by<'a>(
     alloc: Global,
     terms: &Terms,
@@ -86,7 +86,7 @@ fn leave_out<'a>(holdings: &mut Vec<Holding<'a>>, action: &Action)
     holdings.retain(|holding| !passes_on(action, holding.holder));
 }
 
-/// Replaces the holdings whose papers an action passed on with those that it made.
+/// Replaces the holdings whose papers an action passed on with the new ones.
 pub fn replace<'a>(holdings: &mut Vec<Holding<'a>>, action: &Action, moved: Vec<Holding<'a>>)
     requires { vec_len holdings.old + vec_len moved ≤ vec_capacity holdings.old }
     ensures { (f : ℕ → List ℕ → ℕ → ℕ) → total f holdings.new.items ≡ total f moved.entry.items + total (kept_by f action.now) holdings.old.items }

@@ -1,4 +1,4 @@
-//! The candidates of a group with the most votes, or the fewest.
+//! The members of a group with the most votes, or the fewest.
 
 ghost use Rattle.std.specs.Prelude.{◌≡◌, ℕ, ◌≤◌, reverse};
 ghost use Rattle.std.specs.List.{list_any};
@@ -47,7 +47,7 @@ fn has_below(stages: &[Stage], group: &Columns, c: u8) -> bool
     has_one(group, |d| is_above(stages, c, d))
 }
 
-/// Returns the members of a group that no other member is above.
+/// Returns the members of a group that have no other member above them.
 pub fn highest(stages: &[Stage], group: &Columns) -> Columns
     ensures { result ≡ highest_of (reverse stages.now) group.now }
 {

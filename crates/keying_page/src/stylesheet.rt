@@ -1,4 +1,4 @@
-//! The style of the page, a sheet of CSS: for widths from 400 pixels, with nothing that colour alone tells.
+//! The style of the page, as CSS: for widths of 400 pixels or more, with nothing conveyed by colour alone.
 
 /// The style.
 pub(crate) const STYLE: &str = r#"

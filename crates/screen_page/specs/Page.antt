@@ -1,4 +1,4 @@
--- The page for the screen in the hall, and its policy. Their texts are the constants of this crate: the definitions say how they are put together.
+-- The page for the screen in the hall, and its policy. Their texts are the constants of this crate: the definitions state how these are put together.
 use Rattle.std.specs.Prelude.{List, ◌++◌, codes, ℕ}
 use Rattle.screen_page.specs.Policies.{policy_of}
 use Rattle.screen_page.specs.declared.markup.TheConstants.{BODY, HEAD, TAIL}
@@ -12,7 +12,7 @@ use Rattle.screen_page.specs.declared.script.turns.TheConstants.{TURNS}
 use Rattle.screen_page.specs.declared.script.views.TheConstants.{VIEWS}
 use Rattle.screen_page.specs.declared.stylesheet.TheConstants.{STYLE}
 
--- the script of the page: what its parts declare, and the last one, which starts it
+-- the script of the page: the declarations of its parts, and the last part, which starts it
 unfoldable pub script : List ℕ
 script = BASICS.now ++ (SHEETS.now ++ (TIES.now ++ (REQUESTS.now ++ (TURNS.now ++ (CHART.now ++ (VIEWS.now ++ EVENTS.now))))))
 
@@ -20,7 +20,7 @@ script = BASICS.now ++ (SHEETS.now ++ (TIES.now ++ (REQUESTS.now ++ (TURNS.now +
 abbrev pub style : List ℕ
 style = STYLE.now
 
--- a page that has one style and one script: markup around the two
+-- a page with one style and one script: the markup around the two
 unfoldable pub page_of : List ℕ → List ℕ → List ℕ
 page_of its_style its_script =
     HEAD.now
@@ -29,10 +29,10 @@ page_of its_style its_script =
     ++ (codes "<script>" ++ (its_script ++ (codes "</script>"
     ++ TAIL.now)))))))
 
--- the page, the same text at any time
+-- the page; the text is the same at any time
 abbrev pub page_text : List ℕ
 page_text = page_of style script
 
--- the policy of the page: it lets a browser use the style and the script that the page has
+-- the policy of the page: it allows a browser to use the style and the script of the page
 abbrev pub policy_text : List ℕ
 policy_text = policy_of style script

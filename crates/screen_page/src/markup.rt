@@ -5,7 +5,7 @@ ghost use Rattle.screen_page.specs.Page.{page_of};
 
 use std::alloc::{AllocError, Global};
 
-/// What precedes the style.
+/// The markup before the style.
 const HEAD: &str = r#"<!DOCTYPE html>
 <html lang="en">
 <head>
@@ -15,7 +15,7 @@ const HEAD: &str = r#"<!DOCTYPE html>
 <link rel="icon" href="data:,">
 "#;
 
-/// What stands between the style and the script.
+/// The markup between the style and the script.
 const BODY: &str = r#"
 </head>
 <body>
@@ -33,14 +33,14 @@ const BODY: &str = r#"
 </footer>
 "#;
 
-/// What follows the script.
+/// The markup after the script.
 const TAIL: &str = r#"
 </body>
 </html>
 "#;
 
 #[tactic(auto, unfolding(crate::specs::Page::page_of))]
-/// Returns the page that has this style and this script. The only error is that an allocation failed.
+/// Returns the page with this style and this script. The only error is a failed allocation.
 pub(crate) fn page_around(alloc: Global, style: &str, script: &str) -> Result<String, AllocError>
     ensures { IfOk result (λ text. string_bytes text ≡ page_of style.now script.now) }
 {

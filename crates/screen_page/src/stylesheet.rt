@@ -1,4 +1,4 @@
-//! The style of the page, a sheet of CSS. All lengths follow the window: a picture of 1920 by 1080 pixels is 96 by 54 rem.
+//! The style of the page, as CSS. All lengths scale with the window: a screen of 1920 by 1080 pixels is 96 by 54 rem.
 
 /// The style.
 pub(crate) const STYLE: &str = r#"

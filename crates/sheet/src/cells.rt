@@ -15,20 +15,20 @@ use count::{Action, Stage};
 use streams::{Broken, Sink};
 use votes::Votes;
 
-/// A cell of a row, about a stage.
+/// A cell in a row of a table, for one stage.
 #[derive(Clone, Copy)]
 pub enum Cell<'a> {
-    /// The head of a column: the stage and its action, with the name of the ward's candidate concerned.
+    /// The head of a column: the stage and its action, with the name of the candidate concerned, taken from this ward.
     Head(&'a Ward<'a>),
     /// A candidate's votes, their change, and the candidate's standing.
     Candidate(u8),
-    /// The running total of the non-transferable.
+    /// The running total of the non-transferable votes.
     NonTransferable,
     /// The running total of the loss by fractions.
     Lost,
 }
 
-/// Returns the votes of a candidate before a stage; at the first one, the votes at it.
+/// Returns the votes of a candidate before a stage; for the first stage, the votes at that stage.
 fn votes_before(earlier: &[Stage], stage: &Stage, c: u8) -> Votes
     ensures { result ≡ before_of earlier.now stage.now c }
 {
@@ -62,7 +62,7 @@ fn sign(before: Votes, now: Votes) -> &'static str
     }
 }
 
-/// Returns the absolute difference of two values.
+/// Returns the absolute difference between two values.
 fn apart(before: Votes, now: Votes) -> Votes
     ensures { result ≡ apart_of before now }
 {
@@ -138,7 +138,7 @@ fn write_sum_cell<W: Sink>(sink: &mut W, sum: Votes) -> Result<(), Broken>
     write_line(sink, &pieces)
 }
 
-/// Writes a cell about a stage after earlier ones.
+/// Writes a cell for a stage that follows earlier ones.
 fn write_cell<W: Sink>(
     sink: &mut W,
     cell: &Cell,
@@ -160,7 +160,7 @@ fn write_cell<W: Sink>(
     }
 }
 
-/// Writes one cell per stage, from a place on.
+/// Writes one cell per stage, starting at a position.
 fn write_cells<W: Sink>(
     sink: &mut W,
     cell: &Cell,
@@ -176,7 +176,7 @@ fn write_cells<W: Sink>(
     Ok(())
 }
 
-/// Writes a row: its beginning, one cell per stage from a place on, and its end.
+/// Writes a row: its beginning, one cell per stage starting at a position, and its end.
 pub fn write_row<W: Sink>(
     sink: &mut W,
     opening: &[Piece],

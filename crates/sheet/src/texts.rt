@@ -1,4 +1,4 @@
-//! The stage sheet, the declaration, the ballots, the page and the index of wards as strings.
+//! The stage sheet, the declaration, the ballots, the page and the index of wards, as strings.
 
 ghost use Rattle.std.specs.Prelude.{◌≡◌, [], map, Some, IfOk, string_bytes};
 ghost use Rattle.std.specs.Str.{IsUtf8};
@@ -39,7 +39,7 @@ impl InMemory {
         }
     }
 
-    /// Returns the text that was written.
+    /// Returns the text that has been written.
     fn into_text(self) -> String
         requires { IsUtf8 self.text.items }
         ensures { string_bytes result ≡ self.text.items }

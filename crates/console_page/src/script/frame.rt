@@ -1,6 +1,6 @@
-//! Part of the script: the tabs, the choice of a ward, and how the page stays up to date.
+//! Part of the script: the tabs, the choice of a ward, and how the page is kept up to date.
 
-/// Declares the tabs, how one of them is opened and drawn, and how the page is refreshed.
+/// Declares the tabs, how a tab is opened and drawn, and how the page is refreshed.
 pub(crate) const FRAME: &str = r#"// ---- sections
 
 const TABS = [

@@ -1,4 +1,4 @@
-//! Part of the script: orders that are sent until the office has replied.
+//! Part of the script: orders that are sent again until the office has replied.
 
 /// Declares how an order is sent. It is stored first, and sent again under its id until the office has replied.
 pub(crate) const PENDING: &str = r#"// ---- sending orders

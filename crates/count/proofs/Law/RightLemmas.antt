@@ -1,4 +1,4 @@
--- Of two right lists of stages one is a prefix of the other, and there is only one count.
+-- Of two right lists of stages, one is a prefix of the other, and there is only one count.
 use Rattle.std.proofs.Common.{◌≡◌, ℕ, ◌+◌, ◌-◌, Bool, true, false, not, cond, ◌≤◌, inl, inr, drop, eqb, nat_eq, List, [], ◌∷◌, length, map, Option, Some, None, refl, sym, ap, ◌∙◌, arith}
 use Rattle.std.proofs.Common.{subst, suc, zero, length-drop}
 use Rattle.std.specs.List.{sum_by, filter, list_any}
@@ -172,7 +172,7 @@ beginning contest lots stages whole right right_whole within = record {
   is = right_same contest lots _ stages (right_drop contest lots (length whole - length stages) whole right_whole) right (length-drop (length whole - length stages) whole ∙ omega (arith, within));
 }
 
--- Of two right histories one is a prefix of the other.
+-- Of two right histories, one is a prefix of the other.
 pub one_begins : (contest : Contest) (lots : List (ℕ × ℕ)) → OneBeginsOther contest lots
 one_begins contest lots papers one other order right_one right_other =
     let here = right_reordered contest lots papers other order right_other in
@@ -182,7 +182,7 @@ one_begins contest lots papers one other order right_one right_other =
       | inr (inr more) ↦ inr (beginning contest lots other one here right_one (omega (arith, more)))
     ]
 
--- If a count has ended, each count of its papers, in any order, equals it.
+-- If a count has ended, every count of its papers, in any order, equals it.
 equals_each : (contest : Contest) (lots : List (ℕ × ℕ)) (whole : History) → IsCount contest lots whole → EqualsEachCount contest lots whole
 equals_each contest lots whole count papers stages order other =
     let here = right_reordered contest lots papers stages order other.0 in
@@ -196,7 +196,7 @@ whole_count contest lots whole end right ended =
     let count : IsCount contest lots whole = (right, ended-next contest whole (lot_for lots (length whole + 1)) (due_after contest whole) end ended) in
     record { ended = count; begins_each = begins_each_right contest lots whole end right ended; equals_each = equals_each contest lots whole count }
 
--- a history is a prefix of itself, and remains one if a stage is added
+-- a history is a prefix of itself, and remains a prefix if a stage is added
 pub begins_itself : (stages : History) → IsBeginning stages stages
 begins_itself stages =
     let none : length stages - length stages ≡ 0 = omega arith in

@@ -1,4 +1,4 @@
--- What a count is held on, and the list of its stages.
+-- The terms on which a count is held, and the list of its stages.
 use Rattle.std.specs.Prelude.{◌≡◌, ℕ, ◌-◌, ◌<◌, ◌≤◌, List, [], ◌∷◌, length, slice_index}
 use Rattle.std.specs.List.{AllByRecursion, list_any, range_with_len}
 use Rattle.std.specs.Prelude.{nat_eq, true}
@@ -6,7 +6,7 @@ use Rattle.paper.specs.Columns.{max_candidates, IsCandidateSet}
 use Rattle.votes.specs.Units.{max_papers, max_seats, quota_of}
 use Rattle.count.specs.declared.stages.Stage.{Stage}
 
--- A contest: its candidates in ascending order, its seats, its quota in units, and the preferences of each valid paper.
+-- A contest: its candidates in ascending order, its seats, its quota in units, and the preferences on each valid paper.
 pub record Contest : Type 0 where
   pub candidates : List ℕ
   pub seats : ℕ
@@ -18,7 +18,7 @@ abbrev pub contest_for : List ℕ → ℕ → List (List ℕ) → Contest
 contest_for candidates seats papers =
     record { candidates = candidates; seats = seats; quota = quota_of (length papers) seats; papers = papers }
 
--- c is one of a list of candidates
+-- c is in a list of candidates
 abbrev pub In : ℕ → List ℕ → Type 0
 In c candidates = list_any (nat_eq c) candidates ≡ true
 
@@ -26,7 +26,7 @@ In c candidates = list_any (nat_eq c) candidates ≡ true
 abbrev pub AreForCandidates : List ℕ → List (List ℕ) → Type 0
 AreForCandidates candidates papers = AllByRecursion (λ paper. AllByRecursion (λ c. In c candidates) paper) papers
 
--- A contest to which the rules apply: it has more candidates than seats, and seats and papers within the limits. Its preferences are only for
+-- A contest to which the rules apply: it has more candidates than seats, its seats and papers are within the limits, its preferences are only for
 -- candidates, and its quota is that of these papers and seats.
 pub record IsContest (contest : Contest) : Type 0 where
   pub candidate_set : IsCandidateSet contest.candidates

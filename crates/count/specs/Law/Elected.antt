@@ -51,11 +51,11 @@ is_elected contest stages c = has_reached contest stages c || (undecided_fill co
 abbrev pub elected_after : Contest → History → List ℕ
 elected_after contest stages = filter (is_elected contest stages) contest.candidates
 
--- the continuing candidates after some stages: neither elected nor excluded
+-- the candidates who continue after some stages: neither elected nor excluded
 abbrev pub continuing_after : Contest → History → List ℕ
 continuing_after contest stages = filter (λ c. not (is_elected contest stages c) && not (is_excluded stages c)) contest.candidates
 
--- whether c is a continuing candidate after some stages
+-- whether c is one of the candidates who continue after some stages
 abbrev pub is_continuing : Contest → History → ℕ → Bool
 is_continuing contest stages c = list_any (nat_eq c) (continuing_after contest stages)
 

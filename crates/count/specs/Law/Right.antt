@@ -10,7 +10,7 @@ use Rattle.count.specs.declared.stages.Stage.{Stage}
 use Rattle.count.specs.declared.stages.Action.{Action}
 use Rattle.count.specs.declared.stages.Action.TheVariants.{First, Surplus, Exclude, ExcludeLast}
 
--- a stage after others records each candidate's votes, the newly elected, and the two running totals
+-- a stage that follows others records each candidate's votes, the newly elected candidates, and the two running totals
 pub record Tells (contest : Contest) (before : History) (s : Stage) : Type 0 where
   pub votes_told : s.votes ≡ map (votes_after contest (s ∷ before)) numbers
   pub elected_told : s.elected ≡ filter (λ c. not (is_elected contest before c)) (elected_after contest (s ∷ before))
@@ -47,7 +47,7 @@ candidate_of (ExcludeLast c) = Some c
 abbrev pub IsRightByItself : Contest → History → Type 0
 IsRightByItself contest stages = IsRightBy contest (λ before s. candidate_of s.action) stages
 
--- a history is the count if it is right and no action is next: the count is finished, or waits for a lot
+-- a history is the count if it is right and no action is next: the count is finished or is waiting for a lot
 abbrev pub IsCount : Contest → List (ℕ × ℕ) → History → Type 0
 IsCount contest lots stages = IsRight contest lots stages × (next_action contest lots stages ≡ None)
 
@@ -55,7 +55,7 @@ IsCount contest lots stages = IsRight contest lots stages × (next_action contes
 abbrev pub reordered : Contest → List (List ℕ) → Contest
 reordered contest papers = record { candidates = contest.candidates; seats = contest.seats; quota = contest.quota; papers = papers }
 
--- the stages of one history are the first ones of another
+-- the stages of one history are the first stages of another
 pub record IsBeginning (stages whole : History) : Type 0 where
   pub within : length stages ≤ length whole
   pub is : drop (length whole - length stages) whole ≡ stages

@@ -1,6 +1,6 @@
 //! Part of the script: the list of batches, and how a batch is opened.
 
-/// Declares the list of batches, how one of them is opened, and how a clerk signs out.
+/// Declares the list of batches, how a batch is opened, and how a clerk signs out.
 pub(crate) const BATCHES: &str = r#"// ---- the batches
 
 // The address names the batch, so that a reload leads back to it.

@@ -1,4 +1,4 @@
-//! The last part of the script: the event listeners. It alone runs anything; the other parts only declare.
+//! The last part of the script: the event listeners. Only this part runs code when it is loaded; the other parts only declare.
 
 /// Adds the event listeners, and shows the first view.
 pub(crate) const EVENTS: &str = r#"// ---- what leads where

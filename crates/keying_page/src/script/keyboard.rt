@@ -1,6 +1,6 @@
-//! Part of the script: the views of the page, and the keyboard input to a paper.
+//! Part of the script: the views of the page, and keyboard input to a paper.
 
-/// Declares how the views change, and what keyboard input does in the view of papers.
+/// Declares how the views change, and what keyboard input does in the view with papers.
 pub(crate) const VIEWS: &str = r#"// ---- what is shown
 
 const VIEWS = ['batches', 'start', 'papers', 'end'];

@@ -1,6 +1,6 @@
 //! Part of the script: the effect of each key on the draft.
 
-/// Declares what each key does. A key that has no effect returns the message that says why; nothing is corrected.
+/// Declares what each key does. For a key without effect, the result is a message that says why; nothing is corrected.
 pub(crate) const KEYS: &str = r#"// ---- a paper, key by key
 
 // The draft that is keyed, and the candidates of its columns.

@@ -1,6 +1,6 @@
-//! Part of the script: how a clerk goes through an earlier keying of the batch, paper by paper.
+//! Part of the script: how a clerk reviews an earlier keying of the batch, paper by paper.
 
-/// Declares the drafts that begin with an earlier keying, and how a paper of such a draft is shown.
+/// Declares the drafts that start from an earlier keying, and how a paper in such a draft is shown.
 pub(crate) const READING: &str = r#"// ---- an earlier keying, gone through
 
 // What the clerk keyed in an earlier round of the batch that is open, or nothing.

@@ -1,6 +1,6 @@
-//! Part of the script: the requests to the office, and what its responses mean.
+//! Part of the script: the requests to the office, and the meaning of its responses.
 
-/// Declares the requests. A keying is sent under an id of its own, and repeated unchanged until the office has replied.
+/// Declares the requests. A keying is sent under its own id, and repeated unchanged until the office has replied.
 pub(crate) const REQUESTS: &str = r#"// ---- what the office is asked
 
 const PATIENCE = 120;

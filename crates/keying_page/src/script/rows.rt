@@ -1,6 +1,6 @@
 //! Part of the script: the rows in which papers are shown.
 
-/// Declares how papers are drawn: a row each, with the current one always at the same height. No markup is made of a name.
+/// Declares how papers are drawn: one row each, with the current one always at the same height. Names are never treated as markup.
 pub(crate) const ROWS: &str = r#"// ---- how papers are shown
 
 const ABOVE = 3, BELOW = 2;

@@ -1,4 +1,4 @@
-//! Part of the script: what every part uses: elements, names, and text that fits.
+//! Part of the script: what every part uses, such as elements, names, and fitting text to its space.
 
 /// Declares what every other part uses.
 pub(crate) const BASICS: &str = r#"'use strict';

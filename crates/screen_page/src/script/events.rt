@@ -1,6 +1,6 @@
-//! Part of the script: what keys and time do.
+//! Part of the script: what happens on key presses and as time passes.
 
-/// Connects keys and time with what the other parts declare, and starts the page.
+/// Connects keys and timers with the declarations of the other parts, and starts the page.
 pub(crate) const EVENTS: &str = r#"// ---- events: only this part runs anything when it is loaded
 
 const toggleHold = () => {

@@ -1,4 +1,4 @@
-//! Part of the script: what stage sheets and declarations say.
+//! Part of the script: the contents of stage sheets and declarations.
 
 /// Declares the parsers of a stage sheet and of a declaration.
 pub(crate) const SHEETS: &str = r#"// ---- stage sheets and declarations

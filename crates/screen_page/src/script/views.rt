@@ -1,6 +1,6 @@
-//! Part of the script: what is shown beside the chart: the list of wards, a ward before its first stage, and who is elected.
+//! Part of the script: what is shown besides the chart: the list of wards, a ward before its first stage, and the elected candidates.
 
-/// Declares how everything but the chart is drawn.
+/// Declares how everything except the chart is drawn.
 pub(crate) const VIEWS: &str =
     r#"// ---- the list of wards, a ward before its first stage, and the declaration
 

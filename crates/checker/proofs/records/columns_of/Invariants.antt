@@ -1,4 +1,4 @@
--- The invariant of the loop in `columns_of`: the numbers so far.
+-- The invariant of the loop in `columns_of`: the set contains the numbers so far.
 use Rattle.std.proofs.Common.{◌≡◌}
 use Rattle.std.specs.List.{range_with_len}
 use Rattle.checker.proofs.records.columns_of.Given as goal

@@ -1,4 +1,4 @@
--- The invariant of the loop in `names_in`: the names so far, with the remaining fields, determine all names.
+-- The invariant of the loop in `names_in`: the names so far and the remaining fields determine all names.
 use Rattle.std.proofs.Common.{◌≡◌, ◌≤◌, [], drop, length, map}
 use Rattle.std.specs.Prelude.{string_bytes}
 use Rattle.paper.specs.Columns.{max_candidates}

@@ -1,4 +1,4 @@
--- The invariant of the loop in `ranks_in`: the number of ranks so far and the remaining fields determine the number of all.
+-- The invariant of the loop in `ranks_in`: the number of ranks so far and the remaining fields determine the total.
 use Rattle.std.proofs.Common.{◌≡◌, ◌≤◌, drop, map}
 use Rattle.paper.specs.Columns.{max_candidates}
 use Rattle.checker.specs.RecordsHeader.{ranks_from}
