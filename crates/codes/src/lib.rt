@@ -8,9 +8,9 @@
 //! returns the text of a new file, made from random bytes ([`RandomSource`]), and [`make_with_office`] one that includes a code for
 //! the office.
 //!
-//! `specs/Codes.antt` defines the credentials of a clerk and of the office, `specs/Files.antt` the contents of a file of codes,
-//! `specs/RateLimits.antt` the limit on wrong codes, `specs/Making.antt` the text of a new file, and `specs/Drawing.antt` the bytes
-//! that it is made from. Nothing guarantees that the system's bytes are random.
+//! `specs/Codes.antt` defines the credentials of a clerk and of the office, `specs/Files.antt` the contents of a file of codes, and
+//! `specs/RateLimits.antt` the limit on wrong codes. `specs/Making.antt` defines the text of a new file, and `specs/Drawing.antt`
+//! the bytes that it is made from. Nothing guarantees that the system's bytes are random.
 //!
 //! ```text
 //! let codes = Codes::read(alloc, text)?;

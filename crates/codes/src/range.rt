@@ -40,8 +40,8 @@ impl ClerkRange {
         (self.last as usize + 1).saturating_sub(self.first as usize)
     }
 
-    /// Returns the range of clerks that a text such as `1-40` names, where no number may exceed 999. Returns None if the text names
-    /// no range.
+    /// Returns the range of clerks that a text such as `1-40` names; no number may exceed 999. Returns None if the text names no
+    /// range.
     pub fn parse(text: &str) -> Option<ClerkRange>
         ensures is { option_map clerks_entry result ≡ clerks_in text.now }
         ensures bound { IfSome result (λ clerks. clerks.last ≤ 999) }

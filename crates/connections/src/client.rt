@@ -38,8 +38,8 @@ pub struct PendingResponse {
 }
 
 /// An open connection: its listener, its stream, its number in the order of acceptance, and when its current time limit began,
-/// in milliseconds; then the bytes received, the response once there is one, and how many bytes of the request are still to
-/// come after the response. Those are read and discarded.
+/// in milliseconds. It keeps the bytes received, the response once there is one, and how many bytes of the request are still
+/// to come after the response. Those are read and discarded.
 #[derive(Drop)]
 pub struct Client<L> {
     pub listener: Listener,

@@ -1,4 +1,4 @@
-//! The file of a copy, created where nothing exists yet, and removed again if no copy results.
+//! The file of a copy. It is created only if nothing has its name yet, and removed again if no copy results.
 
 use crate::file_lock::FileLock;
 use crate::path_state::{LOG_ENDINGS, MIN_OFFICE, RIGHTS, is_no_file, length_at};

@@ -27,7 +27,7 @@ const PAUSES: u32 = 1000;
 /// The duration of a pause, in milliseconds.
 const PAUSE: u64 = 10;
 
-/// After this many pauses, a person at a terminal is told what the order is waiting for.
+/// After this many pauses, the program tells a person at a terminal what the order is waiting for.
 const PAUSES_UNSEEN: u32 = 50;
 
 /// An order, its words starting with DB, and the path of its database.

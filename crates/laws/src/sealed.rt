@@ -7,8 +7,8 @@ ghost use Rattle.laws.specs.Sealed.{PhaseStays, SealedPapersStay, SealedWardsSta
 use register::Phase;
 
 /// The law of sealed papers, for lists of requests. Once a ward is sealed, no request changes its seats, its candidates or
-/// its papers: not the keyings of the current round, not the verdicts, not the preferences of a valid paper, and not the
-/// number of papers rejected with each code. The ward is never keyed again. Stages can only be added to those counted, and
+/// its papers. The keyings of the current round stay as they are, and so do the verdicts, the preferences of each valid paper
+/// and the number of papers rejected with each code. The ward is never keyed again. Stages can only be added to those counted, and
 /// lots to those drawn. After a ward is declared, nothing about its election changes.
 ///
 /// To a candidate, this means: the count depends only on what the tellers had keyed and the returning officer had judged

@@ -115,7 +115,7 @@ fn standing() -> Standing {
 /// The preferences in which the next available one is searched for.
 const PREFS: &[u8] = &[1, 3, 4, 5, 2];
 
-/// Where the search in those preferences starts, and the next available one; 0 if there is none.
+/// The place at which the search in those preferences starts, and the next available one; 0 if there is none.
 const NEXT: [(usize, u8); 5] = [(0, 4), (2, 4), (3, 2), (5, 0), (9, 0)];
 
 /// The status of some candidates.

@@ -50,8 +50,8 @@ frame_bytes (said_err bytes) = 3 ∷ string bytes
 abbrev pub frames_bytes : List Frame → List ℕ
 frames_bytes frames = flat_map frame_bytes frames
 
--- What the next byte is: the kind of a frame; or a byte of its length, given the number that the earlier bytes encode and how many more are expected; or one of the
--- frame's own bytes, given how many more are expected.
+-- What the next byte is: the kind of a frame, a byte of its length, or one of the frame's own bytes. Of a length it states the number that the earlier bytes encode,
+-- and how many more are expected. Of a frame's own bytes it states how many more are expected.
 pub data DecoderState : Type 0 where
   at_kind : DecoderState
   in_length : ℕ → ℕ → ℕ → DecoderState

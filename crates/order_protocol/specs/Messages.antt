@@ -10,8 +10,8 @@ pub record MessagePartEntry : Type 0 where
   pub name : List ℕ
   pub bytes : Option (List ℕ)
 
--- An order as it is sent to the server. It contains the version of the program that sends it; the device and inode numbers of the file that it is for; the words
--- that were typed, and the folder in which they were typed; and the files that it names.
+-- An order as it is sent to the server. It contains the version of the program that sends it, and the device and inode numbers of the file that it is for. Then come
+-- the words that were typed, the folder in which they were typed, and the files that it names.
 pub record OrderMessageEntry : Type 0 where
   pub version : List ℕ
   pub device : ℕ

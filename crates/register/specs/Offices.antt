@@ -131,7 +131,7 @@ changed compared change xs = map (λ x. if is_eq (compared x) then change x else
 
 -- ---- the state
 
--- The state of an office, as maps. Wards are keyed by number; candidates by ward and number; batches by number; third clerks by batch; keyed papers by
+-- The state of an office, as maps. Wards and batches are keyed by number, candidates by ward and number, and third clerks by batch. Keyed papers are keyed by
 -- batch, round, clerk and number; judged papers by batch and number; lots by ward and stage; and receipts by actor and id.
 pub record OfficeState : Type 0 where
   pub wards : List WardEntry

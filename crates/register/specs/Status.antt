@@ -11,8 +11,8 @@ use Rattle.register.specs.Marks.{columns_of}
 use Rattle.register.specs.Agreement.{is_keyed, is_its_clerk, batches_of, taken_of, differing_of, open_among}
 use Rattle.register.specs.CommandInputs.{is_in_phase}
 
--- The status of a ward: its number and phase; its numbers of candidates and batches; how many of the batches are taken, and how many differ; how many
--- doubtful papers of the taken batches have no verdict yet; and how many stages of the count are done.
+-- The status of a ward: its number and phase, its numbers of candidates and batches, and how many of the batches are taken, and how many differ. It also has
+-- how many doubtful papers of the taken batches have no verdict yet, and how many stages of the count are done.
 pub record StatusEntry : Type 0 where
   pub ward : ℕ
   pub phase : Phase

@@ -19,8 +19,8 @@ use crate::view::CommandInput;
 use crate::wards::is_in_phase;
 use std::alloc::{AllocError, Global};
 
-/// A batch of ballot papers: its number (1 to 9999, unique across all wards), its ward (1 to 99), its number of papers (1 to
-/// 500), the two clerks (1 to 999) assigned to key it, and its current round (1 to 99).
+/// A batch of ballot papers. Its number (1 to 9999) is unique across all wards. It has its ward (1 to 99), its number of papers
+/// (1 to 500), the two clerks (1 to 999) assigned to key it, and its current round (1 to 99).
 #[derive(PartialEq, Drop)]
 pub struct Batch {
     pub number: u32,

@@ -21,9 +21,9 @@ use paper::{Columns, Prefs};
 use std::alloc::{AllocError, Global};
 use votes::{MAX_PAPERS, Votes};
 
-/// A bundle of equal ballot papers of a ward, with its place after the stages done: the preferences, one candidate's number (1 to
-/// 30) per byte; the number of papers, at least 1; their holder, as a candidate's number, or 0 for none; and the value of each
-/// paper, in units.
+/// A bundle of equal ballot papers of a ward, with its place after the stages done. It has the preferences, one candidate's
+/// number (1 to 30) per byte, and the number of papers, at least 1. The holder is a candidate's number, or 0 for none. The value
+/// of each paper is in units.
 #[derive(PartialEq, Eq, Drop)]
 pub struct PlacedBundle {
     pub ward: u32,

@@ -9,14 +9,14 @@
 //! compares the rows of bundles and figures with that tabulation, one by one: they must be the tabulation of the state
 //! (`IsTabulationOf`, in `specs/Tabulated.antt`). No list is searched once per row of another list. Lists in key order are
 //! walked side by side, or the rows with a key, which are adjacent, are found by bisection (`key_ranges`, `finding`). There are
-//! two exceptions: all batches are scanned once per ward in count, of which there are at most 99; and the papers of a batch, of
+//! two exceptions. All batches are scanned once per ward in count, of which there are at most 99. The papers of a batch, of
 //! which there are at most 500, are scanned once per verdict on one of them.
 //!
 //! The conditions also have numbers, which documents use to refer to them: `item1` to `item8`. Each returns a `bool`; that of
 //! `item7` and `item8` is in a `Result`.
 //!
-//! `are_same` compares the rows of two offices, and `finding` returns the rows with a key to callers that iterate over an
-//! office.
+//! `are_same` compares the rows of two offices, and `finding` returns the rows with a key to callers that iterate over the
+//! rows of an office.
 #![tactic(auto)]
 
 // Rows.

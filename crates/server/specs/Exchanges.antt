@@ -26,7 +26,7 @@ use Rattle.server.specs.Reads.{AreReadAt, ServedOffice, limit_after, must_wait}
 use Rattle.server.specs.Settings.{ServerSettingsEntry}
 
 -- A request of a client or an order, and its response: the listener on which its connection came in, the connection's number, and the time at which it was processed,
--- in milliseconds of a clock; then the bytes received, and the response.
+-- in milliseconds of a clock. Then come the bytes received, and the response.
 pub record Exchange : Type 0 where
   pub listener : Listener
   pub number : ℕ

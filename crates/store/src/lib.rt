@@ -3,7 +3,7 @@
 //! `Store` holds a connection between two transactions. `create` makes the tables of an empty office, and `open_from`
 //! finds the state that the rows of a database represent. `commit` stores a change in one transaction, entirely or not
 //! at all. `load_view` reads the part of the state that one request needs. `load_status`, `load_next` and
-//! `load_columns` read the status of a ward, its next step, and the columns of a batch's papers; `load_work` reads the
+//! `load_columns` read the status of a ward, its next step, and the columns of a batch's papers. `load_work` reads the
 //! batches that a clerk keys, and `load_earlier_keying` reads the papers of a batch that the clerk keyed in an earlier
 //! round. `load_sheet` and `load_counted` read the data from which a ward's sheet and declaration are written, and
 //! `load_book` reads the ward's stored count. `load_wards`, `load_batches`, `load_doubtful`, `load_batch_papers`,

@@ -131,7 +131,7 @@ impl<S: Alter> Store<S> {
     /// Opens the office in the connection's database, and changes nothing.
     ///
     /// Returns `WrongDatabase` if there is no office table or no row in it; `OlderSchema` if an earlier program made
-    /// the office, and `NewerSchema` if a later one did; `Damaged` if the rows are not the tables of any state; and
+    /// the office, and `NewerSchema` if a later one did. Returns `Damaged` if the rows are not the tables of any state, and
     /// `Store` if the store failed, if rowids aren't distinct integers, or if the connection is inside a transaction.
     /// The connection is returned with the fault, its database unchanged.
     pub fn open_from(alloc: Global, mut conn: Connection<S>) -> Result<Self, (Fault, Connection<S>)>

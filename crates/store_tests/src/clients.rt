@@ -15,9 +15,9 @@ use std::time::{Clock, Duration};
 use std::{fmt, io};
 use streams::Broken;
 
-/// A client, or an order: what it sends, and whether it closes its side afterwards; the most bytes that are available at a time,
-/// and the most that it accepts at a time; the number of bytes after which reading fails, and the number after which writing
-/// fails.
+/// A client, or an order: what it sends, and whether it closes its side afterwards. Then the most bytes that are available at a
+/// time, and the most that it accepts at a time. Last, the number of bytes after which reading fails, and the number after which
+/// writing fails.
 #[derive(Clone, Copy, Debug)]
 pub struct TestClient<'a> {
     pub is_order: bool,

@@ -41,8 +41,8 @@ abbrev pub show_entry : FixedPage → ShowEntry
 show_entry (Page its) = page (page_entry its)
 show_entry SignedOut = has_left
 
--- What a request asks the server to do: nothing, because the request is rejected; to show something to a clerk, to the office or in public; to record a clerk's keying
--- of a batch; to read; or to carry out an order from the office.
+-- What a request asks the server to do. It is nothing if the request is rejected. Otherwise it is to show something to a clerk, to the office or in public, to record
+-- a clerk's keying of a batch, to read, or to carry out an order from the office.
 pub data HttpRequestEntry : Type 0 where
   denied : RequestError → HttpRequestEntry
   shown : ℕ → ShowEntry → HttpRequestEntry

@@ -11,8 +11,8 @@ use Rattle.wire.specs.declared.request_error.Verb.{Verb}
 use Rattle.wire.specs.declared.response.Content.{Content}
 use Rattle.wire.specs.declared.response.Content.TheVariants.{Html, Json, Text}
 
--- What the additional header lines of a response say: nothing; the method that is served; that an account's code is required; that the client must wait a minute; what
--- a page may do in a browser, by its policy; or that the browser should forget a code.
+-- What the additional header lines of a response say, if anything: the method that is served, that an account's code is required, or that the client must wait a
+-- minute. Or they say what a page may do in a browser (its policy), or that the browser should forget a code.
 pub data More : Type 0 where
   nothing : More
   allows : Verb → More

@@ -278,9 +278,9 @@ fn read_from_head<'a, R: Source>(
 /// response. Some of the bytes that follow the request may have been read.
 ///
 /// What is requested depends only on the target, which names exactly what it is the path of. That path is one of the eight
-/// routes of this crate, with numbers of 1 to 5 digits without leading zeros; or `/office/`, `/office/leave`, `/office/orders`
-/// or the path of a read of the console; or `/`, `/screen`, `/screen/wards` or the path of a ward's page. Any other target
-/// names nothing.
+/// routes of this crate, with numbers of 1 to 5 digits without leading zeros. Or it is `/office/`, `/office/leave`,
+/// `/office/orders` or the path of a read of the console; or `/`, `/screen`, `/screen/wards` or the path of a ward's page. Any
+/// other target names nothing.
 pub fn read_request<'a, R: Source>(
     alloc: Global,
     settings: HttpSettings<'a>,

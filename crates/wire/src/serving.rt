@@ -116,8 +116,8 @@ pub fn respond<W: Sink, S: Alter>(
 /// `Answered`: the response to the request in the reader's bytes was written completely, the office is at the state after the
 /// request, and neither the reader nor the writer failed. After a fault of the office, the response is that fault (503). The
 /// office is then as it was; or it is closed, and a stop leaves the state before the request or, if the request was accepted,
-/// the state after it. The response is 101 (503) if an allocation failed: either for the request, which then wasn't sent to the
-/// office; or for the response, and then the office is at the state after the request; or in the office, as with any fault.
+/// the state after it. The response is 101 (503) if an allocation failed. If that was for the request, it wasn't sent to the office;
+/// if it was for the response, the office is at the state after the request. In the office it is as with any fault.
 ///
 /// `ReadFailed` is returned only if the reader failed while what was read didn't yet determine what is requested; the reader's
 /// failure count is then one higher. There is no response to a failed read: nothing was written, and the office is as it was.

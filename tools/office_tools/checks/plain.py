@@ -27,7 +27,7 @@ IDIOMS = {
     r"lets? go|leaves? the room|has (?:his|its|their) turn": "is closed, is processed",
     r"wanting|want of": "missing, out of memory",
     r"(?-i:Where)(?= [^.|\n]{3,90}, )|(?<!path\s)where (?:no|nothing|memory|there)": "if, when",
-    r"behind(?! (?:nginx|(?:a|the) proxy))": "after, follows",
+    r"(?<!leave\s)(?<!leave\s\s)(?<!left\s)(?<!left\s\s)behind(?! (?:nginx|(?:a|the) proxy))": "after, follows",
     r"(?:text|file|row|line|name|word|number|page|it|that|which)s? (?:stands?|stood|lies?|lay)": "is, appears, is stored",
     r"(?:comes?|came) (?:to (?:nothing|the same|this|that)|of (?:it|this|that))|what (?:comes|came) (?:of|to)": "results in",
     r"(?:go|goes|going|went) on(?! to)": "continues, resumes",

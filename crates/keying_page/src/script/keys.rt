@@ -60,7 +60,7 @@ const goToCandidate = (number) => {
   row().column = column;
 };
 
-// A digit of a candidate's number. Where another one may follow, Enter ends it.
+// A digit of a candidate's number. If another one may follow, Enter ends it.
 const jump = (digits) => {
   if (digits.length === 2 || Number(digits) * 10 > draft.columns.at(-1)) return goToCandidate(Number(digits));
   pending.digits = digits;

@@ -81,7 +81,7 @@ const isKeyed = (says, {batch, round, size, columns}) =>
   says?.batch === batch && Number.isInteger(says.round) && says.round < round && Array.isArray(says.papers)
   && says.papers.length === size && says.papers.every((text) => isMarksText(text, columns));
 
-// What this clerk keyed of a batch in the latest earlier round that he keyed; nothing, if there is none; or why it can't be had.
+// What this clerk keyed of a batch, in the clerk's latest earlier round; nothing, if there is none; or why it can't be had.
 const askKeyed = async (work) => {
   const answer = work.round === 1 ? null : await ask(`batches/${work.batch}/keyed`);
   if (work.round === 1 || answer?.status === 404) return {};

@@ -11,7 +11,7 @@ const LISTED = 24, EARLY_WARDS = 8;
 
 // What is shown: a page of the list of wards (ward 0), or a part of a ward. A part is a stage, by its number; the part after the last stage
 // is the declaration; and 0 is all that there is before the first stage. `left` is for how many seconds more. `hold` is empty; or `ward`:
-// the ward stays; or `part`: the part stays too. `turn` is the place to go on from: a ward with something new comes out of its turn.
+// the ward stays; or `part`: the part stays too. `turn` is the place to continue from: a ward with something new comes out of its turn.
 const shown = {ward: 0, part: 0, left: 0, pace: NEW, hold: '', isNews: false, turn: {ward: 0, part: -1}};
 // The last part of each ward that was shown.
 const seen = new Map();
@@ -96,7 +96,7 @@ const stepBy = (by) => {
   showPart(Math.max(firstPart(shown.ward), Math.min(lastPart(shown.ward), shown.part + by)));
 };
 
-// Goes on by itself: to the next part, or to the next turn.
+// Continues by itself: to the next part, or to the next turn.
 const goOn = () => {
   if (shown.hold === 'part') shown.left = LONG;
   else if (shown.ward && shown.part < lastPart(shown.ward)) showPart(shown.part + 1);
