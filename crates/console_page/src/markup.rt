@@ -115,7 +115,7 @@ for example <b>paper 12/4</b> for batch 12 and teller 4.</p>
 </main>
 
 <footer><p><button id="sign-out" type="button">Sign out</button>
-<span id="keys-hint">Keyboard: <kbd>1</kbd> to <kbd>6</kbd> open the sections, <kbd>Tab</kbd> and <kbd>Enter</kbd> select, <kbd>Esc</kbd> leaves a field, then returns to the overview.</span></p></footer>
+<span id="keys-hint">Keyboard: <kbd>1</kbd> to <kbd>6</kbd> open the sections, <kbd>Tab</kbd> and <kbd>Enter</kbd> select, <kbd>Enter</kbd> in a field moves to the next, <kbd>Esc</kbd> leaves a field, then returns to the overview.</span></p></footer>
 <dialog id="ask" aria-labelledby="ask-title"><h2 id="ask-title" tabindex="-1"></h2><div id="ask-text"></div>
 <p class="acts"><button id="ask-no" type="button">Cancel (Esc)</button> <button id="ask-yes" type="button" class="main"></button></p></dialog>
 <div id="paper"></div>

@@ -74,7 +74,7 @@ const leaveOpen = (order) => {
 
 // Returns why an order isn't confirmed, and after how many seconds to send it again, or 0 to wait for the officer.
 const whyUnsent = (order, answer, turn) => {
-  if (isOther()) return ['This may not be the office that the order was meant for. Confirm above that it is the right one.', 0];
+  if (isOther()) return ['This may not be the office that the order was meant for. If you confirm above that it is the right one, this order is discarded.', 0];
   if (isDone(answer)) {
     leaveOpen(order);
     const {line, todo} = explainedError(answer.says.errors);
