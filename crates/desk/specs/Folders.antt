@@ -4,7 +4,7 @@ use Rattle.clap.specs.Words.{Text}
 use Rattle.keyfile.specs.Digests.{IsReadAs}
 use Rattle.keyfile.specs.Reading.{Known}
 
--- a file that is named: None if it can't be opened, otherwise its bytes, as far as they are known
+-- a named file: None if it can't be opened, otherwise its bytes, as far as they are known
 abbrev pub File : Type 0
 File = Option (Option (List ℕ))
 

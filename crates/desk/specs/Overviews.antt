@@ -82,12 +82,12 @@ parting number = if number == 1 then [] else codes ", "
 unfoldable pub preference_words : ℕ → Text → Text
 preference_words number name = parting number ++ (decimal number ++ (codes " " ++ name))
 
--- preferences starting with a number, with the candidates' names: `1 Ann, 2 Cy`
+-- preferences starting with the given number, with the candidates' names: `1 Ann, 2 Cy`
 abbrev pub preferences_from : List Text → ℕ → List ℕ → Text
 preferences_from names number [] = []
 preferences_from names number (c ∷ cs) = preference_words number (name_in names c) ++ preferences_from names (number + 1) cs
 
--- the reason why a paper is rejected, by its code
+-- the reason why a paper is rejected, given its code
 abbrev pub rejection_words : ℕ → Text
 rejection_words code =
     if code == 1 then codes "no first preference" else (

@@ -27,7 +27,7 @@ AreAsExpected (Err why) papers = ⊥
 abbrev pub IsSealSent : OfficeState → ExpectedSeal → List Request → Type 0
 IsSealSent s e requests = AreAsExpected (batches_answer s e.ward) e.papers × (map sent_as requests ≡ seal_request e ∷ [])
 
--- why the seal isn't sent: more or fewer papers were given out than expected; or the batches of the ward can't be shown, for this reason
+-- why the seal isn't sent: more or fewer papers were given out than expected; or the batches of the ward can't be shown, for the given reason
 abbrev pub IsUnsealed : Result (List BatchView) Reason → ℕ → Page → Type 0
 IsUnsealed (Ok views) papers page = (given_out views ≢ papers) × (page ≡ unsealed (given_out views) papers)
 IsUnsealed (Err why) papers page = page ≡ refused why

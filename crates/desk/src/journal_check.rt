@@ -24,15 +24,15 @@ use std::alloc::{AllocError, Global};
 use store::Fault;
 use streams::Sink;
 
-/// The text of a journal that hasn't been checked yet, and the requests that it parses to, or None if it doesn't parse to requests
-/// only.
+/// The text of a journal that hasn't been checked yet, and the requests that it parses to; None if it contains anything other
+/// than requests.
 #[derive(Drop)]
 struct Draft {
     text: String,
     requests: Option<Vec<Request>>,
 }
 
-/// Returns the requests that these steps send; None if a step does anything other than send a given request.
+/// Returns the requests that the given steps send; None if a step does anything other than send a given request.
 fn requests_of(
     alloc: Global,
     turns: Vec<ScriptStep<'_>>,
@@ -134,7 +134,7 @@ fn journalled_open<S: Alter, T: Alter>(
 
 /// Prints the journal of an open office, which stays open, and returns the status. The other connection isn't closed.
 ///
-/// The journal is checked and printed in the same way as by `journal_office`, except that the office is already open. The office is
+/// The journal is checked and printed the same way as in `journal_office`, except that the office is already open. The office is
 /// only read. A closed office is reported as such.
 pub fn journal_open<S: Alter, T: Alter, O: Sink, E: Sink>(
     alloc: Global,
@@ -160,8 +160,8 @@ pub fn journal_open<S: Alter, T: Alter, O: Sink, E: Sink>(
 ///
 /// The journal is a script that `replay` accepts: each line is an order that was accepted. It needs no other file. Before it is
 /// printed, it is parsed as a script and replayed in an empty office, which is created in the database on the other connection.
-/// With status 0, every line was accepted there, and together they produced exactly the state of this office, including every
-/// receipt. The office itself is only read.
+/// If the status is 0, every line was accepted there, and together they produced exactly the state of this office, including
+/// every receipt. The office itself is only read.
 ///
 /// If the text doesn't reproduce exactly this office, this is reported with status 1. That happens if the receipts and the other
 /// tables don't match; nothing guarantees that it never happens otherwise. If the database contains no office, or a newer, older or

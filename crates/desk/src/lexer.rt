@@ -70,7 +70,7 @@ impl Lexer {
         Ok(())
     }
 
-    /// Processes a byte outside quotes that isn't whitespace.
+    /// Processes a byte that is outside quotes and isn't whitespace.
     fn cut_open(&mut self, byte: u8) -> Result<(), AllocError>
         ensures { OnOk result (lexer_entry self.new ≡ cut_open (lexer_entry self.old) byte) }
     {

@@ -144,7 +144,7 @@ fn run_steps<S: Alter, F: Folder, O: Sink, E: Sink>(
     ends
 }
 
-/// Sends the orders in the lines of a script once every line has been understood. If a line isn't understood, prints what is wrong
+/// Sends the orders in a script's lines once every line has been understood. If a line isn't understood, prints what is wrong
 /// with the first such line and sends nothing.
 fn run_script<S: Alter, F: Folder, O: Sink, E: Sink>(
     alloc: Global,

@@ -21,7 +21,7 @@ pub struct KeyingFile<'a> {
     pub digest: Option<FileDigest>,
 }
 
-/// The seal of a ward, provided that this many papers were given out to the ward's batches.
+/// The seal of a ward, provided that the expected number of papers was given out to the ward's batches.
 #[derive(Clone, Copy, Debug)]
 pub struct ExpectedSeal<'a> {
     pub ward: u32,
@@ -49,7 +49,7 @@ pub enum Question {
 /// A task in an existing office. Numbers are kept as given, whether or not they are in range.
 #[derive(Debug, Drop)]
 pub enum Errand<'a> {
-    /// Send this request, either one of the office's own or a clerk's keying.
+    /// Send this request, which is either the office's or a clerk's keying.
     Send(Request),
     /// Add the candidates in a file. The id of each request is this id, a hyphen, and the record number. If a digest is given, the
     /// file must have it.
@@ -65,7 +65,7 @@ pub enum Errand<'a> {
         id: &'a str,
         digest: Option<FileDigest>,
     },
-    /// Store a clerk's keying of a batch.
+    /// Store a clerk's keying of a batch, read from a file.
     ImportKeying(KeyingFile<'a>),
     /// Seal a ward if the expected number of papers was given out.
     SealExpected(ExpectedSeal<'a>),
@@ -158,7 +158,7 @@ impl<'a> Task<'a> {
     }
 }
 
-/// What the program is to do.
+/// What the program is asked to do.
 #[derive(Debug, Drop)]
 pub enum Order<'a> {
     /// Perform this task on the office's database.
@@ -175,9 +175,9 @@ pub enum Order<'a> {
         clerks: &'a str,
         with_office: bool,
     },
-    /// Serve connections on a port of this machine. If an origin is given, its pages are also served through a proxy. Serving ends
-    /// after this many connections, or never if no number is given. Clerks need codes if the path of a file of codes is given. If a
-    /// title is given, the count is shown in public with that title.
+    /// Serve connections on a port on this machine. If an origin is given, its pages are also served through a proxy. Serving
+    /// ends after this many connections, or continues forever if no number is given. Clerks need codes if the path of a file of
+    /// codes is given. If a title is given, the count is shown in public with that title.
     Serve {
         port: u32,
         connections: Option<u32>,

@@ -1,5 +1,5 @@
 //! Overviews, one line each, for wards, the batches of a ward, the differences in a batch, receipts and papers. The lines for
-//! papers are made in [`papers`](crate::papers).
+//! papers are built in [`papers`](crate::papers).
 
 ghost use Rattle.std.specs.Prelude.{◌≡◌, ◌⊎◌, ◌++◌, map, IfOk, IfErr, string_bytes};
 ghost use Rattle.std.specs.List.{flat_map};
@@ -29,15 +29,15 @@ use store::{BatchOverview, BatchStanding, ClerkOverview, Differences, Fault, War
 trait Lined {
     ghost use Rattle.clap.specs.Words.{Text};
 
-    /// The line, without its end.
+    /// The line, without its newline.
     ghost text: { Self → Text };
 
-    /// Returns the line, without its end.
+    /// Returns the line, without its newline.
     fn line(&self, alloc: Global) -> Result<String, AllocError>
         ensures { IfOk result (λ told. string_bytes told ≡ text self.now) };
 }
 
-/// Appends one more number to a list: `, 3`.
+/// Appends another number to a list: `, 3`.
 fn put_behind(alloc: Global, text: &mut String, number: u32) -> Result<(), AllocError>
     ensures { IfOk result (λ _. string_bytes text.new ≡ string_bytes text.old ++ behind number) }
 {
@@ -105,7 +105,7 @@ fn open_words(alloc: Global, overview: &WardOverview) -> Result<String, AllocErr
 }
 
 #[tactic(auto, unfolding(crate::specs::Overviews::elected_words))]
-/// Returns who is elected to these seats, once the result is declared, and how many seats stay empty.
+/// Returns who is elected to the given seats, once the result is declared, and how many seats stay empty.
 fn elected_words(alloc: Global, seats: u32, elected: &Option<Columns>) -> Result<String, AllocError>
     ensures { IfOk result (λ text. string_bytes text ≡ elected_words seats elected.now) }
 {

@@ -51,7 +51,7 @@ fn preferences(
     Ok(text)
 }
 
-/// Returns the reason why a paper is rejected, by its code.
+/// Returns the reason why a paper is rejected, given its code.
 fn rejection_words(code: u32) -> &'static str
     ensures { result.now ≡ rejection_words code }
 {
@@ -149,7 +149,7 @@ pub(crate) fn paper_lines(alloc: Global, found: &CountedPapers) -> Result<String
 // ---- doubtful papers
 
 #[tactic(auto, unfolding(crate::specs::Overviews::verdict_words))]
-/// Returns the verdict on a paper that counts like this. If the paper is accepted with marks, the verdict includes how it counts.
+/// Returns the verdict on a paper, given how it counts. If the paper is accepted with marks, the verdict includes how it counts.
 fn verdict_words(
     alloc: Global,
     names: &NamesByNumber,

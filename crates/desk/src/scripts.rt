@@ -79,7 +79,7 @@ pub(crate) struct TypedLine<'a> {
     words: Result<Vec<&'a str>, Garbled>,
 }
 
-/// An errand to run, and its line number if it comes from a script.
+/// An errand to run, and its line number if it is from a script.
 #[derive(Drop)]
 pub(crate) struct ScriptStep<'a> {
     pub(crate) line: Option<usize>,

@@ -19,7 +19,7 @@ use sqlite::Alter;
 use std::alloc::{AllocError, Global};
 use store::{BatchOverview, Fault};
 
-/// Returns how many papers were given out in these batches. Their sizes always add up to less than 2^128.
+/// Returns how many papers were given out in the given batches. Their sizes always add up to less than 2^128.
 fn given_out(batches: &[BatchOverview]) -> u128
     ensures { result ≡ given_out (map batch_view batches.now) }
 {

@@ -38,7 +38,7 @@ fn named(alloc: Global, candidates: &[Candidate], number: u8) -> Result<String, 
     }
 }
 
-/// Appends one more candidate to a list: `, 3 Cy`.
+/// Appends another candidate to a list: `, 3 Cy`.
 fn put_named(
     alloc: Global,
     text: &mut String,
@@ -74,7 +74,7 @@ fn all_named(
 // ---- what is due in a count
 
 #[tactic(auto, unfolding(crate::specs::Steps::action_words))]
-/// Returns what a stage does, and which candidate it concerns.
+/// Returns what a stage does, and which candidate it affects.
 fn action_words(
     alloc: Global,
     candidates: &[Candidate],
@@ -147,8 +147,8 @@ fn nominations_words(alloc: Global, candidates: usize, seats: u32) -> Result<Str
 }
 
 #[tactic(auto, unfolding(crate::specs::Steps::seal_words))]
-/// Returns what the seal of a ward waits for. The seal is due once all batches are taken and all their doubtful papers have a
-/// verdict.
+/// Returns what the seal of a ward is waiting for. The seal is due once all batches are taken and all their doubtful papers have
+/// a verdict.
 fn seal_words(status: &Status) -> &'static str
     ensures { result.now ≡ seal_words (status_entry status.now) }
 {
@@ -200,7 +200,7 @@ fn step_words(alloc: Global, step: &NextStep) -> Result<String, AllocError>
 }
 
 #[tactic(auto, unfolding(crate::specs::Steps::step_text))]
-/// Returns the line that says what comes next in the election of a ward, without its line end.
+/// Returns the line that says what comes next in the election of a ward, without its newline.
 fn step_text(alloc: Global, ward: u32, step: &NextStep) -> Result<String, AllocError>
     ensures { IfOk result (λ text. string_bytes text ≡ step_text ward (step_entry step.now)) }
 {

@@ -57,7 +57,7 @@ fn count_words(alloc: Global, status: &Status) -> Result<String, AllocError>
 }
 
 #[tactic(auto, unfolding(crate::specs::WardStatus::status_text))]
-/// Returns the status line of a ward, without its line end.
+/// Returns the status line of a ward, without its newline.
 pub(crate) fn status_text(alloc: Global, status: &Status) -> Result<String, AllocError>
     ensures { IfOk result (λ text. string_bytes text ≡ status_text (status_entry status.now)) }
 {

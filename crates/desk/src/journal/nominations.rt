@@ -11,8 +11,8 @@ use register::ranges::LAST_CANDIDATE;
 use rowcheck::finding::candidates_of;
 use std::alloc::{AllocError, Global};
 
-/// Appends each addition of a candidate with this number, and the withdrawal that followed it, if any. No table contains the name
-/// of a withdrawn candidate, so a substitute is written.
+/// Appends each addition of a candidate with the given number, and the withdrawal that followed it, if any. No table contains the
+/// name of a withdrawn candidate, so a substitute is written.
 fn put_candidate(
     alloc: Global,
     text: &mut String,
