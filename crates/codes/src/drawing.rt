@@ -15,7 +15,7 @@ pub trait RandomSource {
     /// The number of draws that failed.
     ghost failed: { Self → ℕ };
 
-    /// Draws a byte. If this fails, no byte was drawn.
+    /// Draws a byte. If the draw fails, no byte is drawn.
     fn draw(&mut self) -> Result<u8, DrawFailed>
         requires { failed self.old < 2 ^ 64 - 1 }
         ensures drew { IfOk result (λ byte. drawn self.new ≡ append_known (drawn self.old) (byte ∷ [])) }

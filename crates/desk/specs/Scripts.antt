@@ -60,7 +60,7 @@ pub record LexerEntry : Type 0 where
   pub word : Text
   pub place : LexerState
 
--- the state after the context of the next byte changes
+-- the state in which the next byte has the given context
 abbrev pub moved_to : LexerState → LexerEntry → LexerEntry
 moved_to place c = record { words = c.words; word = c.word; place = place }
 

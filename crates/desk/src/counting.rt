@@ -62,7 +62,7 @@ fn first_id(requests: &[Request]) -> &str
 
 /// Counts stage by stage with the requests of an order, and prints each reply. The count ends after the first request that isn't
 /// accepted, now or earlier. If it has stopped at a lot or at its end, a line says so too, with status 0. Any other refusal is
-/// printed as usual, with status 1, and a fault with status 3. The count also ends when an output first fails, with status 3.
+/// printed as usual, with status 1, and a fault with status 3. An output that fails also ends the count, with status 3.
 /// Every stage whose reply was printed remains counted.
 pub(crate) fn count_stages<S: Alter, O: Sink, E: Sink>(
     office: &mut Office<S>,

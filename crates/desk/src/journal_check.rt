@@ -24,8 +24,8 @@ use std::alloc::{AllocError, Global};
 use store::Fault;
 use streams::Sink;
 
-/// The text of a journal that hasn't been checked yet, and the requests that it parses to; None if it contains anything other
-/// than requests.
+/// The text of a journal that hasn't been checked yet, and the requests that it parses to; None if it isn't a script of requests
+/// only.
 #[derive(Drop)]
 struct Draft {
     text: String,

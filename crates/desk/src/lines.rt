@@ -33,7 +33,7 @@ pub(crate) enum LineOutcome {
     Replied(Reply),
     /// The reply to a request that was accepted earlier under this id with different content. A note says so.
     Noted { reply: Reply, id: String },
-    /// A text to print verbatim, which already ends in a newline.
+    /// A text to print verbatim, in which every line ends with a newline.
     Printed(String),
     /// No seat is left to fill in a count.
     CountFinished,

@@ -74,7 +74,7 @@ fn all_named(
 // ---- what is due in a count
 
 #[tactic(auto, unfolding(crate::specs::Steps::action_words))]
-/// Returns what a stage does, and which candidate it affects.
+/// Returns what a stage does, and which candidate it concerns.
 fn action_words(
     alloc: Global,
     candidates: &[Candidate],

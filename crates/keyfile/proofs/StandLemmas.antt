@@ -81,7 +81,7 @@ module _ {Row : Type 0} (format : Format Row) where
         by_flaw OtherFile is ends = absurd ends
 
     module _ (b : Reader R) (fields : Record) (next : IsNext rem bytes st.records fields b) where
-      -- one more record was parsed into a row
+      -- another record was parsed into a row
       pub stands-more : (row : Row) → number ≤ format.most → read_as_text format number fields ≡ Ok row → StandsAt rem bytes format (number + 1) (rows ++ row ∷ []) b
       stands-more row few read =
           let some = some_record format st.records rows st.read in

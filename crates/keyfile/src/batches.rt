@@ -35,8 +35,8 @@ pub struct BatchRow {
 /// records as parsed by `csv`. The fault is the first flaw of the first faulty record, except that `ReadFailed` and `Memory` may be
 /// reported at any record up to that one.
 ///
-/// If a digest is given, the rows are read from bytes that have it. A file with other bytes is refused with `OtherFile`, whatever
-/// else is wrong with it.
+/// If a digest is given, the rows are read from bytes that have that digest. A file with other bytes is refused with `OtherFile`,
+/// whatever else is wrong with it.
 pub fn read_batches<R: Read + Drop>(
     alloc: Global,
     r: R,

@@ -38,7 +38,7 @@ columns_answer s batch = if is_batch_number batch then found_or NoSuchBatch (col
 abbrev pub work_answer : OfficeState → ℕ → Result (List WorkEntry) Reason
 work_answer s clerk = if is_clerk clerk then Ok (work_of s clerk) else Err NumberOutOfRange
 
--- the result of reading the papers of a batch, for one of its clerks; a batch that doesn't exist has no clerks
+-- the result when one of a batch's clerks reads its papers; a batch that doesn't exist has no clerks
 abbrev pub paper_answer : OfficeState → ℕ → ℕ → Result BallotPaperEntry Reason
 paper_answer s clerk batch = if is_clerk clerk && is_batch_number batch then found_or NotItsClerk (paper_at s clerk batch) else Err NumberOutOfRange
 
@@ -64,12 +64,12 @@ abbrev pub ReadFailsBy : State → State → ReadError → Type 0
 ReadFailsBy old new (Refused why) = ⊤
 ReadFailsBy old new (Failed f) = FailsBy old new f
 
--- any fault but a failed allocation closes the office
+-- any fault except a failed allocation closes the office
 abbrev pub ClosesAt : Bool → ReadError → Type 0
 ClosesAt closed (Refused why) = ⊤
 ClosesAt closed (Failed f) = (f ≡ Memory) ⊎ (closed ≡ true)
 
--- a refusal for this reason, or a failed allocation
+-- a refusal for the given reason, or a failed allocation
 abbrev pub FailsFor : Reason → ReadError → Type 0
 FailsFor reason (Refused why) = why ≡ reason
 FailsFor reason (Failed f) = f ≡ Memory

@@ -1,5 +1,5 @@
 //! Overviews for the office alone: the wards, the batches of a ward and their doubtful papers, the differences between
-//! the keyings of a batch, how each paper of a batch counts, and the receipts. No read changes the state.
+//! a batch's keyings, how each paper of a batch counts, and the receipts. No read changes the state.
 #![tactic(auto, using(crate::proofs::StopLemmas::stops_of_memory))]
 
 ghost use Rattle.std.specs.Prelude.{◌≡◌, true, map, IfErr, Err};
@@ -22,7 +22,8 @@ use store::{BatchOverview, CountedPapers, Differences, DoubtfulPapers, Fault, Wa
 /// The office itself as an actor.
 const OFFICE: u32 = 0;
 
-/// Returns true if this actor may have receipts, that is, if it is the office or a clerk. `None` stands for all actors.
+/// Returns true if the given actor may have receipts, that is, if it is the office or a clerk. `None` stands for all
+/// actors.
 fn may_have_receipts(actor: Option<u32>) -> bool
     ensures { result ≡ may_have_receipts actor }
 {

@@ -27,9 +27,9 @@ use sqlite::Alter;
 use std::alloc::{AllocError, Global};
 use store::Fault;
 
-/// Reads from the store if the office is open and the number is in range, and otherwise returns the reason why not.
-/// Returns what was found, or the value computed from it. If the store has nothing under this number, returns the given
-/// reason.
+/// Reads from the store if the office is open and the number is in range, and otherwise returns the reason why it
+/// can't. Returns what was found, or the value computed from it. If the store has nothing under this number, returns
+/// the given reason.
 macro_rules! read {
     ($office:ident, $is_in_range:expr => $load:ident($($number:ident)?)) => {{
         if let Some(stop) = $office.stop_before($is_in_range) {
@@ -161,8 +161,8 @@ impl<S: Alter> Office<S> {
 
     /// Returns the text of the ballot papers of a batch for one of its clerks: the ward, and the candidates in it.
     ///
-    /// The result depends only on what the clerk can see of the state. Refused if a number is out of range, or if the
-    /// clerk isn't one of the clerks of such a batch. Nothing is changed. After `Memory` the office stays open; any
+    /// The result depends only on what the clerk can see of the state. Refused if a number is out of range, there is no
+    /// such batch, or the clerk isn't one of its clerks. Nothing is changed. After `Memory` the office stays open; any
     /// other fault closes it. A closed office returns `Closed`.
     pub fn paper(&mut self, clerk: u32, batch: u32) -> Result<BallotPaper, ReadError>
         ensures reads { ReadWhenOpen (state S.Store) self.old self.new paper_entry (λ s. paper_answer s clerk batch) result }
@@ -176,7 +176,7 @@ impl<S: Alter> Office<S> {
     }
 
     /// Returns whether the stored content of a repeated request differs from the request. A receipt contains only the
-    /// id and the subject of its request, so such a request gets the same reply whatever else it contains.
+    /// id and the subject of its request, so a repeated request gets the same reply whatever else it contains.
     ///
     /// Never refused. Nothing is changed. After `Memory` the office stays open; any other fault closes it. A closed
     /// office returns `Closed`.
@@ -272,7 +272,7 @@ impl<S: Alter> Office<S> {
         self.told(written)
     }
 
-    /// Returns the declaration of a ward that was read, under the same conditions.
+    /// Returns the declaration of a ward that was read, under the same conditions as `read_text`.
     fn declaration_of(&mut self, counted: &CountedWard) -> Result<String, ReadError>
         ensures told { IfOk result (λ text. (is_printable_in WardText.Declaration counted.now.ward.phase ≡ true)
             × ((e : ElectionEntry) → IsCountedWard e counted.now → string_bytes text ≡ text_shown WardText.Declaration e)) }

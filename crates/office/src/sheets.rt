@@ -22,7 +22,7 @@ use sheet::{
 use std::alloc::{AllocError, Global};
 use store::elected_in;
 
-/// Provides callers with the law of an office's texts: in any state of an office, the texts of every ward can be
+/// Provides callers with the law about an office's texts: in any state of an office, the texts of every ward can be
 /// written.
 pub fn texts_are_there()
     ensures { (s : OfficeState) (w : WardEntry) → IsState s → ward_at s w.number ≡ Some w → IsTextual (election_of s w) }
@@ -104,7 +104,7 @@ fn poll_of(sheet: &WardSheet) -> Option<Poll>
     }
 }
 
-/// Returns a counted ward as the texts show it, with these lines for its candidates and this poll. Returns `None` if a
+/// Returns a counted ward as the texts show it, with the given candidate lines and poll. Returns `None` if a
 /// number is out of range and the ward therefore can't be printed. No ward of an office has such a number.
 fn ward_of<'a>(
     counted: &'a CountedWard,
@@ -221,7 +221,7 @@ pub(crate) fn text_of(
     Ok(Some(write_text(alloc, counted, &ward, text)?))
 }
 
-/// Returns the declaration of a ward, generated from the elected candidates, under the same conditions.
+/// Returns the declaration of a ward, generated from the elected candidates, under the same conditions as `text_of`.
 pub(crate) fn declaration(
     alloc: Global,
     counted: &CountedWard,
