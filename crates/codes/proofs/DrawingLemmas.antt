@@ -91,7 +91,7 @@ text_drawn clerks office old new letters text it is =
       is = is ∙ ap (text_with clerks office) it.are;
     }
 
--- the given number of texts are left to be drawn, out of the maximum, and none of those drawn so far is a file of codes
+-- the given number of texts are left to be drawn, out of the maximum, and none of those drawn so far is a codes file
 pub record HasDrawn (clerks : ClerkRange) (office : Bool) (old new : Option (List ℕ)) (left : ℕ) : Type 0 where
   pub earlier : List (List ℕ)
   pub drew : new ≡ append_known old (concat earlier)

@@ -33,7 +33,7 @@ clerks_apart code (e ∷ entries) long made =
 
 -- ---- what it means for a file to pass the test
 
--- a text that passes the test is a file of codes for the given clerks,
+-- a text that passes the test is a codes file for the given clerks,
 of_clerks : (clerks : ClerkRange) (office : Bool) (text : List ℕ) (file : FileEntry) → file_in text ≡ Ok file
     → is_file_for clerks office (Ok file) ≡ true → IsMadeFor (clerks_of clerks) text
 of_clerks clerks office text file same is =

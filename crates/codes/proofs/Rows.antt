@@ -1,4 +1,4 @@
--- Computed examples of files of codes: what is read from them, which credentials are accepted, and which file is made.
+-- Computed examples of codes files: what is read from them, which credentials are accepted, and which file is made.
 use Rattle.std.proofs.Common.{◌≡◌, ℕ, true, false, List, [], ◌∷◌, codes, None, Some, Ok, Err, refl}
 use Rattle.std.specs.Fmt.{digits}
 use Rattle.base64.specs.Rfc4648.{encode_symbols}

@@ -19,7 +19,7 @@ most_files = 100
 
 -- ---- files
 
--- whether bytes yield exactly the letters for the given codes, but their text isn't a file of codes, for example because it contains a code twice
+-- whether bytes yield exactly the letters for the given codes, but their text isn't a codes file, for example because it contains a code twice
 abbrev pub is_vain : ClerkRange → Bool → List ℕ → Bool
 is_vain clerks office bytes = (length (letters_drawn bytes) == letters_with clerks office) && not (is_file_for clerks office (file_in (text_with clerks office (letters_drawn bytes))))
 
@@ -30,7 +30,7 @@ pub record IsDrawn (clerks : ClerkRange) (office : Bool) (old new : Option (List
   pub enough : length (letters_drawn own) ≡ letters_with clerks office
   pub is : text ≡ text_with clerks office (letters_drawn own)
 
--- A text was made this way from the last bytes drawn, and the bytes drawn before them didn't yield a file of codes.
+-- A text was made this way from the last bytes drawn, and the bytes drawn before them didn't yield a codes file.
 pub record IsMadeByDraws (clerks : ClerkRange) (office : Bool) (old new : Option (List ℕ)) (text : List ℕ) : Type 0 where
   pub earlier : List (List ℕ)
   pub own : List ℕ
@@ -84,8 +84,7 @@ IsUnwritten clerks office failed failed_then old new (Fault NoRandom) = failed_t
 IsUnwritten clerks office failed failed_then old new (Fault BadRandom) = (failed_then ≡ failed) × IsShort clerks office old new
 IsUnwritten clerks office failed failed_then old new (Fault other) = ⊥
 
--- Bytes were drawn but yielded no codes: either the last of them yield too few letters, or the maximum number of texts was tried and none of them is a file of
--- codes.
+-- Bytes were drawn but yielded no codes: either the last of them yield too few letters, or the maximum number of texts was tried and none of them is a codes file.
 pub record IsInVain (clerks : ClerkRange) (office : Bool) (old new : Option (List ℕ)) : Type 0 where
   pub earlier : List (List ℕ)
   pub own : List ℕ

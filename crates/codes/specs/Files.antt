@@ -1,4 +1,4 @@
--- A file of codes. It has one line per clerk, with the clerk's number, a space, and the code; and at most one line for the office, with its name instead of a
+-- A codes file. It has one line per clerk, with the clerk's number, a space, and the code; and at most one line for the office, with its name instead of a
 -- number.
 use Rattle.std.specs.Prelude.{◌∷◌, ◌++◌, ◌+◌, ◌-◌, ◌*◌, ◌==◌, ◌&&◌, ◌||◌, Bool, false, List, [], Option, Some, None, Result, Ok, Err}
 use Rattle.std.specs.Prelude.{bytes_eq, count_by, drop, if◌then◌else◌, is_some, length, map, nat_le, nat_lt, not, option_and_then, option_map, slice_index, take, ℕ}
@@ -111,7 +111,7 @@ entry_in line = entry_by (clerk_in (front_of line)) (rest_of line)
 
 -- ---- a line after others
 
--- the contents of a file of codes: the codes of clerks, and the office's, if there is a line for the office
+-- the contents of a codes file: the codes of clerks, and the office's, if there is a line for the office
 pub record FileEntry : Type 0 where
   pub clerks : List CodeEntry
   pub office : Option (List ℕ)
@@ -170,7 +170,7 @@ abbrev pub file_by : (FileEntry → Result FileEntry CodesFault) → ℕ → Res
 file_by others number (Err flaw) = Err (fault.Line number flaw)
 file_by others number (Ok before) = others before
 
--- the codes in the lines from a given number on, added to those before them; empty lines are skipped
+-- the codes in the lines from the given number on, added to the codes before them; empty lines are skipped
 abbrev pub file_from : ℕ → FileEntry → List (List ℕ) → Result FileEntry CodesFault
 file_from number before [] = Ok before
 file_from number before (line ∷ lines) =

@@ -13,7 +13,7 @@ use Rattle.codes.specs.declared.range.ClerkRange.{ClerkRange}
 abbrev pub letters : List ℕ
 letters = codes "abcdefghjkmnprstuwxy2347"
 
--- whether a byte is one of these letters
+-- whether a byte is one of the letters that codes are made of
 abbrev pub is_letter : ℕ → Bool
 is_letter byte = list_any (λ letter. letter == byte) letters
 
@@ -81,16 +81,16 @@ clerks_between (Some first) (Some last) = if nat_le first last then Some (record
 abbrev pub clerks_in : List ℕ → Option ClerksEntry
 clerks_in text = clerks_between (clerk_in (take (prefix_len is_no_hyphen text) text)) (clerk_in (drop (prefix_len is_no_hyphen text + 1) text))
 
--- ---- a file of new codes
+-- ---- a new codes file
 
--- a text is a file of codes for exactly the given clerks, in order, and each code has twelve letters
+-- a text is a codes file for exactly the given clerks, in order, and each code has twelve letters
 pub record IsMadeFor (clerks : List ℕ) (text : List ℕ) : Type 0 where
   pub entries : List CodeEntry
   pub is : codes_in text ≡ Ok entries
   pub each : map (λ (e : CodeEntry). e.clerk) entries ≡ clerks
   pub made : list_all (λ (e : CodeEntry). is_made e.code) entries ≡ true
 
--- a text is such a file in which the office also has a code, which has sixteen letters and isn't any clerk's
+-- a text is such a file that also contains a code for the office, which has sixteen letters and isn't any clerk's
 pub record IsMadeWithOffice (clerks : List ℕ) (text : List ℕ) : Type 0 where
   pub of_clerks : IsMadeFor clerks text
   pub code : List ℕ

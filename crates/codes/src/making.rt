@@ -99,7 +99,7 @@ fn are_of(all: &[CodeLine<'_>], clerks: ClerkRange) -> bool
     next == u64::from(clerks.last) + 1
 }
 
-/// Returns true if a text is a file of new codes for exactly the given clerks, with or without one for the office. The only error
+/// Returns true if a text is a new codes file for exactly the given clerks, with or without one for the office. The only error
 /// is a failed allocation.
 fn is_made_for(
     alloc: Global,
@@ -122,7 +122,7 @@ fn is_made_for(
     }
 }
 
-/// Returns the text of a file of new codes for the given clerks, with or without one for the office.
+/// Returns the text of a new codes file for the given clerks, with or without one for the office.
 fn make_file<D: RandomSource>(
     alloc: Global,
     draws: &mut D,
@@ -146,11 +146,11 @@ fn make_file<D: RandomSource>(
     Err(CodesError::Fault(CodesFault::BadRandom))
 }
 
-/// Returns the text of a file of new codes for the given clerks, one line each. Its letters are those that the last bytes drawn
+/// Returns the text of a new codes file for the given clerks, one line each. Its letters are those that the last bytes drawn
 /// select. The text is read back; if a code appears in it twice, all codes are drawn again.
 ///
 /// Fails with `NoRandom` only if the source fails; the source's count of failures then increases by one. Fails with `BadRandom` if
-/// 100 bytes per letter yield too few letters, or if 100 texts in a row are not files of codes. The only other error is a failed
+/// 100 bytes per letter yield too few letters, or if 100 texts in a row are not codes files. The only other error is a failed
 /// allocation.
 pub fn make<D: RandomSource>(
     alloc: Global,
@@ -167,7 +167,7 @@ pub fn make<D: RandomSource>(
     make_file(alloc, draws, clerks, false)
 }
 
-/// Returns the text of a file of new codes for the given clerks, one line each, and for the office, whose line is the last one and
+/// Returns the text of a new codes file for the given clerks, one line each, and for the office, whose line is the last one and
 /// whose code has sixteen letters. It is made the same way as in [`make`], with the same errors.
 pub fn make_with_office<D: RandomSource>(
     alloc: Global,

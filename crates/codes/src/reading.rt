@@ -1,4 +1,4 @@
-//! Reading the text of a file of codes line by line.
+//! Reading the text of a codes file line by line.
 
 ghost use Rattle.std.specs.Prelude.{◌≡◌, ◌≤◌, ◌⊎◌, ◌*◌, ◌+◌, ◌==◌, [], IfErr, IfOk, IfSome, List, Ok, Err, bytes_eq, length, map, option_and_then, option_map, ℕ};
 ghost use Rattle.std.specs.List.{count_by, list_all, list_any, prefix_len};
@@ -27,14 +27,14 @@ const FEWEST_STRONG_BYTES: usize = 12;
 /// The minimum number of bytes in the office's code, not counting hyphens.
 const FEWEST_OFFICE_BYTES: usize = 16;
 
-/// A clerk's line in a file of codes: the clerk and that clerk's code.
+/// A clerk's line in a codes file: the clerk and that clerk's code.
 #[derive(Clone, Copy)]
 pub struct CodeLine<'a> {
     pub clerk: u32,
     pub code: &'a [u8],
 }
 
-/// The contents of a file of codes: the clerks' lines, and the office's code, if there is a line for the office.
+/// The contents of a codes file: the clerks' lines, and the office's code, if there is a line for the office.
 #[derive(Drop)]
 pub struct FileLines<'a> {
     pub clerks: Vec<CodeLine<'a>>,

@@ -37,7 +37,7 @@ use Rattle.desk.proofs.TellingLemmas.{goes_after_zero, shown_zero, whole_below, 
 
 -- ---- a connection at rest
 
--- a connection at rest leaves exactly the contents of its database
+-- what a connection at rest leaves is exactly the contents of its database
 pub rests_leaves : (s : OfficeState) (db : Database) (st : State) → ((trees : Trees) → IsTrue st.is_open → st.may_leave trees → trees ≡ st.committed.trees) → RestsAt db st → IsLeftAt s db
     → LeavesState st (λ x. x ≡ s)
 rests_leaves s db st settled rests left trees may =

@@ -91,7 +91,7 @@ module _ (folder : Folder) (s : OfficeState) (keep : Bool) (path : Bor Text) (fi
   replay_fault lines (script.ScriptLine number flaw) cut is holds here =
       inr (unsent_ended _ old closed st s (script_page (script.ScriptLine number flaw)) cut (λ zero. absurd (omega arith)) (inl ((file, found, first_flaw file lines number flaw is holds), here)))
 
-  -- the outcome of the lines of a script
+  -- the outcome of a script's lines
   pub replay_of : (lines : List Typed) (c : Course) → HoldsText file (λ text. lines ≡ script_lines text) → IsReplayOf keep folder s lines c old closed st
       → IsDone old closed st folder s (job.Replay path keep) c
   replay_of lines c holds (inl (turns, are, played)) = inl (turns, (file, found, holds_turns file lines turns are holds), played)

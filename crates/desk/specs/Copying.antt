@@ -30,8 +30,8 @@ copied_text h =
     codes "copied " ++ (decimal h.wards ++ (codes " wards, " ++ (decimal h.batches ++ (codes " batches, "
     ++ (decimal h.keyings ++ (codes " keyings, " ++ (decimal h.receipts ++ codes " receipts")))))))
 
--- the failures that can end the copying of an existing office: an allocation failed, the office's store failed while it was being read, or the copy couldn't be
--- written
+-- the failures that can end the copying of an existing office: an allocation failed, the office's store failed while the office was being read, or the copy couldn't
+-- be written
 abbrev pub EndsCopying : State → State → Failure → Type 0
 EndsCopying old new (Office fault) = FailsBy old new fault
 EndsCopying old new CopyTaken = ⊥
@@ -47,7 +47,7 @@ state_behind uncopied.Taken = Untouched
 state_behind (uncopied.Copy fault) = Unknown
 
 -- What is reported about the other database is true for any office. A copy that is confirmed is complete, and the reply describes it. With any other page, either
--- nothing was written, or the database after a stop contains what it could have contained before, or a complete office.
+-- nothing was written, or after a stop the database contains what it could have contained before or a complete office.
 abbrev pub HoldsCopy : CopyState → Page → State → State → Type 0
 HoldsCopy Whole page copy_old copy_new =
     (h : OfficeCounts) × (page ≡ replied (copied_text h)) × (HasCleanDisk copy_new → IsBlank copy_old → (s : OfficeState) × (h ≡ holdings_of s) × IsAt s copy_new)
@@ -56,7 +56,7 @@ HoldsCopy Unknown page copy_old copy_new =
     (failure : Failure) × (page ≡ failed failure)
     × (HasCleanDisk copy_new → IsBlank copy_old → (trees : Trees) → copy_new.may_leave trees → copy_old.may_leave trees ⊎ ((s : OfficeState) × StoresState s trees))
 
--- An office in the given state is copied into an empty database, which then has exactly this state, and the page says how much the copy contains. Or the page
+-- An office in the given state is copied into an empty database, which then has exactly that state, and the page says how much the copy contains. Or the page
 -- reports a failure, and after a stop the copy contains either what it could have contained before or everything. The page shows one or the other even if the
 -- copy's disk doesn't behave as `sqlite` specifies.
 abbrev pub IsCopiedAt : OfficeState → Page → CopyState → State → State → State → State → Type 0
@@ -83,7 +83,7 @@ pub record IsCopied (page : Page) (left : CopyState) (old new copy_old copy_new 
   pub reads : OnlyReads old new
   pub leaves : (db : Database) → RestsAt db old → (earlier : List Request) → IsLeftAt (after empty_office earlier) db → LeavesState new (λ x. x ≡ after empty_office earlier)
 
--- The outcome of the order in an office that is open in the given state and stays open. The copy has exactly this state, and the page says how much it contains. Or
+-- The outcome of the order in an office that is open in the given state and stays open. The copy has exactly that state, and the page says how much it contains. Or
 -- the page reports a failure, with its cause if the store was open, and after a stop the copy contains either what it could have contained before or everything.
 abbrev pub IsCopiedOpen : OfficeState → Page → CopyState → State → State → State → State → Type 0
 IsCopiedOpen s page left old new copy_old copy_new =

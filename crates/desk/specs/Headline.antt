@@ -31,8 +31,9 @@ told_above own page rest = record { requests = own ++ rest.requests; answered = 
 abbrev pub ended : Option ℕ → List Request → ℕ → Page → Cut → Course
 ended line requests answered page cut = record { requests = requests; answered = answered; page = fronted line page; cut = cut }
 
--- The machine's answer to a request in the given state, as a page of the errand that sends the request. The page has status 0 and the reply, or status 1 and the
--- reason for the refusal. A reply to a request that was accepted earlier with different content comes with a note saying that nothing was changed.
+-- The machine's answer to a request in the given state, as a page of the errand that sends the request. The page has status 0 and contains the reply, or it has
+-- status 1 and contains the reason for the refusal. A reply to a request that was accepted earlier with different content comes with a note saying that nothing was
+-- changed.
 abbrev pub answer : (OfficeState → Request → Told → Page) → OfficeState → Request → Page
 answer tells s r = tells s r (told_of (step_of s r))
 
@@ -113,7 +114,7 @@ pub record Makes (page : Page) (old new : State) : Type 0 where
   pub taken : (db : Database) → RestsAt db old → has_some_table db.schema ≡ true → (page ≡ failed (Office WrongDatabase)) × OnlyReads old new
 
 -- An office created by an earlier version is migrated with exactly the state that it had, or the page reports a fault. After a stop, the database contains either
--- the older tables of that state or the tables of this version. If there is no office of either version, the page reports the fault for the database, and a stop can
+-- that state's older tables or its tables in this version. If there is no office of either version, the page reports the fault for the database, and a stop can
 -- leave only what it could have left before the order.
 pub record BringsOver (page : Page) (old new : State) : Type 0 where
   pub older : (form : OlderForm) (s : OfficeState) → RestsOlder form s old → LeavesOldOrNew form s old new × (((page ≡ replied (migrated_text Done)) × IsAt s new) ⊎ IsFailed IsMemoryOrStore page)

@@ -1,4 +1,4 @@
--- The mathematical values that a script's values in the program represent.
+-- The mathematical values that the program's values for a script represent.
 use Rattle.std.specs.Prelude.{◌≡◌, ◌⊎◌, ⊤, Bool, List, [], None, Result, Ok, Err, map, option_map}
 use Rattle.std.specs.Borrow.{Bor}
 use Rattle.std.specs.declared.vec.Vec.{Vec}

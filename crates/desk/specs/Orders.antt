@@ -78,7 +78,7 @@ id = record { name = codes "id"; kind = kind.Id }
 abbrev pub origin : WordEntry
 origin = record { name = codes "origin"; kind = kind.Origin }
 
--- the path of a file of codes after `--` and the word's name, optional
+-- the path of a codes file after `--` and the word's name, optional
 abbrev pub codes_file : WordEntry
 codes_file = record { name = codes "codes"; kind = kind.CodesFile }
 
@@ -182,7 +182,7 @@ pub data Meant : Type 0 where
   no_digest : Meant
   title_alone : Meant
 
--- the meaning of printing a text of a ward; the title of a page is represented as text
+-- the meaning of printing one of a ward's texts; the title of a page is represented as text
 abbrev pub told_text : ℕ → WardText → Meant
 told_text ward (ward_text.Page title) = print_page ward title.now
 told_text ward text = print ward text

@@ -1,4 +1,4 @@
--- Overviews, one line each: the wards, the batches of a ward, how each paper of a batch counts, the doubtful papers of a ward, the differences in a batch, and the
+-- Overviews, one line each: the wards, a ward's batches, how each paper in a batch counts, a ward's doubtful papers, the differences in a batch, and the
 -- receipts.
 use Rattle.std.specs.Prelude.{ℕ, Bool, true, false, ◌==◌, ◌+◌, ◌-◌, ◌++◌, ◌∷◌, if◌then◌else◌, List, [], Option, Some, None, codes, length}
 use Rattle.std.specs.Fmt.{decimal}
@@ -108,7 +108,7 @@ paper_line names v = codes "batch " ++ (decimal v.batch ++ (codes " paper " ++ (
 
 -- ---- a doubtful paper
 
--- the verdict on a doubtful paper: accepted with these marks, and how it counts with them; or rejected with this code
+-- the verdict on a doubtful paper: accepted with the given marks, and how it counts with them; or rejected with the given code
 unfoldable pub verdict_words : List Text → Judgement → Option JudgedEntry → Text
 verdict_words names judgement None = codes "open"
 verdict_words names judgement (Some v) = if v.code == 0 then codes "accepted " ++ (v.marks ++ (codes ": " ++ judgement_words names judgement)) else codes "rejected " ++ decimal v.code
@@ -134,7 +134,7 @@ receipt_line r = codes "actor " ++ (decimal r.actor ++ (codes " id " ++ (r.id ++
 abbrev pub lines_of : {X : Type 0} → (X → Text) → List X → Text
 lines_of text xs = flat_map (λ x. line (text x)) xs
 
--- how each paper of a batch counts, and the doubtful papers of a ward, with the names of the ward's candidates
+-- how each paper in a batch counts, and a ward's doubtful papers, with the names of the ward's candidates
 unfoldable pub paper_lines : PapersView → Text
 paper_lines v = lines_of (paper_line (names_of v.candidates)) v.papers
 

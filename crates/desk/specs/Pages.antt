@@ -268,7 +268,7 @@ pub record IsPut {W X E : Type 0} (taken : W → Option (List ℕ)) (failed : W 
   pub cut_off : OnErr result (AppendsBeginning (taken old) (taken new) text)
   pub err : OnErr result (failed new ≡ failed old + 1)
 
--- the text was printed to the error output, with this status; or a prefix of it was, with status 3
+-- the text was printed to the error output, with the given status; or a prefix of it was, with status 3
 abbrev pub IsErrorTold : {E : Type 0} → (E → Option (List ℕ)) → (E → ℕ) → E → E → Text → ℕ → ℕ → Type 0
 IsErrorTold taken failed old new text wanted status =
     (Appends (taken old) (taken new) text × (failed new ≡ failed old) × (status ≡ wanted))

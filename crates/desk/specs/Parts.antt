@@ -36,7 +36,7 @@ IsOver closed st s course = (course ≡ ended None [] 0 empty_page uncut) × IsO
 abbrev pub IsStage : State → Bool → State → Bool → OfficeState → Request → Page → Bool → Type 0
 IsStage old closed st first s r page goes = (answered : ℕ) × IsAnswered old closed st (λ t q. page_counted first) s r answered page × (goes ≡ (answered == 1 && not (is_refused (step_of s r))))
 
--- the stages of a ward were counted by the requests of an order with the given id, starting with the first request
+-- a ward's stages were counted by the requests of an order with the given id, starting with the first request
 abbrev pub IsCounted : State → Bool → State → Bool → Option ℕ → OfficeState → ℕ → Text → Course → Type 0
 IsCounted old closed st keep line s ward id course =
     (requests : List Request) × AreAdvances s ward id 1 requests × IsSent old closed st keep line (λ t r. page_counted (is_first id r)) (IsOver closed st) s requests course

@@ -41,7 +41,7 @@ file_of_task task.Migrate = None
 file_of_task (task.InOffice (job.Run errand)) = file_of errand
 file_of_task (task.InOffice (job.Replay file keep_going)) = Some file.now
 
--- the request id for the record with this number: the order's id, a hyphen, and the number
+-- the request id for the record with the given number: the order's id, a hyphen, and the number
 unfoldable pub id_at : Text → ℕ → Text
 id_at id k = id ++ (codes "-" ++ decimal k)
 
@@ -95,7 +95,7 @@ is_first id r = bytes_eq (string_bytes r.id) (id_at id 1)
 abbrev pub advances : ℕ → Text → ℕ → List Sent
 advances ward id n = map (advance_at ward id) (range_with_len 1 n)
 
--- The highest stage number that a count can have. There are at most 30 candidates. The first stage is that of the first preferences. Each later one transfers the
+-- The highest stage number that a count can have. There are at most 30 candidates. The first stage counts the first preferences. Each later one transfers the
 -- papers of one candidate, who then needs no further stage: the surplus of an elected candidate, or all papers of an excluded one. So this is also the last stage
 -- for which a lot may be drawn.
 abbrev pub last_stage : ℕ

@@ -98,7 +98,7 @@ words_cut c = words_at c.place c
 abbrev pub words_of : Text → Option (List Text)
 words_of line = words_cut (fold cut_byte (record { words = []; word = []; place = Between }) line)
 
--- ---- the lines of a script
+-- ---- a script's lines
 
 -- a line and its number
 pub record Numbered : Type 0 where
@@ -123,7 +123,7 @@ pub record Typed : Type 0 where
 abbrev pub typed_line : Numbered → Typed
 typed_line line = record { number = line.number; words = typed line.words }
 
--- the lines of a script
+-- a script's lines
 abbrev pub script_lines : Text → List Typed
 script_lines text = map typed_line (numbered_from 1 (lines_of text))
 

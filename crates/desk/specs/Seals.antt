@@ -18,7 +18,7 @@ given_out views = sum (map (λ (v : BatchView). v.batch.size) views)
 abbrev pub seal_request : ExpectedSeal → Sent
 seal_request e = by_office e.id.now (ward_to_seal e.ward)
 
--- the number of papers given out to the batches of a ward is the expected one
+-- the number of papers given out to a ward's batches is the expected one
 abbrev pub AreAsExpected : Result (List BatchView) Reason → ℕ → Type 0
 AreAsExpected (Ok views) papers = given_out views ≡ papers
 AreAsExpected (Err why) papers = ⊥

@@ -1,4 +1,4 @@
--- What comes next in the election of a ward, in words, with its candidates' names.
+-- What comes next in a ward's election, in words, with its candidates' names.
 use Rattle.std.specs.Prelude.{ℕ, ◌==◌, ◌&&◌, ◌++◌, if◌then◌else◌, List, [], ◌∷◌, codes, Option, Some, None}
 use Rattle.std.specs.Fmt.{decimal}
 use Rattle.std.specs.List.{flat_map}
@@ -80,6 +80,6 @@ step_words (papers_stand s) = papers_words s
 step_words (count_goes stage due candidates) = due_words stage candidates due
 step_words nothing_comes = codes "declared, nothing is left to do"
 
--- the line that says what comes next in the election of a ward
+-- the line that says what comes next in a ward's election
 unfoldable pub step_text : ℕ → NextStepEntry → Text
 step_text ward step = codes "ward " ++ (decimal ward ++ (codes ": " ++ step_words step))

@@ -1,4 +1,4 @@
--- The status of the election of a ward, in words.
+-- The status of a ward's election, in words.
 use Rattle.std.specs.Prelude.{◌++◌, codes}
 use Rattle.std.specs.Fmt.{decimal}
 use Rattle.clap.specs.Words.{Text}

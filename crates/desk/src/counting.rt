@@ -1,4 +1,4 @@
-//! Counting the stages of a ward with one order.
+//! Counting a ward's stages in one order.
 
 ghost use Rattle.std.specs.Prelude.{◌≡◌, ◌-◌, ◌^◌, ◌<◌, ℕ, Bool, map};
 ghost use Rattle.sqlite.specs.State.{HasCleanDisk};

@@ -77,7 +77,7 @@ fn put_end(alloc: Global, text: &mut String, orders: usize) -> Result<(), AllocE
     put_heading(text, says.as_str())
 }
 
-/// Returns the text of the journal for an office with these rows.
+/// Returns the text of the journal for an office with the given rows.
 pub(crate) fn journal_text(alloc: Global, rows: &Rows) -> Result<String, AllocError>
     requires { MapsAreSorted (state_of rows.now) }
 {

@@ -50,7 +50,7 @@ fn requests_of(
     Ok(Some(requests))
 }
 
-/// Returns the requests of a script; None if the text isn't a script of requests only.
+/// Returns a script's requests; None if the text isn't a script of requests only.
 fn requests_in(alloc: Global, text: &str) -> Result<Option<Vec<Request>>, AllocError>
     ensures { IfOk result (λ found. IfSome found (λ requests. IsScriptOf text.now requests.items)) }
 {
@@ -63,7 +63,7 @@ fn requests_in(alloc: Global, text: &str) -> Result<Option<Vec<Request>>, AllocE
     }
 }
 
-/// Returns the text of the journal for an office with these rows, and the requests it parses to.
+/// Returns the text of the journal for an office with the given rows, and the requests it parses to.
 fn draft_of(alloc: Global, rows: &Rows) -> Result<Draft, AllocError>
     requires { MapsAreSorted (state_of rows.now) }
     ensures { IfOk result (λ draft. IfSome draft.requests (λ requests. IsScriptOf (string_bytes draft.text) requests.items)) }
@@ -73,7 +73,7 @@ fn draft_of(alloc: Global, rows: &Rows) -> Result<Draft, AllocError>
     Ok(Draft { text, requests })
 }
 
-/// Returns the journal for an office with these rows, or why there is none: the text doesn't reproduce that office, or a fault,
+/// Returns the journal for an office with the given rows, or why there is none: the text doesn't reproduce that office, or a fault,
 /// `Memory` or `Store`, occurred. The journal is replayed in the empty database on a connection. That connection is returned along
 /// with whatever the replay left in its database.
 fn journal_of<T: Alter>(

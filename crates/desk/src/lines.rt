@@ -29,7 +29,7 @@ pub(crate) enum LineOutcome {
     Ready,
     /// An office was migrated, or already had this program's version.
     Migrated(Migrated),
-    /// The reply to a request that was accepted, now or earlier; or the status of a ward, or what comes next in its election.
+    /// The reply to a request that was accepted, now or earlier; or a ward's status, or what comes next in its election.
     Replied(Reply),
     /// The reply to a request that was accepted earlier under this id with different content. A note says so.
     Noted { reply: Reply, id: String },

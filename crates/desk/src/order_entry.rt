@@ -19,7 +19,7 @@ pub(crate) enum Kind {
     Id,
     /// An origin as a browser writes it, after `--origin`; optional.
     Origin,
-    /// The path of a file of codes, after `--codes`; optional.
+    /// The path of a codes file, after `--codes`; optional.
     CodesFile,
     /// Any text after `--title`; empty by default.
     Title,

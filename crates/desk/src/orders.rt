@@ -34,13 +34,13 @@ pub struct ExpectedSeal<'a> {
 pub enum Question {
     /// The status of each ward.
     Wards,
-    /// The status of each batch of a ward.
+    /// The status of each batch in a ward.
     Batches { ward: u32 },
     /// Which papers of a ward are doubtful.
     Doubtful { ward: u32 },
     /// On which papers of a batch the keyings differ.
     Differences { batch: u32 },
-    /// How each paper of a batch counts.
+    /// How each paper in a batch counts.
     Papers { batch: u32 },
     /// The receipts of one actor, or of all actors.
     Receipts { actor: Option<u32> },
@@ -69,21 +69,21 @@ pub enum Errand<'a> {
     ImportKeying(KeyingFile<'a>),
     /// Seal a ward if the expected number of papers was given out.
     SealExpected(ExpectedSeal<'a>),
-    /// Count the stages of a ward until a lot is needed or the count ends. The id of each request is this id, a hyphen, and its
+    /// Count a ward's stages until a lot is needed or the count ends. The id of each request is this id, a hyphen, and its
     /// number within this order.
     Count {
         ward: u32,
         id: &'a str,
     },
-    /// Print the status of a ward.
+    /// Print a ward's status.
     PrintStatus {
         ward: u32,
     },
-    /// Print what comes next in the election of a ward.
+    /// Print what comes next in a ward's election.
     PrintNext {
         ward: u32,
     },
-    /// Print a text of a ward.
+    /// Print one of a ward's texts.
     Print {
         ward: u32,
         text: WardText<'a>,
@@ -169,15 +169,15 @@ pub enum Order<'a> {
     },
     /// Print the journal of the office.
     Journal,
-    /// Write a new file of codes, which must not exist yet, for the clerks that a word names, and for the office too if requested.
+    /// Write a new codes file, which must not exist yet, for the clerks that a word names, and for the office too if requested.
     Codes {
         path: &'a str,
         clerks: &'a str,
         with_office: bool,
     },
     /// Serve connections on a port on this machine. If an origin is given, its pages are also served through a proxy. Serving
-    /// ends after this many connections, or continues forever if no number is given. Clerks need codes if the path of a file of
-    /// codes is given. If a title is given, the count is shown in public with that title.
+    /// ends after this many connections, or continues forever if no number is given. Clerks need codes if the path of a codes file
+    /// is given. If a title is given, the count is shown in public with that title.
     Serve {
         port: u32,
         connections: Option<u32>,

@@ -1,4 +1,4 @@
-//! Overviews, one line each, for wards, the batches of a ward, the differences in a batch, receipts and papers. The lines for
+//! Overviews, one line each, for wards, a ward's batches, the differences in a batch, receipts and papers. The lines for
 //! papers are built in [`papers`](crate::papers).
 
 ghost use Rattle.std.specs.Prelude.{◌≡◌, ◌⊎◌, ◌++◌, map, IfOk, IfErr, string_bytes};
@@ -162,7 +162,7 @@ fn put_clerk(alloc: Global, text: &mut String, overview: &ClerkOverview) -> Resu
     text.push_str(told.as_str())
 }
 
-/// Returns the clerks of a batch, and whether each of them has keyed it.
+/// Returns a batch's clerks, and whether each of them has keyed it.
 fn clerks_words(alloc: Global, clerks: &[ClerkOverview]) -> Result<String, AllocError>
     ensures { IfOk result (λ text. string_bytes text ≡ flat_map clerk_words (map clerk_view clerks.now)) }
 {
@@ -295,7 +295,7 @@ fn differences_of<S: Alter>(alloc: Global, office: &mut Office<S>, batch: u32) -
     }
 }
 
-/// Returns the lines for the doubtful papers of a ward, or why there are none.
+/// Returns the lines for a ward's doubtful papers, or why there are none.
 fn doubtful_of<S: Alter>(alloc: Global, office: &mut Office<S>, ward: u32) -> LineOutcome
     ensures found { WhenOpenAt (state S.Store) office.old office.new
         (λ s. IsAskedOf s (Question.Doubtful ward) (page_of result) office.new.closed (state S.Store office.old.held) (state S.Store office.new.held)) }
@@ -310,7 +310,7 @@ fn doubtful_of<S: Alter>(alloc: Global, office: &mut Office<S>, ward: u32) -> Li
     }
 }
 
-/// Returns the lines that say how each paper of a batch counts, or why there are none.
+/// Returns the lines that say how each paper in a batch counts, or why there are none.
 fn papers_of<S: Alter>(alloc: Global, office: &mut Office<S>, batch: u32) -> LineOutcome
     ensures found { WhenOpenAt (state S.Store) office.old office.new
         (λ s. IsAskedOf s (Question.Papers batch) (page_of result) office.new.closed (state S.Store office.old.held) (state S.Store office.new.held)) }

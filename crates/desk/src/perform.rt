@@ -83,9 +83,9 @@ fn migrate_office<S: Alter, O: Sink, E: Sink>(
 /// `folder` opens the file that the task names, once the office is open, and each import file that a script names, when it is
 /// needed. A file is read to the end before any request from it is sent.
 ///
-/// The status is 0 if all output was written to `out`: each reply, `office ready`, the outcome of a migration, the status of a
-/// ward, an overview, or a text of a ward. It is 1 if a request or the file was refused, and 3 on a fault; `err` says which. It is
-/// also 3 if `out` or `err` itself failed, in which case only a prefix was written to it.
+/// The status is 0 if all output was written to `out`: each reply, `office ready`, the outcome of a migration, a ward's status, an
+/// overview, or one of a ward's texts. It is 1 if a request or the file was refused, and 3 on a fault; `err` says which. It is also
+/// 3 if `out` or `err` itself failed, in which case only a prefix was written to it.
 ///
 /// Every request that was answered before the first refusal or fault remains in effect. If the program is stopped at any time, what
 /// remains is the state after the accepted requests in a prefix of all requests ever sent. The prefix contains every answered

@@ -168,7 +168,7 @@ const LAST_STAGE: u32 = LAST_LOT_STAGE;
 /// The maximum number of requests in an order that counts: one more than the number of stages. The last one is refused.
 const MOST_ADVANCES: usize = LAST_STAGE as usize + 1;
 
-/// Returns the requests that count the stages of a ward, starting with the first: as many as an order may send.
+/// Returns the requests that count a ward's stages, starting with the first: as many as an order may send.
 pub(crate) fn advances(alloc: Global, ward: u32, id: &str) -> Result<Vec<Request>, AllocError>
     ensures { IfOk result (λ requests. map sent_as requests.items ≡ advances ward id.now most_advances) }
 {

@@ -19,7 +19,7 @@ fn files_of(alloc: Global, turns: &[ScriptStep<'_>]) -> Result<Vec<String>, Allo
     Ok(paths)
 }
 
-/// Returns the paths of the files that the lines of a script name, in order. If a line isn't understood, there are none: the order
+/// Returns the paths of the files that a script's lines name, in order. If a line isn't understood, there are none: the order
 /// reports that line and opens no files.
 pub fn files_named_in(alloc: Global, script: &[u8]) -> Result<Vec<String>, AllocError>
     ensures { IfOk result (λ paths. AreNamedIn script.now (map string_bytes paths.items)) }

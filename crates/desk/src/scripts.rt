@@ -167,7 +167,7 @@ fn errand_of(order: Order<'_>) -> Option<Errand<'_>>
     }
 }
 
-/// Returns the errand that these words mean, or what is wrong with them. The error is None if an allocation failed.
+/// Returns the errand that the given words mean, or what is wrong with them. The error is None if an allocation failed.
 fn errand_in<'a>(alloc: Global, words: &'a [&'a str]) -> Result<Errand<'a>, Option<LineFlaw>>
     ensures ok { IfOk result (λ errand. Means (map (λ s. s.now) words.entry.now) errand) }
     ensures err { IfErr result (λ why. IfSome why (λ flaw. IsFlawOfWords (map (λ s. s.now) words.entry.now) flaw)) }

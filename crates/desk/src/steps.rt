@@ -1,4 +1,4 @@
-//! What comes next in the election of a ward, in one line with the candidates' names.
+//! What comes next in a ward's election, in one line with the candidates' names.
 
 ghost use Rattle.std.specs.Prelude.{◌≡◌, ◌++◌, IfOk, map, string_bytes};
 ghost use Rattle.sqlite.specs.Held.{state};
@@ -200,7 +200,7 @@ fn step_words(alloc: Global, step: &NextStep) -> Result<String, AllocError>
 }
 
 #[tactic(auto, unfolding(crate::specs::Steps::step_text))]
-/// Returns the line that says what comes next in the election of a ward, without its newline.
+/// Returns the line that says what comes next in a ward's election, without its newline.
 fn step_text(alloc: Global, ward: u32, step: &NextStep) -> Result<String, AllocError>
     ensures { IfOk result (λ text. string_bytes text ≡ step_text ward (step_entry step.now)) }
 {
@@ -208,7 +208,7 @@ fn step_text(alloc: Global, ward: u32, step: &NextStep) -> Result<String, AllocE
     format!(in alloc; "ward {ward}: {words}")
 }
 
-/// Returns the words for what comes next in the election of a ward, or why they aren't available.
+/// Returns the words for what comes next in a ward's election, or why they aren't available.
 pub(crate) fn next_of<S: Alter>(alloc: Global, office: &mut Office<S>, ward: u32) -> LineOutcome
     ensures found { WhenOpenAt (state S.Store) office.old office.new
         (λ s. IsFound s (λ step. replied (step_text ward step)) (next_answer s ward) (page_of result) office.new.closed (state S.Store office.old.held) (state S.Store office.new.held)) }

@@ -1,4 +1,4 @@
--- The file of batches.
+-- The batch file.
 use Rattle.std.specs.Prelude.{ℕ, Bool, false, ◌&&◌, if◌then◌else◌, List, [], ◌∷◌, Option, Some, None, Result, Ok, Err, codes, bytes_eq}
 use Rattle.keyfile.specs.Records.{Record}
 use Rattle.paper.specs.Digits.{plain_number_in}
@@ -51,6 +51,6 @@ batch_in other = Err RecordLength
 abbrev pub most_batches : ℕ
 most_batches = 9999
 
--- the format of the file of batches, which contains at most that many batches
+-- the format of the batch file, which contains at most that many batches
 abbrev pub batches : Format BatchRowEntry
 batches = record { header_flaw = batch_header_flaw; most = most_batches; read = λ k fields. batch_in fields }

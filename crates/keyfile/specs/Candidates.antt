@@ -1,4 +1,4 @@
--- The file of candidates.
+-- The candidate file.
 use Rattle.std.specs.Prelude.{ℕ, Bool, false, ◌&&◌, if◌then◌else◌, List, [], ◌∷◌, Option, Some, None, Result, Ok, Err, codes, bytes_eq, string_bytes}
 use Rattle.keyfile.specs.Records.{Record}
 use Rattle.paper.specs.Digits.{plain_number_in}
@@ -39,6 +39,6 @@ candidate_in other = Err RecordLength
 abbrev pub most_candidates : ℕ
 most_candidates = 2970
 
--- the format of the file of candidates, which contains at most that many candidates
+-- the format of the candidate file, which contains at most that many candidates
 abbrev pub candidates : Format CandidateEntry
 candidates = record { header_flaw = candidate_header_flaw; most = most_candidates; read = λ k fields. candidate_in fields }

@@ -30,7 +30,7 @@ abbrev pub first_flaw : Option Flaw → Option Flaw → Option Flaw
 first_flaw (Some flaw) later = Some flaw
 first_flaw None later = later
 
--- What is wrong with the header of a keying of a batch by a clerk. Its first field is checked before its columns, because a batch from another ward has other
+-- What is wrong with the header of a clerk's keying of a batch. Its first field is checked before its columns, because a batch from another ward has other
 -- columns.
 abbrev pub keying_header_flaw : List ℕ → ℕ → ℕ → Record → Option Flaw
 keying_header_flaw columns batch clerk [] = Some Header

@@ -1,4 +1,4 @@
-//! The file of candidates, for one ward or several: `ward,candidate,name`.
+//! The candidate file, for one ward or several: `ward,candidate,name`.
 
 ghost use Rattle.std.specs.Prelude.{◌≡◌, false, ◌⊎◌, map, IfOk, IfErr, Ok, Err};
 ghost use Rattle.keyfile.specs.Candidates.{CandidateEntry, candidate_entry, candidates, is_candidate_header, numbered};
@@ -47,7 +47,7 @@ pub fn read_candidates<R: Read + Drop>(
     read_file(alloc, r, digest, &CandidateFormat)
 }
 
-/// The format of the file of candidates.
+/// The format of the candidate file.
 #[derive(Drop)]
 struct CandidateFormat;
 

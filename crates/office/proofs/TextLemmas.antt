@@ -1,4 +1,4 @@
--- The answer to a request for a text of a ward, given what was found for the ward.
+-- The answer to a request for one of a ward's texts, given what was found for the ward.
 use Rattle.std.proofs.Common.{◌≡◌, inl, inr, ℕ, Bool, true, false, Option, Some, None, option_map, Result, Ok, Err, IfOk, IfErr, OnOk, String, string_bytes, refl, sym, ap, subst, ◌∙◌}
 use Rattle.std.specs.declared.alloc.Global.{Global}
 use Rattle.std.proofs.lemmas.Bool.{cond-true, cond-false}

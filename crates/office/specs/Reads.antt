@@ -22,11 +22,11 @@ abbrev pub found_or : {X : Type 0} → Reason → Option X → Result X Reason
 found_or why (Some x) = Ok x
 found_or why None = Err why
 
--- the result of reading the status of a ward
+-- the result of reading a ward's status
 abbrev pub status_answer : OfficeState → ℕ → Result StatusEntry Reason
 status_answer s ward = if is_ward_number ward then found_or NoSuchWard (status_at s ward) else Err NumberOutOfRange
 
--- the result of reading the next step in the election of a ward
+-- the result of reading the next step in a ward's election
 abbrev pub next_answer : OfficeState → ℕ → Result NextStepEntry Reason
 next_answer s ward = if is_ward_number ward then found_or NoSuchWard (next_at s ward) else Err NumberOutOfRange
 
@@ -34,7 +34,7 @@ next_answer s ward = if is_ward_number ward then found_or NoSuchWard (next_at s 
 abbrev pub columns_answer : OfficeState → ℕ → Result (List ℕ) Reason
 columns_answer s batch = if is_batch_number batch then found_or NoSuchBatch (columns_at s batch) else Err NumberOutOfRange
 
--- the result of reading the work of a clerk
+-- the result of reading a clerk's work
 abbrev pub work_answer : OfficeState → ℕ → Result (List WorkEntry) Reason
 work_answer s clerk = if is_clerk clerk then Ok (work_of s clerk) else Err NumberOutOfRange
 

@@ -113,7 +113,8 @@ abbrev pub text_found : WardText → OfficeState → Option WardEntry → Result
 text_found text s None = Err NoSuchWard
 text_found text s (Some w) = if is_printable_in text w.phase then Ok (text_shown text (election_of s w)) else Err WrongPhase
 
--- the answer to a request for a text of the ward with the given number: the declaration is available once the ward is declared, any other text once it is sealed
+-- the answer to a request for one of the texts of the ward with the given number: the declaration is available once the ward is declared, any other text once it is
+-- sealed
 abbrev pub text_answer : WardText → OfficeState → ℕ → Result (List ℕ) Reason
 text_answer text s ward = if is_ward_number ward then text_found text s (ward_at s ward) else Err NumberOutOfRange
 

@@ -201,7 +201,7 @@ fn write_text(
     }
 }
 
-/// Returns a text of a ward, generated from the stages that are done. Returns `None` if the text can't be written,
+/// Returns one of a ward's texts, generated from the stages that are done. Returns `None` if the text can't be written,
 /// which never happens for an office. Fails with `AllocError` if an allocation fails.
 pub(crate) fn text_of(
     alloc: Global,
@@ -221,7 +221,7 @@ pub(crate) fn text_of(
     Ok(Some(write_text(alloc, counted, &ward, text)?))
 }
 
-/// Returns the declaration of a ward, generated from the elected candidates, under the same conditions as `text_of`.
+/// Returns a ward's declaration, generated from the elected candidates, under the same conditions as `text_of`.
 pub(crate) fn declaration(
     alloc: Global,
     counted: &CountedWard,

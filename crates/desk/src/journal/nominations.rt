@@ -1,4 +1,4 @@
-//! The nominations of a ward in a journal.
+//! A ward's nominations in a journal.
 
 ghost use Rattle.register.specs.Offices.{MapsAreSorted};
 ghost use Rattle.rowcheck.specs.States.{state_of};
@@ -38,7 +38,7 @@ fn put_candidate(
     Ok(())
 }
 
-/// Appends all candidates of a ward, in order of their numbers.
+/// Appends all of a ward's candidates, in order of their numbers.
 fn put_candidates(
     alloc: Global,
     text: &mut String,
