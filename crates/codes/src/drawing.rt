@@ -9,7 +9,7 @@ pub struct DrawFailed;
 
 /// A source of random bytes that counts the draws that failed.
 pub trait RandomSource {
-    /// The bytes drawn so far, as far as they are known.
+    /// The bytes drawn so far, if they are known.
     ghost drawn: { Self → Option (List ℕ) };
 
     /// The number of draws that failed.

@@ -276,7 +276,7 @@ IsErrorTold taken failed old new text wanted status =
 
 -- ---- how much of a page was printed
 
--- the two outputs: the bytes written to each, as far as they are known, and how many of its calls failed
+-- the two outputs: the bytes written to each, if they are known, and how many of its calls failed
 pub record Outputs : Type 0 where
   pub out : Option (List ℕ)
   pub out_failed : ℕ

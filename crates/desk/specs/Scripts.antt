@@ -110,7 +110,7 @@ abbrev pub numbered_from : ℕ → List Text → List Numbered
 numbered_from k [] = []
 numbered_from k (line ∷ lines) = if passes_over line then numbered_from (suc k) lines else record { number = k; words = words_of line } ∷ numbered_from (suc k) lines
 
--- the words as typed after the program's name, including DB; or why there are none: a quote isn't closed, or a word isn't UTF-8
+-- the words as typed after the program's name, including DB; or the reason why there are none: a quote isn't closed, or a word isn't UTF-8
 abbrev pub typed : Option (List Text) → Result (List Text) Garbled
 typed None = Err garbled.Quote
 typed (Some words) = if list_all is_utf8 words then Ok (codes "DB" ∷ words) else Err garbled.NotUtf8

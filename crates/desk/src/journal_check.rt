@@ -73,9 +73,9 @@ fn draft_of(alloc: Global, rows: &Rows) -> Result<Draft, AllocError>
     Ok(Draft { text, requests })
 }
 
-/// Returns the journal for an office with the given rows, or why there is none: the text doesn't reproduce that office, or a fault,
-/// `Memory` or `Store`, occurred. The journal is replayed in the empty database on a connection. That connection is returned along
-/// with whatever the replay left in its database.
+/// Returns the journal for an office with the given rows, or the reason why there is none: the text doesn't reproduce that office,
+/// or a fault, `Memory` or `Store`, occurred. The journal is replayed in the empty database on a connection. That connection is
+/// returned along with whatever the replay left in its database.
 fn journal_of<T: Alter>(
     alloc: Global,
     rows: &Rows,
@@ -99,7 +99,7 @@ fn journal_of<T: Alter>(
     }
 }
 
-/// Returns the journal of the office on a connection, or why there is none.
+/// Returns the journal of the office on a connection, or the reason why there is none.
 fn journalled<S: Alter, T: Alter>(
     alloc: Global,
     conn: &mut Connection<S>,
@@ -115,7 +115,7 @@ fn journalled<S: Alter, T: Alter>(
     }
 }
 
-/// Returns the journal of an open office, which stays open, or why there is none.
+/// Returns the journal of an open office, which stays open, or the reason why there is none.
 fn journalled_open<S: Alter, T: Alter>(
     alloc: Global,
     office: &mut Office<S>,

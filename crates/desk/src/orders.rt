@@ -175,7 +175,7 @@ pub enum Order<'a> {
         clerks: &'a str,
         with_office: bool,
     },
-    /// Serve connections on a port on this machine. If an origin is given, its pages are also served through a proxy. Serving
+    /// Serve connections on a local port. If an origin is given, its pages are also served through a proxy. Serving
     /// ends after this many connections, or continues forever if no number is given. Clerks need codes if the path of a codes file
     /// is given. If a title is given, the count is shown in public with that title.
     Serve {

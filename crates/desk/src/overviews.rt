@@ -265,7 +265,7 @@ fn stopped(stop: ReadError) -> LineOutcome
     }
 }
 
-/// Returns what is printed for the values found, or why there are none, or that an allocation failed.
+/// Returns what is printed for the values found, for the reason why there are none, or for a failed allocation.
 fn outcome_of<T: Lined + Drop>(alloc: Global, found: Result<Vec<T>, ReadError>) -> LineOutcome
     ensures lines { IfOk found (λ all. (page_of result ≡ printed (flat_map (λ t. line (T.text t)) all.items)) ⊎ (page_of result ≡ failed (Failure.Office Fault.Memory))) }
     ensures stop { IfErr found (λ stop. page_of result ≡ page_stopped stop) }
@@ -280,7 +280,7 @@ fn outcome_of<T: Lined + Drop>(alloc: Global, found: Result<Vec<T>, ReadError>) 
     }
 }
 
-/// Returns a line that says on which papers of a batch the keyings differ, or why there is none.
+/// Returns a line that says on which papers of a batch the keyings differ, or the reason why there is none.
 fn differences_of<S: Alter>(alloc: Global, office: &mut Office<S>, batch: u32) -> LineOutcome
     ensures found { WhenOpenAt (state S.Store) office.old office.new
         (λ s. IsAskedOf s (Question.Differences batch) (page_of result) office.new.closed (state S.Store office.old.held) (state S.Store office.new.held)) }
@@ -295,7 +295,7 @@ fn differences_of<S: Alter>(alloc: Global, office: &mut Office<S>, batch: u32) -
     }
 }
 
-/// Returns the lines for a ward's doubtful papers, or why there are none.
+/// Returns the lines for a ward's doubtful papers, or the reason why there are none.
 fn doubtful_of<S: Alter>(alloc: Global, office: &mut Office<S>, ward: u32) -> LineOutcome
     ensures found { WhenOpenAt (state S.Store) office.old office.new
         (λ s. IsAskedOf s (Question.Doubtful ward) (page_of result) office.new.closed (state S.Store office.old.held) (state S.Store office.new.held)) }
@@ -310,7 +310,7 @@ fn doubtful_of<S: Alter>(alloc: Global, office: &mut Office<S>, ward: u32) -> Li
     }
 }
 
-/// Returns the lines that say how each paper in a batch counts, or why there are none.
+/// Returns the lines that say how each paper in a batch counts, or the reason why there are none.
 fn papers_of<S: Alter>(alloc: Global, office: &mut Office<S>, batch: u32) -> LineOutcome
     ensures found { WhenOpenAt (state S.Store) office.old office.new
         (λ s. IsAskedOf s (Question.Papers batch) (page_of result) office.new.closed (state S.Store office.old.held) (state S.Store office.new.held)) }
@@ -325,7 +325,7 @@ fn papers_of<S: Alter>(alloc: Global, office: &mut Office<S>, batch: u32) -> Lin
     }
 }
 
-/// Returns the office's answer to a question, or why there is none.
+/// Returns the office's answer to a question, or the reason why there is none.
 pub(crate) fn answer_to<S: Alter>(
     alloc: Global,
     office: &mut Office<S>,

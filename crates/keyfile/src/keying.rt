@@ -21,8 +21,7 @@ use std::io::Read;
 /// The maximum number of papers in a file: those of one batch.
 pub(crate) const MOST_PAPERS: u32 = 500;
 
-/// Returns the marks texts in a file with a clerk's keying of a batch whose papers have the given columns, in the order of the
-/// papers.
+/// Returns the marks texts in a file with a clerk's keying of a batch whose papers have the given columns, in paper order.
 ///
 /// The header is `paper` followed by the columns in ascending order. It is followed by at most 500 records, each of which consists
 /// of a paper number (1, 2, 3, ..) and one field per column. A marks text is `D` if the first field is `D` and the others are

@@ -64,7 +64,7 @@ pub record IsTextual (e : ElectionEntry) : Type 0 where
 abbrev pub sheet_of : ElectionEntry → List ℕ
 sheet_of e = sheet (election_shown e) (reverse (stages_of e))
 
--- the declaration: the candidates elected
+-- the declaration: the elected candidates
 abbrev pub declaration_of : ElectionEntry → List ℕ
 declaration_of e = declaration (election_shown e) (elected_of e)
 

@@ -75,7 +75,7 @@ fn elected_names(
     Ok(names)
 }
 
-/// Returns a ward's entry in the list.
+/// Returns the list entry of a ward.
 fn listed_of(alloc: Global, overview: &WardOverview) -> Result<ListedWard, AllocError>
     ensures { IfOk result (λ ward. listed ward ≡ listed_shown (ward_view overview.now)) }
 {
@@ -88,7 +88,7 @@ fn listed_of(alloc: Global, overview: &WardOverview) -> Result<ListedWard, Alloc
     })
 }
 
-/// Returns the entries of all wards in the list.
+/// Returns the list entries of all wards.
 fn all_listed(alloc: Global, overviews: &[WardOverview]) -> Result<Vec<ListedWard>, AllocError>
     ensures { IfOk result (λ wards. map listed wards.items ≡ map listed_shown (map ward_view overviews.now)) }
 {

@@ -222,7 +222,7 @@ impl<S: Alter> Office<S> {
         read!(self, is_ward_number(ward) => load_sheet(ward), Reason::NoSuchWard, sheet => self.read_text(&sheet, text))
     }
 
-    /// Returns a ward's declaration: the candidates elected.
+    /// Returns a ward's declaration: the elected candidates.
     ///
     /// Refused if the ward number is outside 1 to 99, there is no such ward, or the ward isn't declared yet. Nothing is
     /// changed. After `Memory` the office stays open; any other fault closes it. A closed office returns `Closed`.

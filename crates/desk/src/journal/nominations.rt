@@ -38,7 +38,7 @@ fn put_candidate(
     Ok(())
 }
 
-/// Appends all of a ward's candidates, in order of their numbers.
+/// Appends all of a ward's candidates, in numerical order.
 fn put_candidates(
     alloc: Global,
     text: &mut String,
