@@ -10,7 +10,7 @@ most_wrong = 6000
 abbrev pub minute : ℕ
 minute = 60000
 
--- the wrong codes of a minute: when the minute began, in milliseconds on some clock, and how many have been sent since then, up to the limit
+-- the wrong codes in a minute: when the minute began, in milliseconds on some clock, and how many have been sent since then, up to the limit
 pub record LimitEntry : Type 0 where
   pub since : ℕ
   pub count : ℕ

@@ -97,8 +97,8 @@ Performs folder s task.Migrate course old new = IsUntouched (λ page. (page ≡ 
 Performs folder s (task.InOffice job) course old new = ((closed : Bool) × IsDone old closed new folder s job course) ⊎ IsUntouched (IsFailed (FailsBy old new)) s course new
 
 -- The contract of a task: the given number of its requests were answered, as its page says. If earlier requests led to the office's state, the state after a stop
--- is the one after the accepted requests in a prefix of the earlier requests followed by these. The prefix contains each earlier and each answered request, and at
--- most one more. If the status is 0, all requests were answered.
+-- is the one after the accepted requests in a prefix of the earlier requests followed by the task's. The prefix contains each earlier and each answered request, and
+-- at most one more. If the status is 0, all requests were answered.
 pub record IsPerformed (folder : Folder) (s : OfficeState) (task : Task) (cut : Cut) (page : Page) (ends : ℕ) (old new : State) : Type 0 where
   pub requests : List Request
   pub answered : ℕ

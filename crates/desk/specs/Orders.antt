@@ -242,7 +242,7 @@ abbrev pub OfWords : List WordEntry → Type 0 → Type 0
 OfWords [] T = T
 OfWords (w ∷ ws) T = WordValue w.kind → OfWords ws T
 
--- an order's name and words, its meaning as a function of the values of its words, and whether that meaning is a command of the office
+-- an order's name and words, its meaning as a function of the values of its words, and whether that meaning is a command from the office
 pub record OrderEntry : Type 0 where
   pub typed : OrderWords
   pub means : OfWords typed.words Meant

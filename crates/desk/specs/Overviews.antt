@@ -56,7 +56,7 @@ keyed_word false = codes "not keyed"
 unfoldable pub clerk_words : ℕ × Bool → Text
 clerk_words c = codes ", clerk " ++ (decimal c.0 ++ (codes " " ++ keyed_word c.1))
 
--- the word for its status
+-- the word for the batch's status
 abbrev pub standing_word : BatchStanding → Text
 standing_word Taken = codes "taken"
 standing_word Differing = codes "differing"
@@ -120,7 +120,7 @@ doubtful_line names v =
 
 -- ---- differences, and receipts
 
--- the line that says on which papers of a batch the keyings differ
+-- the line that lists the papers on which a batch's keyings differ
 unfoldable pub differences_line : DifferencesView → Text
 differences_line v = codes "batch " ++ (decimal v.batch.number ++ (codes " round " ++ (decimal v.batch.round ++ (codes " differs on papers " ++ listed v.papers))))
 

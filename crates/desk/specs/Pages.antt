@@ -80,7 +80,7 @@ failure_of uncopied.Taken = CopyTaken
 failure_of (uncopied.Copy fault.Memory) = Office fault.Memory
 failure_of (uncopied.Copy other) = CopyFailed
 
--- the status for a refused file: that of a fault if reading the file was stopped
+-- the status for a refused file: that of a fault if reading the file stopped early
 abbrev pub status_of_file : FileFault → ℕ
 status_of_file fault = if is_stop fault.flaw then 3 else 1
 
@@ -94,11 +94,11 @@ empty_page = record { out = []; err = []; status = 0 }
 abbrev pub printed : Text → Page
 printed text = record { out = text; err = []; status = 0 }
 
--- a reply, on its own line
+-- a reply, printed on its own line
 abbrev pub replied : Text → Page
 replied text = printed (line text)
 
--- a refusal, on its own line, on the error output
+-- a refusal, printed on its own line to the error output
 abbrev pub refused : Reason → Page
 refused why = record { out = []; err = numbered_line (codes "refused ") (reason_number why) (reason_text why); status = 1 }
 
@@ -169,7 +169,7 @@ page_for s r (done reply) = replied reply
 page_for s r (again reply) = page_kept (string_bytes r.id) reply (is_kept_otherwise s r)
 page_for s r (no why) = refused why
 
--- Why a count doesn't continue. It is a reply that no seat is left to fill, or that a lot is needed. After the first request, it is also a reply that the ward was
+-- Why a count doesn't continue. The reason is printed as a reply if no seat is left to fill or if a lot is needed, and, after the first request, if the ward was
 -- declared in the meantime.
 abbrev pub page_at_rest : Bool → Reason → Page
 page_at_rest is_first CountFinished = replied (codes "count finished")

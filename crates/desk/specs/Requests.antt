@@ -76,14 +76,14 @@ keyings_for k (Err fault) = Err fault
 abbrev pub HoldsRequests : {Row : Type 0} → Format Row → (Result (List Row) FileFault → Result (List Sent) FileFault) → Option (List ℕ) → File → List Request → Type 0
 HoldsRequests format sent digest file requests = IsReadFrom digest file (λ bytes. sent (file_rows format (file_records bytes)) ≡ Ok (map sent_as requests))
 
--- the file of a clerk's keying of a batch contains the given requests, given the columns of the batch, or the reason why it has none
+-- the file with a clerk's keying of a batch contains the given requests, given the columns of the batch, or the reason why it has none
 abbrev pub HoldsKeying : Result (List ℕ) Reason → KeyingFile → File → List Request → Type 0
 HoldsKeying (Ok columns) k file requests = HoldsRequests (keying columns k.batch k.clerk) (keyings_for k) (asked_digest k.digest) file requests
 HoldsKeying (Err why) k file requests = ⊥
 
 -- ---- the stages of a count
 
--- the request that counts a stage of a ward; its number is the one that it has within its order
+-- the request that counts a stage of a ward, numbered within its order
 abbrev pub advance_at : ℕ → Text → ℕ → Sent
 advance_at ward id k = by_office (id_at id k) (stage_to_count ward)
 

@@ -49,7 +49,7 @@ is_blank byte = byte == 32 || (byte == 9 || byte == 13)
 abbrev pub is_quote : ℕ → Bool
 is_quote byte = byte == 34 || byte == 39
 
--- whether a line is skipped: it consists of whitespace only, or its first byte that isn't whitespace is #
+-- whether a line is skipped: it consists only of whitespace, or its first non-whitespace byte is #
 abbrev pub passes_over : Text → Bool
 passes_over [] = true
 passes_over (byte ∷ bytes) = if is_blank byte then passes_over bytes else byte == 35
@@ -72,7 +72,7 @@ with_byte c byte = record { words = c.words; word = c.word ++ byte ∷ []; place
 abbrev pub with_word : LexerEntry → LexerEntry
 with_word c = record { words = c.words ++ c.word ∷ []; word = []; place = Between }
 
--- a byte outside quotes that isn't whitespace: a quote opens, and any other byte belongs to the word
+-- a non-whitespace byte outside quotes: a quote opens, and any other byte belongs to the word
 abbrev pub cut_open : LexerEntry → ℕ → LexerEntry
 cut_open c byte = if is_quote byte then moved_to (Quoted byte) c else moved_to Within (with_byte c byte)
 

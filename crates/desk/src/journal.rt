@@ -71,7 +71,7 @@ fn put_all_counts(
     Ok(())
 }
 
-/// Appends the last line, which says how many orders precede it, one per receipt. A text without this line is truncated.
+/// Appends the last line, which says how many orders precede it, one per receipt. A text without this line has been truncated.
 fn put_end(alloc: Global, text: &mut String, orders: usize) -> Result<(), AllocError> {
     let says = format!(in alloc; "end: {orders} orders")?;
     put_heading(text, says.as_str())

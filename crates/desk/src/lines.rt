@@ -384,7 +384,7 @@ fn put_note<W: Sink>(line: Option<usize>, id: &str, sink: &mut W) -> Result<(), 
     put_line(line, &pieces, sink)
 }
 
-/// Prints the note about a request that was accepted earlier to the error output. Returns 0, or 3 if the error output fails.
+/// Prints to the error output the note about a request that was accepted earlier. Returns 0, or 3 if the error output fails.
 fn tell_note<E: Sink>(line: Option<usize>, id: &str, err: &mut E) -> u8
     requires { E.failed err.old < 2 ^ 64 - 1 }
     ensures { IsErrorTold E.taken E.failed err.old err.new (line_front line ++ note_line id.now) 0 result }
@@ -470,8 +470,8 @@ pub(crate) fn tell_script_fault<E: Sink>(fault: &ScriptFault, err: &mut E) -> u8
     }
 }
 
-/// Prints why the words aren't an order. Returns 0 for help, which is printed to the output; 2 for a text on the error output;
-/// and 3 if an allocation failed or either output fails. In the last case only a prefix was written to that output.
+/// Prints why the words aren't an order. Returns 0 for help, which is printed to the output; 2 for text that is printed to the
+/// error output; and 3 if an allocation failed or either output fails. In the last case only a prefix was written to that output.
 pub fn tell_words<O: Sink, E: Sink>(fault: &WordsFault, out: &mut O, err: &mut E) -> u8
     requires out { O.failed out.old < 2 ^ 64 - 1 }
     requires err { E.failed err.old < 2 ^ 64 - 1 }

@@ -48,7 +48,7 @@ pub(crate) enum Heading {
     Election,
     /// The orders for the office alone, which are listed at the end of the help.
     Office,
-    /// The orders that anyone can use to check a result, which are also listed there.
+    /// The orders that anyone can use to check a result, which are also listed at the end of the help.
     Everyone,
 }
 

@@ -36,9 +36,9 @@ pub enum Question {
     Wards,
     /// The status of each batch in a ward.
     Batches { ward: u32 },
-    /// Which papers of a ward are doubtful.
+    /// The doubtful papers in a ward.
     Doubtful { ward: u32 },
-    /// On which papers of a batch the keyings differ.
+    /// The papers on which a batch's keyings differ.
     Differences { batch: u32 },
     /// How each paper in a batch counts.
     Papers { batch: u32 },
@@ -125,7 +125,7 @@ impl<'a> Errand<'a> {
     }
 }
 
-/// What is done in an office once it is open.
+/// A job that is done in an open office.
 #[derive(Debug, Drop)]
 pub enum Job<'a> {
     /// Run this errand.

@@ -212,7 +212,7 @@ impl Lined for BatchOverview {
 // ---- differences, and receipts
 
 #[tactic(auto, unfolding(crate::specs::Overviews::differences_line))]
-/// Returns the line that says on which papers of a batch the keyings differ.
+/// Returns the line that lists the papers on which a batch's keyings differ.
 fn differences_line(alloc: Global, found: &Differences) -> Result<String, AllocError>
     ensures { IfOk result (λ text. string_bytes text ≡ differences_line (differences_view found.now)) }
 {
@@ -280,7 +280,7 @@ fn outcome_of<T: Lined + Drop>(alloc: Global, found: Result<Vec<T>, ReadError>) 
     }
 }
 
-/// Returns a line that says on which papers of a batch the keyings differ, or the reason why there is none.
+/// Returns a line that lists the papers on which a batch's keyings differ, or the reason why there is none.
 fn differences_of<S: Alter>(alloc: Global, office: &mut Office<S>, batch: u32) -> LineOutcome
     ensures found { WhenOpenAt (state S.Store) office.old office.new
         (λ s. IsAskedOf s (Question.Differences batch) (page_of result) office.new.closed (state S.Store office.old.held) (state S.Store office.new.held)) }

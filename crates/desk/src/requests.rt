@@ -63,7 +63,7 @@ fn id_at(alloc: Global, id: &str, number: usize) -> Result<String, AllocError>
     format!(in alloc; "{id}-{number}")
 }
 
-/// A row of an import file. Each row is sent as one request of the office.
+/// A row of an import file. Each row is sent as one request from the office.
 pub(crate) trait ImportRow: Drop {
     ghost use Rattle.desk.specs.Orders.{Asked};
 

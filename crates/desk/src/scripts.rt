@@ -188,7 +188,7 @@ fn errand_in<'a>(alloc: Global, words: &'a [&'a str]) -> Result<Errand<'a>, Opti
     }
 }
 
-/// Returns the step of a line, or what is wrong with it.
+/// Returns the step that a line means, or what is wrong with the line.
 fn turn_in<'a, 'b>(alloc: Global, said: &'a TypedLine<'b>) -> Result<ScriptStep<'a>, ScriptFault>
     ensures ok { IfOk result (λ turn. IsStep (typed_line_entry said.entry.now) turn) }
     ensures err { IfErr result (λ fault. IsFaultOfLine (typed_line_entry said.entry.now) fault) }

@@ -55,7 +55,7 @@ module _ {Row : Type 0} (format : Format Row) where
       })
 
   module _ {R : Type 0} (rem : R → Option (List ℕ)) (bytes : Option (List ℕ)) (number : ℕ) (rows : List Row) (a : Reader R) (st : StandsAt rem bytes format number rows a) where
-    -- reading was stopped
+    -- reading stopped
     pub stands-stopped : (fault : FileFault) → fault.record_number ≡ number → is_stop fault.flaw ≡ true → Told format bytes fault
     stands-stopped fault at stop =
         known-map bytes (λ xs (starts : Begins xs st.records). stopped_at xs st.records rows fault starts (at ∙ sym st.count) st.read stop) (after-begins rem a bytes st.records st.after)
@@ -113,7 +113,7 @@ module _ {Row : Type 0} (format : Format Row) where
   -- ---- the header
 
   module _ {R : Type 0} (rem : R → Option (List ℕ)) (bytes : Option (List ℕ)) where
-    -- reading was stopped at the header, and there is no faulty record before it
+    -- reading stopped at the header, and there is no faulty record before it
     pub header-stopped : (fault : FileFault) → fault.record_number ≡ 0 → is_stop fault.flaw ≡ true → Told format bytes fault
     header-stopped fault at stop = by_bytes bytes
       where

@@ -34,7 +34,7 @@ is_batch_header other = false
 abbrev pub batch_header_flaw : Record → Option Flaw
 batch_header_flaw fields = if is_batch_header fields then None else Some Header
 
--- the result of reading with a number, if there is one
+-- the result of continuing with a number, if there is one; otherwise the flaw `Number`
 abbrev pub numbered_by : {Row : Type 0} → Option ℕ → (ℕ → Result Row Flaw) → Result Row Flaw
 numbered_by None read = Err Number
 numbered_by (Some number) read = read number

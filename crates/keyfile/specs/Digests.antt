@@ -15,7 +15,7 @@ use Rattle.keyfile.specs.declared.fault.Flaw.TheVariants.{OtherFile}
 abbrev pub digest_bytes : FileDigest → List ℕ
 digest_bytes digest = digest.bytes
 
--- the digest that is given, if any
+-- the given digest, if any
 abbrev pub asked_digest : Option FileDigest → Option (List ℕ)
 asked_digest digest = option_map digest_bytes digest
 
@@ -30,7 +30,7 @@ IsReadAs None told P = Known told P
 IsReadAs (Some digest) told P = (bytes : List ℕ) × (sha256 bytes ≡ digest) × Known told (λ own. own ≡ bytes) × P bytes
 
 -- What may be reported for a file with the given bytes. If a digest is given and the bytes have a different one, that is reported; otherwise, whatever is reported
--- for any file. Either way, the report may instead be that reading was stopped.
+-- for any file. Either way, the report may instead be that reading stopped.
 abbrev pub IsFaultBy : {Row : Type 0} → Option (List ℕ) → Format Row → List ℕ → FileFault → Type 0
 IsFaultBy None format bytes fault = IsFaultOf format (file_records bytes) fault
 IsFaultBy (Some digest) format bytes fault =

@@ -1,4 +1,4 @@
--- The file of a keying.
+-- The file with a keying.
 use Rattle.std.specs.Prelude.{◌≡◌, ◌≤◌, ℕ, Bool, true, false, ◌&&◌, ◌||◌, ◌==◌, if◌then◌else◌, List, [], ◌∷◌, length, Option, Some, None, Result, Ok, Err, codes, bytes_eq}
 use Rattle.std.specs.List.{list_all, list_any, join_with_byte}
 use Rattle.keyfile.specs.Headers.{first_field_flaw}
@@ -72,7 +72,7 @@ paper_in k (paper ∷ marks) = of_number k (plain_number_in paper) marks
 abbrev pub most_papers : ℕ
 most_papers = 500
 
--- the format of the file of a clerk's keying of a batch whose papers have the given columns; the file contains at most the papers of one batch
+-- the format of the file with a clerk's keying of a batch whose papers have the given columns; the file contains at most the papers of one batch
 abbrev pub keying : List ℕ → ℕ → ℕ → Format (List ℕ)
 keying columns batch clerk = record { header_flaw = keying_header_flaw columns batch clerk; most = most_papers; read = paper_in }
 
@@ -81,7 +81,7 @@ abbrev pub plain_header_flaw : List ℕ → Record → Option Flaw
 plain_header_flaw columns [] = Some Header
 plain_header_flaw columns (first ∷ fields) = if bytes_eq first (codes "paper") && are_columns fields columns then None else Some Header
 
--- the format of the file of a keying whose header names neither a batch nor a clerk
+-- the format of the file with a keying whose header names neither a batch nor a clerk
 abbrev pub plain_keying : List ℕ → Format (List ℕ)
 plain_keying columns = record { header_flaw = plain_header_flaw columns; most = most_papers; read = paper_in }
 

@@ -1,4 +1,4 @@
-//! The file of a clerk's keying of a batch: a header of `paper` and the candidates' numbers, followed by the papers.
+//! The file with a clerk's keying of a batch: a header of `paper` and the candidates' numbers, followed by the papers.
 
 ghost use Rattle.std.specs.Prelude.{◌≡◌, false, ◌++◌, ◌==◌, List, ℕ, length, map, IfOk, IfErr, OnOk, Ok, Err, string_bytes};
 ghost use Rattle.std.specs.List.{join_with_byte, list_all, list_any};
@@ -53,7 +53,7 @@ pub fn read_keying<R: Read + Drop>(
     read_file(alloc, r, digest, &format)
 }
 
-/// The format of the file of a clerk's keying of a batch.
+/// The format of the file with a clerk's keying of a batch.
 #[derive(Drop)]
 pub(crate) struct KeyingFormat {
     pub(crate) columns: Columns,

@@ -40,7 +40,7 @@ pub fn read_keying<R: Read + Drop>(
     read_file(alloc, r, None, &PlainFormat { columns })
 }
 
-/// The format of the file of a keying whose header names neither its batch nor its clerk.
+/// The format of the file with a keying whose header names neither its batch nor its clerk.
 #[derive(Drop)]
 struct PlainFormat {
     columns: Columns,

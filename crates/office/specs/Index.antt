@@ -23,7 +23,7 @@ abbrev pub is_among_elected : Option (List ℕ) → CandidateEntry → Bool
 is_among_elected None c = false
 is_among_elected (Some elected) c = list_any (nat_eq c.number) elected
 
--- the entry of a ward in the list, with the numbers and names of the elected candidates once the ward is declared
+-- a ward's entry in the list, with the numbers and names of the elected candidates once the ward is declared
 abbrev pub listed_shown : WardView → ListedEntry
 listed_shown v = record {
   number = v.ward.number;

@@ -1,4 +1,4 @@
--- The texts of a ward for the public, as functions of the state.
+-- A ward's public texts, as functions of the state.
 use Rattle.std.specs.Prelude.{◌≡◌, ◌≤◌, ◌⊎◌, ⊤, ℕ, Bool, false, true, if◌then◌else◌, List, [], map, length, reverse, Option, Some, None, Result, Ok, Err}
 use Rattle.std.specs.List.{list_all}
 use Rattle.votes.specs.Units.{max_seats, max_papers}

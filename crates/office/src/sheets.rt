@@ -1,4 +1,4 @@
-//! The texts of a ward for the public, generated from its election.
+//! A ward's public texts, generated from its election.
 
 ghost use Rattle.std.specs.Prelude.{◌≡◌, [], true, map, Some, IfOk, IfSome, IsSome, string_bytes};
 ghost use Rattle.std.specs.List.{list_all};
@@ -47,7 +47,7 @@ pub enum WardText<'a> {
 }
 
 impl<'a> WardText<'a> {
-    /// Returns true if the text may be printed in a phase.
+    /// Returns true if the text may be printed in the given phase.
     pub(crate) fn is_printable_in(self, phase: Phase) -> bool
         ensures is { result ≡ is_printable_in self.entry phase }
         ensures counted { result ≡ true → is_counted phase ≡ true }

@@ -71,7 +71,7 @@ abbrev pub behind_length : ℕ → ℕ → DecoderState
 behind_length kind zero = at_kind
 behind_length kind (suc n) = in_bytes kind (suc n)
 
--- the first byte of the end, which is its status, is followed by bytes of the error output
+-- the first byte of the end is its status, and is followed by bytes of the error output
 abbrev pub behind_first : ℕ → ℕ
 behind_first kind = if kind == 2 then 3 else kind
 
