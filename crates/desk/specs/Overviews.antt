@@ -28,7 +28,7 @@ seats_words v = codes "ward " ++ (decimal v.ward.number ++ (codes " " ++ (phase_
 unfoldable pub untaken_words : WardView → Text
 untaken_words v = decimal v.status.candidates ++ (codes " candidates, " ++ (decimal v.status.batches ++ (codes " batches, " ++ (decimal (v.status.batches - v.status.taken) ++ codes " not taken"))))
 
--- how many batches differ, how many doubtful papers are open, and how many stages are counted
+-- how many batches differ, how many doubtful papers are open, and how many stages have been counted
 unfoldable pub open_words : WardView → Text
 open_words v = decimal v.status.differing ++ (codes " differing, " ++ (decimal v.status.doubtful_open ++ (codes " doubtful open, " ++ (decimal v.status.stages ++ codes " stages"))))
 

@@ -76,7 +76,7 @@ keyings_for k (Err fault) = Err fault
 abbrev pub HoldsRequests : {Row : Type 0} → Format Row → (Result (List Row) FileFault → Result (List Sent) FileFault) → Option (List ℕ) → File → List Request → Type 0
 HoldsRequests format sent digest file requests = IsReadFrom digest file (λ bytes. sent (file_rows format (file_records bytes)) ≡ Ok (map sent_as requests))
 
--- the file with a clerk's keying of a batch contains the given requests, given the columns of the batch, or the reason why it has none
+-- the file with a clerk's keying of a batch contains the given requests; the first argument is the batch's columns, or the reason why it has none
 abbrev pub HoldsKeying : Result (List ℕ) Reason → KeyingFile → File → List Request → Type 0
 HoldsKeying (Ok columns) k file requests = HoldsRequests (keying columns k.batch k.clerk) (keyings_for k) (asked_digest k.digest) file requests
 HoldsKeying (Err why) k file requests = ⊥

@@ -21,7 +21,7 @@ ward_words s = codes "ward " ++ (decimal s.ward ++ (codes " " ++ (phase_word s.p
 unfoldable pub batch_words : StatusEntry → Text
 batch_words s = decimal s.batches ++ (codes " batches, " ++ (decimal s.taken ++ (codes " taken, " ++ (decimal s.differing ++ codes " differing"))))
 
--- how many doubtful papers are open, and how many stages are counted
+-- how many doubtful papers are open, and how many stages have been counted
 unfoldable pub count_words : StatusEntry → Text
 count_words s = decimal s.doubtful_open ++ (codes " doubtful open, " ++ (decimal s.stages ++ codes " stages"))
 

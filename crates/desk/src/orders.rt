@@ -88,7 +88,7 @@ pub enum Errand<'a> {
         ward: u32,
         text: WardText<'a>,
     },
-    /// Print the page of all wards, with this title.
+    /// Print the page listing all wards, with this title.
     PrintIndex {
         title: &'a str,
     },

@@ -95,7 +95,7 @@ fn untaken_words(alloc: Global, overview: &WardOverview) -> Result<String, Alloc
 }
 
 #[tactic(auto, unfolding(crate::specs::Overviews::open_words))]
-/// Returns how many batches differ, how many doubtful papers are open, and how many stages are counted.
+/// Returns how many batches differ, how many doubtful papers are open, and how many stages have been counted.
 fn open_words(alloc: Global, overview: &WardOverview) -> Result<String, AllocError>
     ensures { IfOk result (λ text. string_bytes text ≡ open_words (ward_view overview.now)) }
 {

@@ -48,7 +48,7 @@ fn batch_words(alloc: Global, status: &Status) -> Result<String, AllocError>
 }
 
 #[tactic(auto, unfolding(crate::specs::WardStatus::count_words))]
-/// Returns how many doubtful papers are open, and how many stages are counted.
+/// Returns how many doubtful papers are open, and how many stages have been counted.
 fn count_words(alloc: Global, status: &Status) -> Result<String, AllocError>
     ensures { IfOk result (λ text. string_bytes text ≡ count_words (status_entry status.now)) }
 {

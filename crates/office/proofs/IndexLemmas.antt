@@ -1,4 +1,4 @@
--- The answer to a request for the page of all wards, given the overviews found.
+-- The answer to a request for the page listing all wards, given the overviews found.
 use Rattle.std.proofs.Common.{◌≡◌, inl, ℕ, Bool, false, List, map, Result, Ok, Err, IfOk, IfErr, OnOk, String, Vec, string_bytes, refl, sym, ap, ◌∙◌}
 use Rattle.std.specs.declared.alloc.Global.{Global}
 use Rattle.sqlite.specs.State.{State}

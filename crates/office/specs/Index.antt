@@ -1,4 +1,4 @@
--- The page of all wards, for a state.
+-- The page listing all wards in a given state.
 use Rattle.std.specs.Prelude.{ℕ, Bool, false, nat_eq, List, map, Option, Some, None, Result, Ok}
 use Rattle.std.specs.List.{filter, list_any}
 use Rattle.sheet.specs.Index.{ListedEntry, index}
@@ -33,7 +33,7 @@ listed_shown v = record {
   elected = map candidate_shown (filter (is_among_elected v.elected) v.candidates);
 }
 
--- the page of all wards in numerical order, with the given title
+-- the page listing all wards in numerical order, with the given title
 abbrev pub index_of : List ℕ → OfficeState → List ℕ
 index_of title s = index title (map listed_shown (ward_views s))
 

@@ -60,7 +60,7 @@ pub record IsTextual (e : ElectionEntry) : Type 0 where
   pub ascending : IsCandidateSet (map (λ c. c.number) e.candidates)
   pub counted : CanBeCounted e
 
--- the stage sheet: the stages that are done, in order
+-- the stage sheet: the stages done so far, in order
 abbrev pub sheet_of : ElectionEntry → List ℕ
 sheet_of e = sheet (election_shown e) (reverse (stages_of e))
 
@@ -68,7 +68,7 @@ sheet_of e = sheet (election_shown e) (reverse (stages_of e))
 abbrev pub declaration_of : ElectionEntry → List ℕ
 declaration_of e = declaration (election_shown e) (elected_of e)
 
--- the stages of a contested ward that are done, in order
+-- the stages done so far in a contested ward's count, in order
 abbrev pub stages_shown : ElectionEntry → List Stage
 stages_shown e = if has_count e then reverse (stages_of e) else []
 

@@ -1,4 +1,4 @@
-//! The page of all wards, generated from their overviews.
+//! The page listing all wards, generated from their overviews.
 #![tactic(auto, using(crate::proofs::StopLemmas::stops_of_memory))]
 
 ghost use Rattle.std.specs.Prelude.{◌≡◌, false, true, nat_eq, map, IfOk, IfErr, OnOk, Err, string_bytes};
@@ -99,7 +99,7 @@ fn all_listed(alloc: Global, overviews: &[WardOverview]) -> Result<Vec<ListedWar
     Ok(wards)
 }
 
-/// Returns the page of all wards for the given overviews.
+/// Returns the page listing all wards, given their overviews.
 fn index_over(alloc: Global, title: &str, overviews: &[WardOverview]) -> Result<String, AllocError>
     ensures { IfOk result (λ text. string_bytes text ≡ index title.now (map listed_shown (map ward_view overviews.now))) }
 {
@@ -108,7 +108,7 @@ fn index_over(alloc: Global, title: &str, overviews: &[WardOverview]) -> Result<
 }
 
 impl<S: Alter> Office<S> {
-    /// Returns the page of all wards for the given overviews. Fails only if an allocation fails, which leaves the
+    /// Returns the page listing all wards, given their overviews. Fails only if an allocation fails, which leaves the
     /// office open.
     fn index_of(&mut self, title: &str, overviews: &[WardOverview]) -> Result<String, ReadError>
         ensures told { IfOk result (λ text. string_bytes text ≡ index title.now (map listed_shown (map ward_view overviews.now))) }
@@ -122,8 +122,8 @@ impl<S: Alter> Office<S> {
         }
     }
 
-    /// Returns the page of all wards, to be displayed in public. It shows the standing of each ward and, once the ward
-    /// is declared, who is elected. An empty title is left out.
+    /// Returns the page listing all wards, to be displayed in public. It shows the standing of each ward and, once the
+    /// ward is declared, who is elected. An empty title is left out.
     ///
     /// Nothing is changed. After `Memory` the office stays open; any other fault closes it. A closed office returns
     /// `Closed`.

@@ -190,7 +190,7 @@ impl<S: Alter> Office<S> {
         read!(self, true => load_differs_from_stored(request))
     }
 
-    /// Returns a ward's stage sheet: its papers and the stages that are done, but no later ones. For an
+    /// Returns a ward's stage sheet: its papers and the stages done so far, but no later ones. For an
     /// uncontested ward it shows the seats.
     ///
     /// Refused if the ward number is outside 1 to 99, there is no such ward, or the ward isn't sealed yet. Nothing is
@@ -205,8 +205,8 @@ impl<S: Alter> Office<S> {
         self.text(ward, WardText::Sheet)
     }
 
-    /// Returns one of a ward's texts, generated from the contents of its stage sheet: its papers and the stages that
-    /// are done, but no later ones. For an uncontested ward, the ballots contain its seats and candidates.
+    /// Returns one of a ward's texts, generated from the contents of its stage sheet: its papers and the stages done so
+    /// far, but no later ones. For an uncontested ward, the ballots contain its seats and candidates.
     ///
     /// Refused if the ward number is outside 1 to 99, there is no such ward, or the text isn't available yet: the
     /// declaration is available once the ward is declared, and any other text once it is sealed. Nothing is changed.

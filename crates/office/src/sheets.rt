@@ -136,7 +136,7 @@ fn ward_of<'a>(
     Some(ward)
 }
 
-/// Returns the stages of a ward's count that are done; an uncontested ward has none.
+/// Returns the stages done so far in a ward's count; an uncontested ward has none.
 fn stages_of(counted: &CountedWard) -> &[Stage]
     ensures { (e : ElectionEntry) → IsCountedWard e counted.now → is_counted e.ward.phase ≡ true → result.now ≡ stages_shown e }
 {
@@ -201,7 +201,7 @@ fn write_text(
     }
 }
 
-/// Returns one of a ward's texts, generated from the stages that are done. Returns `None` if the text can't be written,
+/// Returns one of a ward's texts, generated from the stages done so far. Returns `None` if the text can't be written,
 /// which never happens for an office. Fails with `AllocError` if an allocation fails.
 pub(crate) fn text_of(
     alloc: Global,
