@@ -32,7 +32,7 @@ took xs i x within is = take_more xs i x within ∙ ap (λ y. take i xs ++ y ∷
 rejoined : {X : Type 0} (xs : List X) (i : ℕ) (x : X) → i < length xs → x ≡ get_or xs i x → take i xs ++ x ∷ drop (i + 1) xs ≡ xs
 rejoined xs i x within is = ap (λ ys. take i xs ++ ys) (sym (next_left xs i x within is)) ∙ take-append-drop i xs
 
--- from the length on, the first i elements are the whole list
+-- if i is at least the length of the list, the first i elements are the whole list
 all_taken : {X : Type 0} (xs : List X) (i : ℕ) → length xs ≤ i → take i xs ++ [] ≡ xs
 all_taken xs i all = ap (λ ys. take i xs ++ ys) (sym (drop_all i xs all)) ∙ take-append-drop i xs
 
