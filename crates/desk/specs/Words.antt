@@ -80,7 +80,7 @@ rule_of_kind kind.Papers = number_option_rule any_number
 rule_of_kind kind.Texts = texts_rule
 rule_of_kind kind.Flag = flag_rule
 
--- a command, with these words added
+-- a command, with the given words added
 abbrev pub with_words : App → List WordEntry → App
 with_words app [] = app
 with_words app (w ∷ ws) = with_words (with_rule app (rule_of_kind w.kind w.name)) ws
@@ -89,7 +89,7 @@ with_words app (w ∷ ws) = with_words (with_rule app (rule_of_kind w.kind w.nam
 abbrev pub order_words : OrderWords → App
 order_words e = with_words (new_app e.name) e.words
 
--- a command, with these orders added
+-- a command, with the given orders added
 abbrev pub with_orders : App → List OrderWords → App
 with_orders app [] = app
 with_orders app (e ∷ es) = with_orders (with_subcommand app (order_words e).top) es
@@ -154,7 +154,7 @@ digested_by None means = means None
 digested_by (Some None) means = no_digest
 digested_by (Some (Some digest)) means = means (Some digest)
 
--- what the matched value of a word means
+-- what the word's matched value means
 abbrev pub with_value : (k : Kind) → List Row → Text → (WordValue k → Meant) → Meant
 with_value kind.Number rows name means = means (number_at name rows)
 with_value kind.NumberOrNone rows name means = means (number_found name rows)
@@ -171,12 +171,12 @@ with_value kind.Papers rows name means = means (number_found name rows)
 with_value kind.Texts rows name means = means (texts_at name rows)
 with_value kind.Flag rows name means = means (flag_at name rows)
 
--- what the matched values of some words mean
+-- what the matched values of the given words mean
 abbrev pub with_values : List Row → (words : List WordEntry) → OfWords words Meant → Meant
 with_values rows [] means = means
 with_values rows (w ∷ ws) means = with_value w.kind rows w.name (λ value. with_values rows ws (means value))
 
--- what the matches mean for the order with a name
+-- what the matches mean for the order with the given name
 abbrev pub meaning_of : Text → List Row → Option Meant
 meaning_of name rows = option_map (λ e. with_values rows e.typed.words e.means) (find (λ e. bytes_eq name e.typed.name) orders)
 
@@ -185,15 +185,15 @@ abbrev pub meaning : Option (Text × List Row) → Option Meant
 meaning None = None
 meaning (Some found) = meaning_of found.0 found.1
 
--- the office sends a command under the id that was matched
+-- the office sends a command under the matched id
 abbrev pub sent : List Row → Command → Meant
 sent rows command = send (by_office (text_at (codes "id") rows) (asked_by command))
 
--- whether the name is that of an order
+-- whether an order has the given name
 abbrev pub is_order_name : Text → Bool
 is_order_name name = list_any (λ e. bytes_eq name e.typed.name) orders
 
--- whether the name is that of an order that sends a command
+-- whether an order that sends a command has the given name
 abbrev pub is_command_name : Text → Bool
 is_command_name name = list_any (λ e. e.is_command && bytes_eq name e.typed.name) orders
 
@@ -249,7 +249,7 @@ bad_title = codes "error: --title is the title of what is shown in public, so it
 abbrev pub IsOwnText : Option Text → Text → Type 0
 IsOwnText own text = IfSome own (λ bytes. bytes ≢ [] → text ≡ bytes)
 
--- what is printed for a refusal of this kind: a nonempty text, with the status for the kind; or that an allocation failed
+-- what is printed for a refusal of the given kind: a nonempty text, with the status for the kind; or that an allocation failed
 abbrev pub TellsRefusal : ErrorKind → WordsFault → Type 0
 TellsRefusal kind words_fault.Memory = ⊤
 TellsRefusal kind words_fault.Verdict = ⊥
@@ -258,7 +258,7 @@ TellsRefusal kind words_fault.Digest = ⊥
 TellsRefusal kind words_fault.TitleAlone = ⊥
 TellsRefusal kind (words_fault.Words text status) = (kind ≢ OutOfMemory) × (status ≡ status_of_kind kind) × (string_bytes text ≢ [])
 
--- the printed text is this one, if it is known and not empty
+-- the printed text is the given one, if that is known and not empty
 abbrev pub TellsOwnText : Option Text → WordsFault → Type 0
 TellsOwnText own words_fault.Memory = ⊤
 TellsOwnText own words_fault.Verdict = ⊥
