@@ -18,14 +18,14 @@ use Rattle.wire.specs.Targets.{Taken}
 
 -- ---- what a parameter matches
 
--- a position in a pattern, and one in a path
+-- a position in a pattern, and a position in a path
 abbrev place_at : ℕ → ℕ → ℕ × ℕ
 place_at token at = (token, at)
 
 same-place : (a b c d : ℕ) → a ≡ c → b ≡ d → place_at a b ≡ place_at c d
 same-place a b c d one two = ap (λ x. place_at x b) one ∙ ap (λ y. place_at c y) two
 
--- a name and its value, in front of others
+-- a name and its value, prepended to others
 abbrev pub with_taken : List ℕ → List ℕ → Taken → Taken
 with_taken name part others = (name, part) ∷ others
 

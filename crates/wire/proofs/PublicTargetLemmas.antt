@@ -47,7 +47,7 @@ declaration-routed part n own = rw (no-page part (codes "/result") n own refl re
 
 -- ---- and no other target does
 
--- what a comparison with a text shows: the target is this text, and names this thing
+-- what a successful comparison with a text shows: the target is this text, and names what it should
 same-text : (text word target : List ℕ) (one what : PublicTarget) → (text ≡ word → IsPublicTarget one target) → bytes_eq text word ≡ true → Some one ≡ Some what → IsPublicTarget what target
 same-text text word target one what own same named =
     let is : one ≡ what = cc in

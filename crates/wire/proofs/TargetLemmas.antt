@@ -17,7 +17,7 @@ use Rattle.wire.specs.declared.target.RouteTarget.{RouteTarget}
 
 -- ---- the route found is the route of one of the rows
 
--- the route of each row satisfies this
+-- the route of each row satisfies the given predicate
 abbrev pub AllRoutes : {K : Type 0} → (K → Type 0) → RowsOf K → Type 0
 AllRoutes P [] = ⊤
 AllRoutes P ((t, key) ∷ others) = P key × AllRoutes P others
@@ -107,7 +107,7 @@ taken-text target route own_target found =
     let text : HasAsciiText route = subst (λ o. IfSome o HasAsciiText) found (seek-kind HasAsciiText 0 office_routes target office_routes-ascii) in
     walk-text route.pattern route.text target route.names 0 0 (IsAscii-told route.text text) own_target
 
--- what a target names by the route that was found
+-- what a target names according to the route that was found
 pub routed_by-found : (target : List ℕ) (route : RouteOf RouteTarget) → IsAscii target → first office_routes target ≡ Some route
     → routed_by target ≡ named_at route.value (walk route.pattern route.text target route.names 0 0)
 routed_by-found target route own_target found = rw (ascii_told target own_target, found) refl

@@ -65,7 +65,7 @@ clerk_data clerk work = object (member (codes "clerk") (number_data clerk) (memb
 abbrev pub work_body : ℕ → List WorkEntry → List ℕ
 work_body clerk work = compact_text (clerk_data clerk work)
 
--- a candidate of a ballot paper
+-- a candidate on a ballot paper
 abbrev pub candidate_data : CandidateEntry → Data
 candidate_data c = object (member (codes "candidate") (number_data c.number) (member (codes "name") (string c.name) no_members))
 

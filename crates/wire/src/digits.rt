@@ -45,7 +45,7 @@ pub(crate) fn number_in(text: &str) -> Option<u32>
     text.parse().ok()
 }
 
-/// Parses such a number from bytes.
+/// Parses a number of that form from bytes.
 pub(crate) fn number_of(text: &[u8]) -> Option<u32>
     ensures { result ≡ number_in text.now }
 {

@@ -22,7 +22,7 @@ fn differences_value(alloc: Global, batch: u32, found: &Differences) -> Result<V
     json!(in alloc; {"batch": batch, "papers": papers, "round": found.batch.round})
 }
 
-/// Returns the response with these papers, or with the refusal or fault.
+/// Returns the response with the papers that differ, or with the refusal or fault.
 pub(crate) fn answer_differences(
     alloc: Global,
     batch: u32,
