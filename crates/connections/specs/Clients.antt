@@ -20,7 +20,7 @@ use Rattle.connections.specs.declared.vec_sink.VecSink.{VecSink}
 abbrev pub chunk : ℕ
 chunk = 16384
 
--- If receiving fails, there is a cause: a call of the stream failed, or the buffer was full and couldn't grow. Otherwise no call failed.
+-- If receiving fails, there is a cause: a call on the stream failed, or the buffer was full and couldn't grow. Otherwise no call failed.
 abbrev pub IsCaused : {A : Type 0} → Result A ReceiveError → Option ℕ → Option ℕ → Type 0 → Type 0
 IsCaused (Ok value) old new full = new ≡ old
 IsCaused (Err lost.Stream) old new full = new ≡ one_more old

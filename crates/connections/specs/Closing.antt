@@ -17,7 +17,7 @@ use Rattle.connections.specs.declared.connection_table.ConnectionTable.{Connecti
 abbrev pub IsSentWhole : {L : Type 0} → Client L → Type 0
 IsSentWhole client = IsSomeAnd client.answer (λ answer. length answer.bytes.items ≤ answer.sent)
 
--- When a connection may be closed for a reason: as done, if its whole response was sent; as broken, if a call of its stream failed.
+-- When a connection may be closed for a reason: as done, if its whole response was sent; as broken, if a call on its stream failed.
 abbrev pub MayBeClosed : {L : Type 0} → Stream L → CloseReason → Client L → Type 0
 MayBeClosed stream Done client = IsSentWhole client
 MayBeClosed stream Broken client = HasFailed (stream.failed client.stream)
@@ -26,7 +26,7 @@ MayBeClosed stream TimedOut client = ⊤
 MayBeClosed stream Evicted client = ⊤
 MayBeClosed stream Closing client = ⊤
 
--- Why a connection that was just read or written is closed: its whole response was sent; or a call of its stream failed; or it has no response yet, and its request
+-- Why a connection that was just read or written is closed: its whole response was sent; or a call on its stream failed; or it has no response yet, and its request
 -- can't be received.
 abbrev pub EndsFor : {L : Type 0} → Stream L → CloseReason → Client L → Type 0
 EndsFor stream Done client = IsSentWhole client
