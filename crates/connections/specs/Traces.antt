@@ -47,7 +47,7 @@ IsMomentOf true None moment = ⊥
 IsMomentOf false (Some now) moment = ⊥
 IsMomentOf false None moment = moment ≡ 0
 
--- The response is unchanged. Or there was none, the request was processed, and the connection now has this response.
+-- The response is unchanged. Or there was none, the request was processed, and the connection now has the given response.
 abbrev pub HadResponses : {L : Type 0} → Bool → Option ℕ → List ResponseAt → Client L → Client L → Type 0
 HadResponses gated gate [] old new = response_of new ≡ response_of old
 HadResponses gated gate (turn ∷ []) old new = (turn.number ≡ old.number) × (old.answer ≡ None) × (response_of new ≡ Some turn.answer) × IsMomentOf gated gate turn.moment

@@ -160,7 +160,7 @@ impl<L: Stream> ConnectionTable<L> {
         self.clients.remove(place)
     }
 
-    /// Puts a connection back in the place from which it was removed.
+    /// Puts a connection back in the place that it was removed from.
     pub fn put_back_at(&mut self, place: usize, client: Client<L>)
         requires within { place ≤ length self.old.clients.items }
         requires place { length self.old.clients.items < most_clients }

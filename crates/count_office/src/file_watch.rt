@@ -90,8 +90,8 @@ impl<'a> FileWatch<'a> {
         self.found.database()
     }
 
-    /// Returns whether both files are still at their paths, are the same, and haven't been truncated since the last check. The
-    /// first time that this isn't so, prints a line to the error output.
+    /// Returns whether both files are still at their paths, are the same files, and haven't been truncated since the last
+    /// check. The first time that this isn't so, prints a line to the error output.
     pub fn is_whole(&self, rt: &HostRuntime) -> bool {
         let is_whole = is_still_at(rt, self.found.database(), &self.database)
             && is_still_at(rt, self.found.log(), &self.log);

@@ -136,7 +136,7 @@ module _ {S : Type 0} (settings : ServerSettingsEntry) (state_of : Held S → St
         };
       }
 
-  -- the same for any request; the cache is empty afterwards
+  -- an allocation failed while a request was read; the cache is empty afterwards
   pub unread_served : (office : OfficeValue S) (kept later : MemoryEntry) (number moment : ℕ) (got answer : List ℕ) (head : Parsed) → IsParsed settings.clients got head → later.reads ≡ []
       → EndsIn answer (IsServed (IsWritten (fault_response 101)))
       → ServesAsked settings state_of (served_office office kept) (record { listener = Clients; number = number; moment = moment; got = got; answer = answer }) (served_office office later)

@@ -61,7 +61,7 @@ follows_asked {S} state_of old new files what before after status IsSent start s
   clean = clean;
 }
 
--- the same, sent in a different way
+-- the request was carried out, and its page was sent another way
 pub follows_sent : {S : Type 0} (state_of : Held S → State) (old new : OfficeValue S) (files : List MessagePartEntry) (what : ServedOrder) (IsSent IsSentToo : Cut → Page → Type 0)
     → ((cut : Cut) (page : Page) → IsSent cut page → IsSentToo cut page) → Follows state_of old files what IsSent new → Follows state_of old files what IsSentToo new
 follows_sent {S} state_of old new files what IsSent IsSentToo turns it = record {

@@ -477,7 +477,7 @@ module _ {L : Type 0} (settings : ServerSettingsEntry) (stream : Stream L) where
           (λ from. course_stays gated stream from table.clients.items place number old new went.gate (map response_at went.exchanges) within here his_number (listener, same) is
           (had_turns went.gate went.exchanges old new at behind went.had went.at_gate) before ready later named went.comes) out items came counted
 
-      -- the same if the clock failed
+      -- the connection is back in its place, and the clock failed
       pub serves_stops : (broken : Broken) (later : NetworkEntry L) (taken back : ConnectionTable L) → WasServiced gated settings stream state_of (Err broken) ready later old new at behind
           → taken.clients.items ≡ remove table.clients.items place → back.clients.items ≡ insert taken.clients.items place new → back.came ≡ table.came → back.counted ≡ table.counted
           → ServesFrom settings stream state_of before later table back at behind
@@ -579,7 +579,7 @@ module _ {L : Type 0} (settings : ServerSettingsEntry) (stream : Stream L) where
     sound_later before later old new at behind on (all_connections, exchanges, left, are) =
         let (to, it, trace) = on None in let (all, came, now) = it.goes_on.own all_connections exchanges left are in (all, exchanges ++ it.exchanges, left ++ it.goes_on.gone, now)
 
-    -- no connection is open any more, so each was handed back
+    -- no connection is still open, so each was handed back
     none_is_in : (k : ℕ) (clients : List (Client L)) → clients ≡ [] → IsOpenUnder clients k → ⊥
     none_is_in k clients none it = let some = it.within in let zero : length clients ≡ 0 = ap (λ (cs : List (Client L)). length cs) none in omega (arith, some, zero)
 

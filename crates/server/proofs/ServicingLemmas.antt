@@ -58,7 +58,7 @@ pub parsed_on : {L : Type 0} (stream : Stream L) (its : HttpSettingsEntry) (pars
     → ((more : List ℕ) → IsParsed its (before ++ more) parsed) → IsParsed its after parsed
 parsed_on stream its parsed old new before after receives lasts = subst (λ (xs : List ℕ). IsParsed its xs parsed) (sym receives.is) (lasts receives.more)
 
--- the same once there are as many bytes as a head may have
+-- the parsed head remains correct once there are as many bytes as a head may have
 pub lasts_for : (its : HttpSettingsEntry) (seen got : List ℕ) (parsed : Parsed) → seen ≡ got → (8192 ≤ length seen → (more : List ℕ) → IsParsed its (seen ++ more) parsed) → 8192 ≤ length got
     → (more : List ℕ) → IsParsed its (got ++ more) parsed
 lasts_for its seen got parsed same lasts full =
@@ -203,7 +203,7 @@ module _ {L : Type 0} (stream : Stream L) where
       } in
       (turn.exchange ∷ [], (belongs, refl), inr ((response_at turn.exchange, refl), shown))
 
-  -- the same, and then the clock failed
+  -- the connection's request was processed, and then the clock failed
   pub went_stopped : {S : Type 0} (settings : ServerSettingsEntry) (state_of : Held S → State) (now : ℕ) (serviced : Serviced) (broken : Failure)
       (old new : Client L) (at behind : ServedOffice S) (before later : NetworkEntry L)
       → Services settings stream state_of now serviced old new at behind → serviced ≡ Served → new.since ≡ old.since → later ≡ with_failure before

@@ -49,7 +49,7 @@ pub record IsAnsweredBySeen (settings : ServerSettingsEntry) (clerk : ℕ) (view
   pub denied : (why : RequestError) → Asks settings.clients exchange.got (denied why) → IsClientAnsweredAt settings view exchange []
   pub other : (IsUnder settings.clients clerk exchange.got → ⊥) → next ≡ view
 
--- An order that was handed over was carried out in a state of which the clerk has the given view; the next view is the clerk's view of the state after the order's requests.
+-- An order that was handed over was carried out in a state that the clerk sees as the given view; the next view is what the clerk sees after the order's requests.
 pub record IsFollowedBySeen {S : Type 0} (state_of : Held S → State) (settings : ServerSettingsEntry) (clerk : ℕ) (view : OfficeState) (exchange : Exchange) (next : OfficeState) : Type 0 where
   pub s : OfficeState
   pub seen : seen_by clerk s ≡ view
@@ -58,7 +58,7 @@ pub record IsFollowedBySeen {S : Type 0} (state_of : Held S → State) (settings
   pub tells : OrderPrints state_of settings s exchange.got exchange.answer sent last
   pub made : next ≡ seen_by clerk (after s sent)
 
--- the same for an order from the console, which a client sends
+-- an order from the console, which a client sends, was carried out in the same sense
 pub record IsConsoleBySeen {S : Type 0} (state_of : Held S → State) (settings : ServerSettingsEntry) (clerk : ℕ) (view : OfficeState) (exchange : Exchange) (next : OfficeState) : Type 0 where
   pub s : OfficeState
   pub seen : seen_by clerk s ≡ view
@@ -72,7 +72,7 @@ abbrev pub RespondsBySeen : {S : Type 0} → Listener → (Held S → State) →
 RespondsBySeen Clients state_of settings clerk view exchange next = IsAnsweredBySeen settings clerk view exchange next ⊎ IsConsoleBySeen state_of settings clerk view exchange next
 RespondsBySeen Orders state_of settings clerk view exchange next = IsFollowedBySeen state_of settings clerk view exchange next
 
--- A fault closed the office. The response to a client that sends no order is the fault, and the output of an order is its output in some state of which the clerk has
+-- A fault closed the office. The response to a client that sends no order is the fault, and the output of an order is its output in some state that the clerk sees as
 -- the given view.
 abbrev pub IsStoppedBySeen : {S : Type 0} → Listener → (Held S → State) → ServerSettingsEntry → ℕ → OfficeState → Exchange → Type 0
 IsStoppedBySeen Clients state_of settings clerk view exchange =
@@ -94,13 +94,13 @@ ClerksAreAnsweredAsSeen state_of =
     (settings : ServerSettingsEntry) (s : OfficeState) (exchanges : List Exchange) (answered last : List Request) → IsState s → AnswersInTurn state_of settings s exchanges answered last
     → (clerk : ℕ) → is_clerk clerk ≡ true → AnswersAsSeen state_of settings clerk (seen_by clerk s) exchanges
 
--- The same for requests to an office in which earlier requests have been processed, given what is kept of them.
+-- The same law for requests to an office that has already processed others, given what is kept of those.
 abbrev pub KeptAreAnsweredAsSeen : {S : Type 0} → (Held S → State) → Type 0
 KeptAreAnsweredAsSeen {S} state_of =
     (settings : ServerSettingsEntry) (earlier : List Request) (exchanges : List Exchange) (closed : Bool) (held : Held S) → KeepsExchanges state_of settings earlier exchanges closed (state_of held)
     → (clerk : ℕ) → is_clerk clerk ≡ true → AnswersAsSeen state_of settings clerk (seen_by clerk (after empty_office earlier)) exchanges
 
--- The same for a server, for any requests that it processed as promised.
+-- The same law for a server, for any requests that it has processed as promised.
 abbrev pub ServersAnswerAsSeen : {L S : Type 0} → Stream L → (Held S → State) → Type 0
 ServersAnswerAsSeen {L} {S} stream state_of =
     (settings : ServerSettingsEntry) (before later : NetworkEntry L) (most : Option ℕ) (old new : OfficeValue S) (result : Result (Unit {0}) ServeError)

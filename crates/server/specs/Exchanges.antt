@@ -1,4 +1,4 @@
--- The requests of clients and orders, processed in one office, one at a time, and what is kept of them.
+-- Requests from clients, and orders, processed in one office, one at a time, and what is kept of them.
 use Rattle.std.specs.Prelude.{◌≡◌, ◌⊎◌, ⊤, Bool, true, false, List, [], ◌∷◌, ◌++◌, Option, Some, length, ℕ}
 use Rattle.sqlite.specs.Held.{Held}
 use Rattle.sqlite.specs.State.{HasCleanDisk, State}
@@ -25,8 +25,8 @@ use Rattle.server.specs.ConsoleOrders.{FollowsConsole, IsConsoleTurnedAway, Cons
 use Rattle.server.specs.Reads.{AreReadAt, ServedOffice, limit_after, must_wait}
 use Rattle.server.specs.Settings.{ServerSettingsEntry}
 
--- A request of a client or an order, and its response: the listener that accepted the connection, the connection's number, the time at which the request was processed,
--- in milliseconds of a clock, the bytes received, and the response.
+-- A request from a client, or an order, and its response: the listener that accepted the connection, the connection's number, the time at which the request was
+-- processed, in milliseconds of a clock, the bytes received, and the response.
 pub record Exchange : Type 0 where
   pub listener : Listener
   pub number : ℕ
@@ -148,7 +148,7 @@ GetsClosedResponse Clients settings exchange =
     ⊎ IsConsoleTurnedAway settings exchange.got exchange.answer
 GetsClosedResponse Orders settings exchange = IsRefusedClosed settings exchange.got exchange.answer
 
--- the same for each of the given exchanges
+-- each of the given exchanges has such a response
 abbrev pub AreRefusedClosed : ServerSettingsEntry → List Exchange → Type 0
 AreRefusedClosed settings [] = ⊤
 AreRefusedClosed settings (exchange ∷ exchanges) = GetsClosedResponse exchange.listener settings exchange × AreRefusedClosed settings exchanges

@@ -19,7 +19,7 @@ pub record IsEnded {L : Type 0} (stream : Stream L) (said : List ℕ) (status : 
   pub is : said ≡ output_of answer.bytes.items
   pub end : (IsOver answer.bytes.items status [] × (error_output_of answer.bytes.items ≡ err)) ⊎ AreWhole answer.bytes.items
 
--- ---- the same, as a test
+-- ---- the conditions above, as a test
 
 -- the next byte is the kind byte of a frame
 abbrev pub is_at_kind : DecoderState → Bool

@@ -104,7 +104,7 @@ folder_of files path = Some (attached_at files path)
 
 -- ---- its output
 
--- two outputs to which nothing has been written yet
+-- two outputs that nothing has been written to yet
 abbrev pub untold : Outputs
 untold = record { out = Some []; out_failed = 0; err = Some []; err_failed = 0 }
 

@@ -47,7 +47,7 @@ pub record GoesOn {L : Type 0} (settings : ServerSettingsEntry) (stream : Stream
       → (all : List (ServedConnection L)) × (map (λ connection. connection.came) all ≡ map (λ connection. connection.came) all_connections ++ all_accepted)
       × AreOpen settings stream all (earlier ++ exchanges) (left ++ gone) new.came new.clients.items
 
--- the same, with an office that serves the exchanges
+-- the same, along with the office that serves the exchanges
 pub record GoesOnServing {L S : Type 0} (settings : ServerSettingsEntry) (stream : Stream L) (state_of : Held S → State) (before later : NetworkEntry L) (old new : ConnectionTable L)
     (at behind : ServedOffice S) : Type 0 where
   pub exchanges : List Exchange
@@ -111,7 +111,7 @@ IsEndedBy before later (Err ended.Network) = later.failed ≡ one_more before.fa
 IsEndedBy before later (Err ended.Memory) = (later.failed ≡ before.failed) × (later.came ≡ before.came)
 IsEndedBy before later (Err ended.Rounds) = (later.failed ≡ before.failed) × (later.waits ≡ option_map (λ n. n + (2 ^ 64 - 1)) before.waits)
 
--- Connections of clients and orders were accepted: no more clients than requested, and exactly as many if serving ended without a failure. What happened to each
+-- Connections from clients and for orders were accepted: no more clients than requested, and exactly as many if serving ended without a failure. What happened to each
 -- connection is as specified, and each was handed back, exactly once, with its stream in its final state. Their requests were processed one at a time, each in the
 -- office that the previous ones left. At first the cache was empty, and no wrong code had been sent. What is kept of the requests is as specified, too.
 pub record ServesConnections {L S : Type 0} (settings : ServerSettingsEntry) (stream : Stream L) (state_of : Held S → State) (before later : NetworkEntry L) (most : Option ℕ)

@@ -27,11 +27,11 @@ use Rattle.server.specs.Exchanges.{ServesExchange, Exchange}
 abbrev pub IsComplete : HttpSettingsEntry → Option (List ℕ) → List ℕ → Type 0
 IsComplete settings held got = IsWhole settings got ⊎ IsAtEnd held
 
--- the same, for a client whose head has been parsed
+-- a client's request is complete, given the client's parsed head
 abbrev pub IsCompleteFor : HttpSettingsEntry → Option (List ℕ) → List ℕ → Parsed → Type 0
 IsCompleteFor settings held got parsed = IsComplete settings held got × IsParsed settings got parsed
 
--- the same, for a connection from either listener; an order is complete once its whole message has arrived
+-- the request on a connection from either listener is complete; an order is complete once its whole message has arrived
 abbrev pub HasComeAt : Listener → ServerSettingsEntry → Option (List ℕ) → List ℕ → Type 0
 HasComeAt Clients settings held got = IsComplete settings.clients held got
 HasComeAt Orders settings held got = IsWholeMessage got

@@ -86,7 +86,7 @@ reported token pending =
     else (if token == 1 then record { ipv4 = pending.ipv4; ipv6 = waiting.Somebody; orders = pending.orders }
     else record { ipv4 = pending.ipv4; ipv6 = pending.ipv6; orders = waiting.Somebody })
 
--- a connection may be pending at some listener
+-- a connection may be pending at a listener
 abbrev pub may_be_pending : Pending → Bool
 may_be_pending pending = is_known_waiting pending.ipv4 || is_known_waiting pending.ipv6 || is_known_waiting pending.orders
 
@@ -96,7 +96,7 @@ is_somebody waiting.Nobody = false
 is_somebody waiting.Unknown = false
 is_somebody waiting.Somebody = true
 
--- an event reported a connection at some listener
+-- an event reported a connection at a listener
 abbrev pub is_reported : Pending → Bool
 is_reported pending = is_somebody pending.ipv4 || is_somebody pending.ipv6 || is_somebody pending.orders
 

@@ -281,7 +281,7 @@ asks_parsed settings got head n behind asked small there is same =
     let own : behind ≡ is.behind = there ∙ ap (λ k. drop k got) all ∙ ap (drop (length (print_request is.found))) is.begins.parts ∙ drop-append_seam (print_request is.found) is.behind in
     asks_behind settings got head is asked (same ∙ ap (asked_of settings.gate settings.public head.wanted head.body) own)
 
--- the same for a result, which may be a failed allocation
+-- what is requested, as a result that may be a failed allocation
 pub asks_result : {E : Type 0} (settings : HttpSettingsEntry) (got : List ℕ) (head : Head) (n : ℕ) (behind : List ℕ) (r : Result HttpRequest E)
     → n ≡ min head.size (length got) → behind ≡ drop n got → IsHeadOf settings got head
     → IfOk r (λ asked. http_request_entry asked ≡ asked_of settings.gate settings.public head.wanted head.body behind) → IfOk r (λ asked. Asks settings got (http_request_entry asked))

@@ -49,7 +49,7 @@ part-between path before part rest is =
     let there : drop (length before) path ≡ part ++ rest = ap (drop (length before)) is ∙ drop-append_seam before (part ++ rest) in
     rw (low, high, count, there) (take-append_seam part rest)
 
--- a parameter after some bytes matches the text up to the next slash
+-- a parameter after literal bytes matches the text up to the next slash
 pub walk-part : (pattern text path : List ℕ) (name : ℕ × ℕ) (names : List (ℕ × ℕ)) (word t before part rest : List ℕ) (token at : ℕ) → at ≡ length before
     → drop token pattern ≡ word ++ (param_token ∷ t) → list_all (λ x. ltb x param_token) word ≡ true → path ≡ before ++ (word ++ (part ++ (47 ∷ rest))) → HasNoSlash part
     → ((from : ℕ) → wild_stop pattern (token + length word) path from ≡ from + length (segment (drop from path)) - 1)

@@ -26,7 +26,7 @@ is_set_host (Some origin) value = is_with_port value (authority_of origin)
 abbrev pub is_own_origin : Option (List ℕ) → List ℕ → Bool
 is_own_origin given value = is_with_port (codes "http://127.0.0.1") value || (is_with_port (codes "http://localhost") value || is_set_origin given value)
 
--- the request was sent by a page of the same origin, or by the user directly
+-- the request was sent by a page from the same origin, or by the user directly
 abbrev pub is_own_site : List ℕ → Bool
 is_own_site value = bytes_eq value (codes "same-origin") || bytes_eq value (codes "none")
 

@@ -54,7 +54,7 @@ pub record IsHeadOf (settings : HttpSettingsEntry) (got : List ℕ) (head : Head
   pub begins : BeginsWith got found behind
   pub says : Says settings (map name_and_value found.fields) found.method found.target (length (print_request found)) head
 
--- the result of parsing: the bytes begin with this head; or they may still become a head; or they don't begin with one, whatever follows them
+-- the result of parsing: the bytes begin with the given head; or they may still become a head; or they don't begin with one, whatever follows them
 abbrev pub IsParsed : HttpSettingsEntry → List ℕ → Parsed → Type 0
 IsParsed settings got (parsed.Head head) = IsHeadOf settings got head
 IsParsed settings got parsed.Partial = IsHeadIncomplete got

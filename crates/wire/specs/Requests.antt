@@ -125,17 +125,17 @@ wanted_by false gate hall fields method target = wanted_after gate hall fields m
 abbrev pub wanted : HttpSettingsEntry → List NamedValue → List ℕ → List ℕ → Result Target RequestError
 wanted settings fields method target = wanted_by (is_foreign settings.origin fields) settings.gate settings.public fields method target
 
--- the request for a gate's page, shown to a clerk
+-- the request to show a clerk the gate's page
 abbrev pub page_at : Option GateEntry → ℕ → HttpRequestEntry
 page_at None clerk = denied NotFound
 page_at (Some gate) clerk = shown clerk (page gate.page)
 
--- the request for a gate's console
+-- the request to show the gate's console
 abbrev pub console_at : Option GateEntry → HttpRequestEntry
 console_at None = denied NotFound
 console_at (Some gate) = console (page gate.console)
 
--- the request for something that is shown in public, if anything is
+-- the request to show something in public, if anything is shown there
 abbrev pub public_at : Option PublicEntry → PublicTarget → HttpRequestEntry
 public_at None what = denied NotFound
 public_at (Some its) what = public its what
@@ -248,7 +248,7 @@ MissesFound settings got headers spans behind =
     MissesBytes (wanted settings (map (header_bytes got) (take spans.headers headers)) (span_bytes got spans.method) (span_bytes got spans.path))
     (body_length (map (header_bytes got) (take spans.headers headers))) behind
 
--- the same, where the bytes after the head are those read along with it and those read later
+-- what a head asks for needs more than the bytes after it: those read along with the head, and those read later
 abbrev pub MissesAt : HttpSettingsEntry → List ℕ → List HeaderSpan → RequestSpans → List ℕ → Type 0
 MissesAt settings got headers spans more = MissesFound settings got headers spans (drop spans.len got ++ more)
 

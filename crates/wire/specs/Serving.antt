@@ -49,7 +49,7 @@ use Rattle.wire.specs.declared.serving.Served.TheVariants.{Answered, ReadFailed,
 use Rattle.wire.specs.declared.target.Resource.{Resource}
 use Rattle.wire.specs.declared.target.Resource.TheVariants.{Candidates, Declaration, Keyed, Office, Sheet, Work}
 
--- the response with a refusal for this reason
+-- the response with a refusal for the given reason
 abbrev pub refused_for : Reason → ResponseEntry
 refused_for why = refusal_response (reason_number why) (reason_text why)
 
@@ -240,7 +240,7 @@ pub record TellsClosed (settings : HttpSettingsEntry) (bytes : Option (List ℕ)
   pub asks : IfSome bytes (λ xs. Asks settings xs asked)
   pub tells : IsTold (closed_response asked) response
 
--- the same; or the allocation for reading the request failed
+-- such a response is ready; or the allocation for reading the request failed
 abbrev pub ReadiesClosed : HttpSettingsEntry → Option (List ℕ) → Response → Type 0
 ReadiesClosed settings bytes response = TellsClosed settings bytes response ⊎ IsWritten (fault_response 101) response
 
@@ -252,7 +252,7 @@ pub record ReadiesAsked (settings : HttpSettingsEntry) (bytes : Option (List ℕ
   pub asks : IfSome bytes (λ xs. Asks settings xs asked)
   pub readies : Readies s asked response closed st
 
--- the same; or the allocation for reading the request failed, and the office was sent nothing
+-- the response to a client's request is ready; or the allocation for reading the request failed, and nothing was sent to the office
 abbrev pub ReadiesFor : HttpSettingsEntry → Option (List ℕ) → OfficeState → Response → Bool → State → Type 0
 ReadiesFor settings bytes s response closed st = ReadiesAsked settings bytes s response closed st ⊎ (IsWritten (fault_response 101) response × IsOpenAt s closed st)
 

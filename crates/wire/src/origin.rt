@@ -38,7 +38,7 @@ fn is_own_origin(given: Option<Origin<'_>>, value: &[u8]) -> bool
         || is_set_origin(given, value)
 }
 
-/// Returns whether a value says that the request was sent by a page of the same origin, or by the user directly.
+/// Returns whether a value says that the request was sent by a page from the same origin, or by the user directly.
 fn is_own_site(value: &[u8]) -> bool
     ensures { result ≡ is_own_site value.now }
 {

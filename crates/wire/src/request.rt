@@ -179,7 +179,7 @@ pub(crate) fn asked_for(method: &[u8], there: Option<Target>) -> Result<Target, 
     }
 }
 
-/// Returns the request for a gate's page, shown to a clerk; without a gate, the request is rejected.
+/// Returns the request to show a clerk the gate's page; without a gate, the request is rejected.
 pub(crate) fn page_at<'a>(gate: Option<Gate<'a>>, clerk: u32) -> HttpRequest<'a>
     ensures { http_request_entry result ≡ page_at (option_map gate_entry gate.entry) clerk }
 {
@@ -189,7 +189,7 @@ pub(crate) fn page_at<'a>(gate: Option<Gate<'a>>, clerk: u32) -> HttpRequest<'a>
     }
 }
 
-/// Returns the request for a gate's console; without a gate, the request is rejected.
+/// Returns the request to show the gate's console; without a gate, the request is rejected.
 pub(crate) fn console_at<'a>(gate: Option<Gate<'a>>) -> HttpRequest<'a>
     ensures { http_request_entry result ≡ console_at (option_map gate_entry gate.entry) }
 {
@@ -199,7 +199,7 @@ pub(crate) fn console_at<'a>(gate: Option<Gate<'a>>) -> HttpRequest<'a>
     }
 }
 
-/// Returns the request for something that is shown in public; if nothing is, the request is rejected.
+/// Returns the request to show something in public; if nothing is shown in public, the request is rejected.
 pub(crate) fn public_at<'a>(public: Option<Public<'a>>, what: PublicTarget) -> HttpRequest<'a>
     ensures { http_request_entry result ≡ public_at (option_map public_entry public.entry) what }
 {

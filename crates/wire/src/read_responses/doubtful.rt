@@ -44,7 +44,7 @@ fn verdict_code(verdict: &Option<JudgedPaper>) -> u32
     }
 }
 
-/// Returns the marks of an accepted paper, or no marks for any other.
+/// Returns the marks of an accepted paper, or an empty text for any other.
 fn verdict_marks(verdict: &Option<JudgedPaper>) -> &str
     ensures { result.now ≡ verdict_marks (option_map judged_entry verdict.now) }
 {
