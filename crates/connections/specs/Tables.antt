@@ -95,8 +95,8 @@ pub data Event (L : Type 0) : Type 0 where
   ran_out : Event L
   broke : Event L
 
--- What is known about a network: the connections accepted so far, each in the state that it was accepted in, and those that were handed back; how many calls have
--- failed, and how many waits have succeeded; and all events, in order.
+-- What is known about a network: the connections accepted so far, each in the state that it was accepted in; those handed back; how many calls have failed, and how
+-- many waits have succeeded; and all events, in order.
 pub record NetworkEntry (L : Type 0) : Type 0 where
   pub came : Option (List (Accepted L))
   pub left : Option (List (Removed L))

@@ -54,7 +54,7 @@ pub struct Client<L> {
 /// How far a request has been read.
 #[derive(Clone, Copy)]
 pub enum ReadProgress {
-    /// All the requested bytes have arrived.
+    /// The requested number of bytes has arrived.
     Enough,
     /// Fewer bytes have arrived, and more may come.
     Waits,

@@ -48,8 +48,8 @@ answer_of client = option_map (λ answer. answer.bytes.items) client.answer
 abbrev pub IsSameClient : {L : Type 0} → Client L → Client L → Type 0
 IsSameClient old new = (new.listener ≡ old.listener) × (new.number ≡ old.number) × (new.since ≡ old.since)
 
--- The request of a connection was processed while the connection was serviced at a given time: its own bytes were received until the request was complete, the request
--- in exactly these bytes was processed, and the connection has the resulting response.
+-- The request of a connection was processed while the connection was serviced at a given time. Its own bytes were received until the request was complete, the request
+-- in exactly those bytes was processed, and the connection has the resulting response.
 pub record HasResponded {L S : Type 0} (settings : ServerSettingsEntry) (stream : Stream L) (state_of : Held S → State) (now : ℕ) (old new : Client L) (before later : ServedOffice S) : Type 0 where
   pub exchange : Exchange
   pub listener : exchange.listener ≡ old.listener

@@ -27,9 +27,11 @@
 //! `specs/OfficeReplies.antt` the JSON of the console's reads, and `specs/PublicReplies.antt` what is shown in public.
 //!
 //! ```text
-//! let parsed = parse(settings, &routes, got); match parsed.completeness_of(got.len()) { Completeness::AtLeast(wanted) => ..,
-//! // more bytes are needed Completeness::Complete => respond(alloc, parsed.asked(alloc, settings, got)?, &mut writer, &mut
-//! office), }
+//! let parsed = parse(settings, &routes, got);
+//! match parsed.completeness_of(got.len()) {
+//!     Completeness::AtLeast(wanted) => ..,     // more bytes are needed
+//!     Completeness::Complete => respond(alloc, parsed.asked(alloc, settings, got)?, &mut writer, &mut office),
+//! }
 //! ```
 #![tactic(auto)]
 
