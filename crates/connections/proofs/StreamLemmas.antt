@@ -81,7 +81,7 @@ module _ {L : Type 0} (stream : Stream L) where
       → Delivers stream old new answer sent (sent + n)
   delivers_one old new answer sent n within took unheard = record { within = within; bytes = take n (drop sent answer); is = take-add sent n answer; took = took; unheard = unheard }
 
-  -- and the bytes after them
+  -- the next bytes were sent, and then the bytes after them
   pub delivers_then : (old mid new : L) (answer : List ℕ) (before between after : ℕ) → Delivers stream old mid answer before between → Delivers stream mid new answer between after
       → Delivers stream old new answer before after
   delivers_then old mid new answer before between after first next = record {
@@ -92,7 +92,7 @@ module _ {L : Type 0} (stream : Stream L) where
     unheard = Keeps-trans (stream.held old) (stream.held mid) (stream.held new) first.unheard next.unheard;
   }
 
-  -- this many of the remaining bytes were sent next
+  -- the given number of the remaining bytes was sent next
   pub delivers_next : (first mid new : L) (answer : List ℕ) (before sent n : ℕ) (bytes : List ℕ) → Delivers stream first mid answer before sent → bytes ≡ drop sent answer → n ≤ length bytes
       → Grows (stream.taken mid) (stream.taken new) (take n bytes) → Keeps (stream.held mid) (stream.held new) → Delivers stream first new answer before (sent + n)
   delivers_next first mid new answer before sent n bytes so_far is within took unheard =

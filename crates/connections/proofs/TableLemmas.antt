@@ -9,11 +9,11 @@ use Rattle.std.proofs.lemmas.List.Elements.{All-push, All-weaker}
 use Rattle.connections.specs.declared.client.Client.{Client}
 use Rattle.connections.specs.Tables.{AreUnseen, HasWaitedLongest, earlier, is_among}
 
--- no connection that counts has a time limit that began before this
+-- no connection that counts has a time limit that began before the given time
 abbrev IsFirst : {L : Type 0} → Bool → List (Client L) → ℕ → Type 0
 IsFirst orders_too clients since = All (λ other. is_among orders_too other.listener ≡ true → since ≤ other.since) clients
 
--- the connection found counts and is at this place, its time limit began at this time, and no other began earlier; or no connection counts
+-- the connection found counts and is at the given place, its time limit began at the given time, and no other began earlier; or no connection counts
 abbrev pub IsFound : {L : Type 0} → Bool → List (Client L) → Option (ℕ × ℕ) → Type 0
 IsFound orders_too clients None = AreUnseen orders_too clients
 IsFound {L} orders_too clients (Some it) =

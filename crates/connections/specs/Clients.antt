@@ -81,7 +81,7 @@ pub record IsNew {L : Type 0} (accepted : Accepted L) (number now : ℕ) (client
   pub unanswered : client.answer ≡ None
   pub all_read : client.unread_body_bytes ≡ 0
 
--- two values are the same connection, whatever was read from its stream
+-- two values represent the same connection, whatever was read from its stream
 abbrev pub IsSameButReceived : {L : Type 0} → Client L → Client L → Type 0
 IsSameButReceived old new = (new.listener ≡ old.listener) × (new.number ≡ old.number) × (new.since ≡ old.since)
 

@@ -176,8 +176,8 @@ pub record IsShut {L S : Type 0} (Tells : List ℕ → ℕ → ℕ → Type 0) (
   pub nobody : later ≡ before
   pub same : new ≡ office.held
 
--- The office was opened, and served on its network with the given settings. If the database had the state after earlier requests, what is kept is stated for those
--- requests and the ones that arrived.
+-- The office was opened, and served on its network with the given settings. If the database had the state after earlier requests, what is kept of those and of the
+-- requests that arrived is as specified.
 pub record IsServed {L S : Type 0} (Tells : List ℕ → ℕ → ℕ → Type 0) (Quiet : Type 0) (status : ℕ) (AreSettings : ServerSettingsEntry → Type 0) (stream : Stream L) (state_of : Held S → State)
     (port : ℕ) (before later : ℕ → NetworkEntry L) (most : Option ℕ) (old new : Held S) : Type 0 where
   pub office : OfficeValue S

@@ -167,7 +167,7 @@ pub struct NewCodes<'a> {
 }
 
 /// Writes a new file of codes, and prints how many clerks it is for, or why it wasn't made. Returns the status: 0; 1 for a
-/// codes fault; 3 if an allocation failed or an output did. Never overwrites a file.
+/// codes fault; 3 if an allocation or an output failed. Never overwrites a file.
 pub fn make_codes_file<O: Sink, E: Sink>(
     rt: &HostRuntime,
     asked: NewCodes<'_>,

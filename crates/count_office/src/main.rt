@@ -88,7 +88,7 @@ pub struct LockedDatabase<'a> {
     pub brought: &'a Option<OrderFiles>,
 }
 
-/// Returns the words from DB on.
+/// Returns the program's words, from DB on.
 fn given_words(rt: &HostRuntime) -> Result<Vec<String>, WordsFault> {
     let all = match env::args(rt) {
         Ok(all) => all,

@@ -73,7 +73,7 @@ fn pieces_of(alloc: Global, parts: &[OrderPart]) -> Result<Vec<MessagePart<'_>>,
     }
 }
 
-/// Returns the message for an order on the database at a path, or why there is none.
+/// Returns the message with an order for the database at a path, or why there is none.
 fn message_of(
     rt: &HostRuntime,
     database: &str,
@@ -306,7 +306,7 @@ fn reply_in(mut stream: UnixStream) -> Sent {
     }
 }
 
-/// Sends an order on the database at a path to the program that serves it, and waits for the first frame of the reply.
+/// Sends an order for the database at a path to the program that serves it, and waits for the first frame of the reply.
 pub fn send_order(rt: &HostRuntime, database: &str, order_files: &OrderFiles) -> Sent {
     let Some(mut stream) = order_socket::reach(rt, database) else {
         return Sent::Unread;

@@ -77,7 +77,7 @@ fn log_length_at(rt: &HostRuntime, path: &str) -> io::Result<Option<u64>> {
 /// What exists at a database's path before an order.
 #[derive(Clone, Copy)]
 pub enum PathKind {
-    /// Nothing, and nothing with the names of its logs.
+    /// Nothing, and nothing with the name of a log.
     Free,
     /// A file that is treated as empty, and no log except one that `sqlite` has just begun. They can't contain an office.
     Empty,

@@ -76,7 +76,7 @@ module _ (settings : ServerSettingsEntry) where
 
   -- ---- a clerk's own exchanges
 
-  -- they are answered in the clerk's view, until one of them gets no answer
+  -- a clerk's own exchanges are answered in the clerk's view, until one of them gets no answer
   abbrev AnswersOwn : OfficeState → List Exchange → Type 0
   AnswersOwn view [] = ⊤
   AnswersOwn view (exchange ∷ own) =
@@ -127,7 +127,7 @@ module _ (settings : ServerSettingsEntry) where
     client_turn view next exchange free (inl it) = it
     client_turn view next exchange free (inr it) = absurd (free it.tells.entry it.tells.asks)
 
-    -- or the office had a fault
+    -- the office had a fault
     client_stop : (view : OfficeState) (exchange : Exchange) → AsksNoOrder settings.clients exchange.got → IsStoppedBySeen Clients state_of settings clerk view exchange
         → EndsSo exchange (IsServed TellsFault)
     client_stop view exchange free (inl (none, it)) = it

@@ -43,7 +43,7 @@ answered_still s (console show) answer closed st still it = subst (λ (x : Offic
 answered_still s (order entry) answer closed st still it = absurd still
 answered_still s (public its what) answer closed st still it = subst (λ (x : OfficeState). IsOpenAt x closed st) it.is.0 it.open_at
 
--- or the office had a fault, and was only read
+-- the office had a fault, and was only read
 failed_still : (s : OfficeState) (asked : HttpRequestEntry) (f : Fault) (closed : Bool) (st : State) → ChangesNothing asked → FaultLeaves s asked f closed st → IsReadAt s closed st
 failed_still s (denied why) f closed st still leaves = absurd leaves
 failed_still s (shown clerk show) f closed st still leaves = absurd leaves

@@ -67,7 +67,7 @@ pub record IsConsoleBySeen {S : Type 0} (state_of : Held S → State) (settings 
   pub tells : ConsolePrints state_of settings s exchange.got exchange.answer sent last
   pub made : next ≡ seen_by clerk (after s sent)
 
--- the request of a client or of an order was processed, and led from one view to the next
+-- the request of a client, or an order, was processed, and led from one view to the next
 abbrev pub RespondsBySeen : {S : Type 0} → Listener → (Held S → State) → ServerSettingsEntry → ℕ → OfficeState → Exchange → OfficeState → Type 0
 RespondsBySeen Clients state_of settings clerk view exchange next = IsAnsweredBySeen settings clerk view exchange next ⊎ IsConsoleBySeen state_of settings clerk view exchange next
 RespondsBySeen Orders state_of settings clerk view exchange next = IsFollowedBySeen state_of settings clerk view exchange next
@@ -117,7 +117,7 @@ AreOwn settings clerk (exchange ∷ exchanges) own =
     (IsUnder settings clerk exchange.got × ((later : List Exchange) × (own ≡ exchange ∷ later) × AreOwn settings clerk exchanges later))
     ⊎ ((IsUnder settings clerk exchange.got → ⊥) × AreOwn settings clerk exchanges own)
 
--- each exchange is that of a client that sends no order
+-- each exchange is with a client that sends no order
 abbrev pub AreClients : HttpSettingsEntry → List Exchange → Type 0
 AreClients settings [] = ⊤
 AreClients settings (exchange ∷ exchanges) = (exchange.listener ≡ Clients) × AsksNoOrder settings exchange.got × AreClients settings exchanges

@@ -39,7 +39,7 @@ AsksConsole settings entry files what = ((files ≡ map sent_file entry.files) �
 
 -- ---- the output
 
--- the response with what an order printed to its two outputs, and with its status; or the response that the output failed (107), if what it printed to either isn't UTF-8
+-- the response with what an order printed to its two outputs, and with its status; or the response saying that the output failed (107), if what it printed to either isn't UTF-8
 abbrev pub printed_response : ℕ → List ℕ → List ℕ → ResponseEntry
 printed_response status out err = if is_utf8 out && is_utf8 err then order_response status out err else fault_response 107
 

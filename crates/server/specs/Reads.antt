@@ -52,7 +52,7 @@ abbrev pub limit_after : Option AuthenticationEntry → ℕ → LimitEntry → L
 limit_after None now limit = limit
 limit_after (Some authentication) now limit = if authentication.is_wrong then counted now limit else limit
 
--- ---- both
+-- ---- what is kept in memory
 
 -- the cached responses, and the wrong codes sent so far
 pub record MemoryEntry : Type 0 where

@@ -102,14 +102,14 @@ attached_at (p ∷ ps) path = if bytes_eq p.name path then option_map Some p.byt
 abbrev pub folder_of : List MessagePartEntry → Folder
 folder_of files path = Some (attached_at files path)
 
--- ---- its output
+-- ---- the output
 
 -- two outputs that nothing has been written to yet
 abbrev pub untold : Outputs
 untold = record { out = Some []; out_failed = 0; err = Some []; err_failed = 0 }
 
--- What the outputs of an order accepted is sent in frames: all of the output, and all of the error output. The last frame has the status; or an allocation failed, and
--- that frame is missing.
+-- What an order's outputs accepted is sent in frames: all of the output, and all of the error output. The last frame has the status; or an allocation failed, and that
+-- frame is missing.
 pub record IsToldInFrames (told : Outputs) (status : ℕ) (frames : List ℕ) : Type 0 where
   pub err : List ℕ
   pub is_err : told.err ≡ Some err

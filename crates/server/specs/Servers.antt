@@ -54,7 +54,7 @@ pub record GoesOnServing {L S : Type 0} (settings : ServerSettingsEntry) (stream
   pub each : FoldsTo (ServesExchange settings state_of) at exchanges behind
   pub goes_on : GoesOn settings stream exchanges before later old new
 
--- The same, starting from any last reading of the clock. Step by step, the given responses were produced, and the given connections were accepted and closed.
+-- The same, starting from any last reading of the clock. Step by step, the given responses were produced, and connections were accepted and closed.
 abbrev pub ServesFrom : {L S : Type 0} → ServerSettingsEntry → Stream L → (Held S → State) → NetworkEntry L → NetworkEntry L → ConnectionTable L → ConnectionTable L → ServedOffice S
     → ServedOffice S → Type 0
 ServesFrom settings stream state_of before later old new at behind =

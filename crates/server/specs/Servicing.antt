@@ -44,7 +44,7 @@ HasSentNothing stream client = client.answer ≡ None → HasTaken (stream.taken
 abbrev pub answer_of : {L : Type 0} → Client L → Option (List ℕ)
 answer_of client = option_map (λ answer. answer.bytes.items) client.answer
 
--- Two values are the same connection, with the same time limit.
+-- Two values represent the same connection, with the same time limit.
 abbrev pub IsSameClient : {L : Type 0} → Client L → Client L → Type 0
 IsSameClient old new = (new.listener ≡ old.listener) × (new.number ≡ old.number) × (new.since ≡ old.since)
 
@@ -94,7 +94,7 @@ abbrev pub moment_of : Option ℕ → ℕ
 moment_of None = 0
 moment_of (Some now) = now
 
--- the clock was read to time a request if and only if wrong codes are counted
+-- the clock was read for a request if and only if wrong codes are counted
 abbrev pub IsAtGate : Bool → Option ℕ → List Exchange → Type 0
 IsAtGate gated gate [] = ⊤
 IsAtGate gated gate (exchange ∷ exchanges) = IsMomentOf gated gate exchange.moment

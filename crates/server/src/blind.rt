@@ -24,7 +24,7 @@ pub fn clerks_are_answered_as_seen<S: Alter>()
     ensures alike { ClerksCannotTell (state S.Store) }
     ensures apart { ClerksAskNoOrder }
 {
-    // for their laws
+    // called for their laws
     clerks_are_blind();
     lists_make_states();
 }
@@ -34,6 +34,6 @@ pub fn clerks_are_answered_as_seen<S: Alter>()
 pub fn servers_answer_as_seen<D: Network, S: Alter>()
     ensures { ServersAnswerAsSeen (stream_of D.Stream.held D.Stream.taken D.Stream.failed) (state S.Store) }
 {
-    // for its law
+    // called for its law
     clerks_are_answered_as_seen::<S>();
 }

@@ -10,7 +10,7 @@ use order_protocol::{MAX_FRAME, put_end_frame, put_error_frames, put_output};
 use std::alloc::{AllocError, Global};
 use streams::{Broken, Sink};
 
-/// The maximum size of the response to one order, in bytes. For a longer response, stop `serve` first.
+/// The maximum size of the response to one order, in bytes. To get a longer response, stop `serve` first.
 const MAX_ANSWER: usize = 32 << 20;
 
 /// A sink for an order's replies. It appends them, in frames, to what the order has already printed, and sends as much as the

@@ -202,8 +202,8 @@ fn respond_to_asked<L: Stream, A: ServedFile, S: Alter>(
     out.end(status, err.into_bytes().as_slice())
 }
 
-/// Returns what an order asks for. If it asks for a job and the office's file is gone or replaced, returns that it isn't
-/// carried out.
+/// Returns what an order asks for. If it asks for a job and the office's file is gone or replaced, returns the reason for
+/// refusing it instead.
 pub fn unless_gone<'w, A: ServedFile>(asked: ServedOrder<'w>, served_file: &A) -> ServedOrder<'w>
     ensures { (words : List Text) → AsksSo (A.whole served_file.now) words asked.entry → AsksSo (A.whole served_file.now) words result }
 {
@@ -291,9 +291,9 @@ fn respond_to_message<L: Stream, A: ServedFile, S: Alter>(
 /// Responds to an order whose message has been received: processes it in the office, sends its output in frames on its stream,
 /// and returns the stream.
 ///
-/// The response is fault 102, as for a file held by another program, if the bytes aren't a message, or if the order comes from
-/// another version of the program or is for another file. For `init`, `migrate` and `serve`, the response says that the office
-/// is being served (111).
+/// The response is fault 102, as for a file locked by another program, if the bytes aren't a message, or if the order comes
+/// from another version of the program or is for another file. For `init`, `migrate` and `serve`, the response says that the
+/// office is being served (111).
 pub fn answer_order<L: Stream, A: ServedFile, S: Alter>(
     alloc: Global,
     server_settings: ServerSettings<'_, A>,

@@ -315,9 +315,9 @@ fn serve_rounds<D: Network, A: ServedFile, S: Alter>(
 /// number is given. Orders are accepted too, before clients, and don't count.
 ///
 /// Requests are received concurrently, and responses are sent concurrently. A request is processed once all of it has arrived,
-/// whether it is a client's or an order's; all are processed in the same office. At most 512 connections are open at once, with
-/// 64 MiB of requests and responses. If there are more, the next one stays pending, and the client that has been waiting
-/// longest is closed to make room, provided that it has waited for a second. A connection has half a minute to send its
+/// whether it is from a client or an order; all requests are processed in the same office. At most 512 connections are open at
+/// once, with 64 MiB of requests and responses. If there are more, the next one stays pending, and the client that has been
+/// waiting longest is closed to make room, provided that it has waited for a second. A connection has half a minute to send its
 /// request, and another half minute to accept its response. A connection that is closed early gets no response. One that can't
 /// be accepted now is accepted later.
 ///

@@ -1,4 +1,4 @@
--- What an error of the system means for a listener.
+-- What a system error means for a listener.
 use Rattle.std.specs.Prelude.{◌==◌, ◌||◌, if◌then◌else◌, ℕ, ℤ, Bool, Option, None, Some, Ok, Err, Result, unsigned_abs}
 use Rattle.std.specs.IoError.{raw_os_error}
 use Rattle.std.specs.declared.io.Error.{Error}
@@ -8,7 +8,7 @@ use Rattle.connections.specs.declared.network.AcceptOutcome.TheVariants.{Nobody,
 use Rattle.sockets.specs.declared.socket.Socket.{Socket}
 use Rattle.sockets.specs.declared.loopback.Loopback.{Loopback}
 
--- an error number of the system, without its sign, or 0 if there is none
+-- a system error number, without its sign, or 0 if there is none
 abbrev pub number_in : Option ℤ → ℕ
 number_in None = 0
 number_in (Some code) = unsigned_abs code

@@ -6,7 +6,7 @@ use Rattle.serde_json.specs.Data.{Data, Members, member, no_members}
 use Rattle.serde_json.specs.Find.{as_str}
 use Rattle.wire.specs.ConsoleOrders.{ConsoleFileEntry, files_of}
 
--- some of an object's members have been read, as these files, and the others haven't been read yet
+-- some of an object's members have been read, as the given files, and the others haven't been read yet
 abbrev pub AreReadOf : Members → List ConsoleFileEntry → Members → Type 0
 AreReadOf all files rest = files_of all ≡ option_map (λ more. files ++ more) (files_of rest)
 

@@ -50,7 +50,7 @@ module _ (part rest : List ℕ) (n : ℕ) (own : number_in part ≡ Some n) (non
 
 -- ---- what is read, by the first word of the target that matches
 
--- what follows the first n bytes
+-- what follows the first n bytes of a target
 tail-of : (n : ℕ) (target : List ℕ) → take (length target - n) (drop n target) ≡ drop n target
 tail-of n target = take_all (length target - n) (drop n target) (omega (arith, length-drop n target))
 

@@ -60,7 +60,7 @@ grown got more found behind begun = record {
   few = begun.few;
 }
 
--- so the head stays parsed
+-- the head stays parsed
 pub head_lasts : (settings : HttpSettingsEntry) (got : List ℕ) (head : Head) → IsHeadOf settings got head → (more : List ℕ) → IsHeadOf settings (got ++ more) head
 head_lasts settings got head is more = record { found = is.found; behind = is.behind ++ more; begins = grown got more is.found is.behind is.begins; says = is.says }
 
@@ -109,7 +109,7 @@ whole_behind settings got head behind begun enough more asked asks =
       one ∙ sym (asked_stays settings.gate settings.public _ _ behind more enough),
     )
 
--- ---- what is lacking
+-- ---- what is missing
 
 -- fewer bytes than are needed don't determine what is requested
 few_incomplete : (t : Result Target RequestError) (body : Result ℕ RequestError) (behind : List ℕ) → length behind < needed t body → MissesBytes t body behind

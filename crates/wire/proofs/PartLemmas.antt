@@ -144,7 +144,7 @@ behind-param t path (inl begins) = record { part = param_token ∷ []; rest = be
 behind-param t path (inr (inl (param, begins))) = begins
 behind-param t path (inr (inr catch)) = absurd (omega arith)
 
--- and what follows the whole pattern
+-- what follows the whole pattern
 behind-all : (word path : List ℕ) → list_all (λ x. ltb x param_token) word ≡ true → Fits word path → path ≡ word
 behind-all [] path bytes fits = fits
 behind-all (x ∷ word) path bytes (inl begins) =

@@ -107,7 +107,7 @@ module _ (settings : HttpSettingsEntry) (got : List ℕ) (headers : List HeaderS
       let behind = drop spans.len got ++ left in
       inr (head, behind, begins bytes got left headers spans head there fits places e, MissesBehind-of head there behind completeness_of)
 
--- the head is complete, and what it asks for isn't
+-- the head is complete, but what it asks for isn't
 pub FailsAfter-behind : (settings : HttpSettingsEntry) (old mid new : Option (List ℕ)) (got : List ℕ) (headers : List HeaderSpan) (spans : RequestSpans)
     → IsRequestOf got headers spans → (r : Result HttpRequest ReadFailure)
     → length got ≤ 8192 → length headers ≡ 32 → Consumes old mid got → IfErr r (FailsAfter mid new (MissesAt settings got headers spans)) → IfErr r (FailsAfter old new (IsIncomplete settings))

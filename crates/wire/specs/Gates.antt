@@ -65,7 +65,7 @@ settings_entry settings =
 abbrev pub no_settings : HttpSettingsEntry
 no_settings = record { origin = None; gate = None; public = None }
 
--- ---- the clerk of a target
+-- ---- the clerk in a target
 
 -- the number in the first n bytes, if a slash follows
 abbrev pub number_before : ℕ → List ℕ → Option ℕ

@@ -1,4 +1,4 @@
--- Reads of the officer's console that combine several answers of the office.
+-- Reads of the officer's console that combine several answers from the office.
 use Rattle.std.specs.Prelude.{List, None, Result, Ok, Err, length, map, ℕ}
 use Rattle.register.specs.Offices.{OfficeState, ReceiptEntry}
 use Rattle.register.specs.NextSteps.{NextStepEntry, step_entry}

@@ -25,7 +25,7 @@ screen_ward_data w = object
 abbrev pub screen_data : List ℕ → List WardEntry → Data
 screen_data title wards = object (member (codes "title") (string title) (member (codes "wards") (list_data screen_ward_data wards) no_members))
 
--- the same value, made from the reads of the wards; the list contains nothing else from these reads
+-- this value, made from the views of the wards; the list contains nothing else from them
 abbrev pub screen_of : List ℕ → List WardView → Data
 screen_of title views = screen_data title (map (λ v. v.ward) views)
 

@@ -61,7 +61,7 @@ work_data w = object
 abbrev pub clerk_data : ℕ → List WorkEntry → Data
 clerk_data clerk work = object (member (codes "clerk") (number_data clerk) (member (codes "work") (list_data work_data work) no_members))
 
--- its JSON
+-- the JSON of a clerk's work
 abbrev pub work_body : ℕ → List WorkEntry → List ℕ
 work_body clerk work = compact_text (clerk_data clerk work)
 
@@ -77,7 +77,7 @@ paper_data batch p = object
     (member (codes "name") (string p.name)
     (member (codes "ward") (number_data p.ward) no_members))))
 
--- its JSON
+-- the JSON of what is on the papers of a batch
 abbrev pub paper_body : ℕ → BallotPaperEntry → List ℕ
 paper_body batch p = compact_text (paper_data batch p)
 

@@ -135,7 +135,7 @@ abbrev pub console_at : Option GateEntry → HttpRequestEntry
 console_at None = denied NotFound
 console_at (Some gate) = console (page gate.console)
 
--- the request to show something in public, if anything is shown there
+-- the request to show something in public, if anything is shown in public
 abbrev pub public_at : Option PublicEntry → PublicTarget → HttpRequestEntry
 public_at None what = denied NotFound
 public_at (Some its) what = public its what
@@ -242,7 +242,7 @@ MissesBytes (Err why) size behind = ⊥
 abbrev pub MissesBehind : HttpSettingsEntry → RequestHead → List ℕ → Type 0
 MissesBehind settings head behind = MissesBytes (wanted settings (map name_and_value head.fields) head.method head.target) (body_length (map name_and_value head.fields)) behind
 
--- what a head asks for needs more than the bytes after it, if the head was found in what was read
+-- what is asked for by a head that was found in what was read needs more than the bytes after it
 abbrev pub MissesFound : HttpSettingsEntry → List ℕ → List HeaderSpan → RequestSpans → List ℕ → Type 0
 MissesFound settings got headers spans behind =
     MissesBytes (wanted settings (map (header_bytes got) (take spans.headers headers)) (span_bytes got spans.method) (span_bytes got spans.path))

@@ -167,7 +167,7 @@ abbrev pub Leaves : OfficeState → HttpRequestEntry → ResponseEntry → Bool 
 Leaves s asked answer closed st =
     IsAnswered s asked answer closed st ⊎ ((f : Fault) × (answer ≡ fault_response (fault_number f)) × FaultLeaves s asked f closed st)
 
--- the same for a response that is ready to be written; its allocation may have failed
+-- such a response is ready to be written, or its allocation failed
 abbrev pub Readies : OfficeState → HttpRequestEntry → Response → Bool → State → Type 0
 Readies s asked response closed st = (answer : ResponseEntry) × IsTold answer response × Leaves s asked answer closed st
 
@@ -223,13 +223,13 @@ abbrev pub IsDeniedAlike : RequestError → Type 0
 IsDeniedAlike why =
     (s t next : OfficeState) (answer : ResponseEntry) → IsAnswer s (denied why) next answer → (next ≡ s) × IsAnswer t (denied why) t answer × (answer ≡ closed_response (denied why))
 
--- the same holds for what is shown to a clerk in any state
+-- what is shown to a clerk is also the same in every state, and for a closed office
 abbrev pub IsShownAlike : ShowEntry → Type 0
 IsShownAlike show =
     (clerk : ℕ) (s t next : OfficeState) (answer : ResponseEntry) → IsAnswer s (shown clerk show) next answer
     → (next ≡ s) × IsAnswer t (shown clerk show) t answer × (answer ≡ closed_response (shown clerk show))
 
--- the same holds for what is shown to the officer
+-- what is shown to the office is also the same in every state, and for a closed office
 abbrev pub IsConsoleAlike : ShowEntry → Type 0
 IsConsoleAlike show =
     (s t next : OfficeState) (answer : ResponseEntry) → IsAnswer s (console show) next answer → (next ≡ s) × IsAnswer t (console show) t answer × (answer ≡ closed_response (console show))
@@ -246,7 +246,7 @@ ReadiesClosed settings bytes response = TellsClosed settings bytes response ⊎ 
 
 -- ---- one connection
 
--- the response to a client's request is ready, along with the state that it leaves; if the client's bytes are known, they are that request
+-- the response to a client's request is ready, along with the state that it leaves; if the client's bytes are known, they ask for exactly that
 pub record ReadiesAsked (settings : HttpSettingsEntry) (bytes : Option (List ℕ)) (s : OfficeState) (response : Response) (closed : Bool) (st : State) : Type 0 where
   pub asked : HttpRequestEntry
   pub asks : IfSome bytes (λ xs. Asks settings xs asked)

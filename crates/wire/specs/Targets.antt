@@ -126,6 +126,6 @@ IsTargetOf (Public what) target = IsPublicTarget what target
 IsTargetOf (Resource (Reads read)) target = IsReadTarget read target
 IsTargetOf (Resource (Declaration ward)) target = (w : List ℕ) × (target ≡ codes "/wards/" ++ (w ++ codes "/result")) × (number_in w ≡ Some ward)
 
--- a target names exactly what it is the path of, so no other target names it
+-- a target names something if and only if the target is its path, so no other target names it
 abbrev pub NamesOnlyItsPath : List ℕ → Type 0
 NamesOnlyItsPath target = (there : Target) → (named_by target ≡ Some there) ↔ IsTargetOf there target

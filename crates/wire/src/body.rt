@@ -136,7 +136,7 @@ fn key_members(mut members: Map<String, Value>) -> Option<(Value, Value, Value)>
     }
 }
 
-/// Returns the keying made from three values, if each of them has the right type.
+/// Returns the keying made from three values, if each has the correct type.
 fn keying_from(
     alloc: Global,
     id: Value,

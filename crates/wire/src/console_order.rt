@@ -85,7 +85,7 @@ fn order_members(mut members: Map<String, Value>) -> Option<(Value, Value)>
     }
 }
 
-/// Returns the order made from two values, if each of them has the right type.
+/// Returns the order made from two values, if each has the correct type.
 fn order_by(alloc: Global, files: Value, words: Value) -> Result<Option<ConsoleOrder>, AllocError>
     ensures { IfOk result (λ found. option_map console_order_entry found ≡ order_by (view files, view words)) }
 {

@@ -277,10 +277,10 @@ fn read_from_head<'a, R: Source>(
 /// failure count is then one higher. Once the request is known, nothing more is read, because the client may be waiting for its
 /// response. Some of the bytes after the request may have been read already.
 ///
-/// What is requested depends only on the target, which names exactly what it is the path of. That path is one of the eight
-/// routes of this crate, with numbers of 1 to 5 digits without leading zeros. Or it is `/office/`, `/office/leave`,
-/// `/office/orders` or the path of one of the console's reads; or `/`, `/screen`, `/screen/wards` or the path of a ward's page.
-/// Any other target names nothing.
+/// What is requested depends only on the target. A target names something if and only if the target is its path. That path is
+/// one of the eight routes of this crate, with numbers of 1 to 5 digits without leading zeros. Or it is `/office/`,
+/// `/office/leave`, `/office/orders` or the path of one of the console's reads; or `/`, `/screen`, `/screen/wards` or the path
+/// of a ward's page. Any other target names nothing.
 pub fn read_request<'a, R: Source>(
     alloc: Global,
     settings: HttpSettings<'a>,
