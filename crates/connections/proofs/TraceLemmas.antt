@@ -98,7 +98,7 @@ module _ {L : Type 0} (gated : Bool) (stream : Stream L) where
       course_one keeps_out (Some now) before later old.clients.items new.clients.items (ap (λ (d : NetworkEntry L). d.events) still ∙ ap (λ (d : NetworkEntry L). d.events) is)
       (ap (λ (r : ConnectionTable L). r.clients.items) same)
 
-  -- connections that the rule applied to were closed
+  -- connections were closed because the table was full or too many bytes were held in memory
   module _ (Goes : List (Client L) → Removed L → List (Client L) → Type 0) (shown : Option ℕ) (due : (old : List (Client L)) (removed : Removed L) (new : List (Client L))
       → Goes old removed new → IsEviction shown old removed new) where
     closed_events : (gone : List (Removed L)) → map handed_back gone ≡ flat_map events_of (map closes gone)

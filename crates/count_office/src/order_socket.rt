@@ -1,6 +1,6 @@
 //! The socket next to a database, through which orders are sent to the program that serves the office.
 //!
-//! The socket's name is the name of the database followed by `-serve`, and only the owner of the database may use the socket. A
+//! The socket's name is the database's name followed by `-serve`, and only the owner of the database may use the socket. A
 //! program that serves a database has locked it (`file_lock.rt`), so a socket that already exists was left behind by a stop.
 
 use mio::net::UnixListener;
@@ -46,7 +46,7 @@ fn checked(status: i32) -> io::Result<()> {
     }
 }
 
-/// Returns the path of the socket of a database.
+/// Returns the path of a database's socket.
 fn path_of(rt: &HostRuntime, database: &str) -> io::Result<String> {
     Ok(format!(in rt.alloc(); "{database}{ENDING}")?)
 }

@@ -89,7 +89,7 @@ pub enum PathKind {
     Taken,
 }
 
-/// Returns the kind of a path, given the lengths of the database and of its logs.
+/// Returns the kind of a path, given the lengths of the database and its logs.
 fn kind_of(database: Option<u64>, log: Option<u64>, journal: Option<u64>) -> PathKind
     ensures free { result ≡ PathKind.Free → (database ≡ None) × (log ≡ None) × (journal ≡ None) }
     ensures empty { result ≡ PathKind.Empty → IfSome log (λ length. length ≤ 41) × (journal ≡ None) }

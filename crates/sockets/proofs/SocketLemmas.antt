@@ -51,7 +51,7 @@ client_wanted clients_too Nobody at wanted = tt
 client_wanted clients_too NotNow at wanted = tt
 client_wanted clients_too Full at wanted = tt
 
--- the socket of a connection is of the kind of the listener that accepted it
+-- a connection's socket is of the kind that its listener accepts
 pub comes_by_door : (listener : Listener) (a : AcceptOutcome Socket) → IsAtListener listener a → ComesByListener a
 comes_by_door listener (One accepted) at = subst (λ d. FitsListener d accepted.stream) (sym at.0) at.1
 comes_by_door listener Nobody at = tt

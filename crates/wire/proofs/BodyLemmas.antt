@@ -56,7 +56,7 @@ enough body others size is =
     let own : take size (body ++ others) ≡ body = ap (λ n. take n (body ++ others)) (sym is) ∙ take-append_seam body others in
     rw (le-leb size (length (body ++ others)) fits, own) refl
 
--- the bytes after the head are the body followed by others; the body consists of the bytes read along with the head, if any, and of those in the buffer
+-- the bytes after the head are the body followed by others; the body consists of the bytes read along with the head, as far as they belong to it, and of those in the buffer
 follows : (behind room left rest : List ℕ) (front size : ℕ) → front ≤ length behind → front + length room ≡ size → (front ≡ length behind) ⊎ (front ≡ size) → left ≡ room ++ rest
     → (others : List ℕ) × (behind ++ left ≡ (take front behind ++ room) ++ others)
 follows behind room left rest front size within is (inl all) e = (

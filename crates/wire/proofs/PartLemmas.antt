@@ -71,7 +71,7 @@ walk-part pattern text path name names word t before part rest token at place_is
     ∙ ap (λ p. with_taken (part_of text name.0 name.1) p (walk pattern text path names (after_token (token + length word)) (from + length part)))
     (part-between path (before ++ word) part (47 ∷ rest) parts)
 
--- the value of the parameter of a route with one parameter
+-- the value that the only parameter of a route has
 pub one-taken : (word rest text path part : List ℕ) (name : ℕ × ℕ) → list_all (λ x. ltb x param_token) word ≡ true → path ≡ word ++ (part ++ (47 ∷ rest)) → HasNoSlash part
     → ((from : ℕ) → wild_stop (word ++ (param_token ∷ (47 ∷ rest))) (length word) path from ≡ from + length (segment (drop from path)) - 1)
     → walk (word ++ (param_token ∷ (47 ∷ rest))) text path (name ∷ []) 0 0 ≡ with_taken (part_of text name.0 name.1) part []

@@ -1,4 +1,4 @@
--- What a walk over the rows of a router finds: the path matches the pattern of the row found; and if a path matches a row's pattern, that row is found.
+-- What a walk over the rows of a router finds: the path matches the pattern of the row found. Also, what is found if a path matches a pattern.
 use Rattle.std.proofs.Common.{◌≡◌, ◌∙◌, ◌⊎◌, ◌-◌, ◌+◌, ◌<◌, ◌==◌, zero, suc, ℕ, Bool, true, false, cond, List, [], ◌∷◌}
 use Rattle.std.proofs.Common.{◌++◌, Option, Some, None, append-nil, drop, inl, inr, length, ltb, refl, subst, sym, ap, take, arith}
 use Rattle.std.specs.Prelude.{IfSome, ⊤}

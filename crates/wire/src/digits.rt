@@ -8,7 +8,7 @@ ghost use Rattle.wire.specs.Numbers.{number_in};
 
 use std::str;
 
-/// The maximum number of digits of a number in a target.
+/// The maximum number of digits in a target's numbers.
 const MOST_DIGITS: usize = 5;
 
 /// Returns whether all bytes are digits.

@@ -20,7 +20,7 @@
 //! and everything under `/office/` requires the office's. [`write_wait_response`] writes the response to a rate-limited client.
 //!
 //! `specs/Requests.antt` defines what a client's bytes ask for, `specs/Completeness.antt` when the request is complete, and
-//! `specs/Parsing.antt` what a parsed head says about them. `specs/Gates.antt` defines authentication, and `specs/Origins.antt`
+//! `specs/Parsing.antt` what a parsed head says about it. `specs/Gates.antt` defines authentication, and `specs/Origins.antt`
 //! which headers show that a page from another site sent the request. `specs/Targets.antt`, `specs/OfficeTargets.antt` and
 //! `specs/PublicTargets.antt` define what a target names, and `specs/Responses.antt` the bytes of a response.
 //! `specs/Serving.antt` defines the response in each state of the office, and what each outcome of a connection leaves;

@@ -25,7 +25,7 @@ pub enum OfficeRead {
     Batches { ward: u32 },
     /// The doubtful papers of a ward.
     Doubtful { ward: u32 },
-    /// The papers on which the keyings of a batch differ.
+    /// The papers on which a batch's keyings differ.
     Differences { batch: u32 },
     /// The papers of a batch, and how each counts.
     Papers { batch: u32 },

@@ -38,7 +38,7 @@ pub struct Head {
     pub(crate) size: usize,
 }
 
-/// The result of parsing the bytes of a request received so far.
+/// The result of parsing the bytes received so far.
 #[derive(Clone, Copy)]
 pub enum Parsed {
     /// The head is complete.

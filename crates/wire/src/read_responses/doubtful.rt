@@ -1,4 +1,4 @@
-//! The JSON of the doubtful papers of a ward.
+//! The JSON for a ward's doubtful papers.
 
 ghost use Rattle.std.specs.Prelude.{◌≡◌, IfOk, map, option_map};
 ghost use Rattle.serde_json.specs.View.{view};

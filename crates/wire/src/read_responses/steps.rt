@@ -1,4 +1,4 @@
-//! The JSON of the next step in a ward.
+//! The JSON for the next step in a ward.
 
 ghost use Rattle.std.specs.Prelude.{◌≡◌, IfOk};
 ghost use Rattle.serde_json.specs.View.{view};

@@ -1,4 +1,4 @@
-//! The JSON of one ward, with its next step and its papers.
+//! The JSON for one ward, with its next step and its papers.
 
 ghost use Rattle.std.specs.Prelude.{◌≡◌, ◌==◌, IfOk, find, map, option_map};
 ghost use Rattle.serde_json.specs.View.{view};
