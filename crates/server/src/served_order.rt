@@ -22,7 +22,7 @@ pub enum ServedOrder<'a> {
     Copy(&'a str),
     /// To print the journal of the office.
     Journal,
-    /// Nothing: the order isn't carried out, for this reason.
+    /// Nothing: the order isn't carried out, for the given reason.
     Refused(Failure),
     /// Nothing: its words aren't an order.
     Misread(WordsFault),
