@@ -38,7 +38,7 @@ is_judged_paper v = is_batch_number v.batch && (is_paper_number v.paper && (nat_
 unfoldable pub is_lot : LotEntry → Bool
 is_lot l = is_ward_number l.ward && (is_lot_stage l.stage && is_candidate_number l.candidate)
 
--- a subject that the actor's receipts may have: one of the office's commands if the actor is the office, or of a clerk's commands if the actor is a clerk
+-- a subject that the actor's receipts may have: the subject of an office command if the actor is the office, or of a clerk's command if the actor is a clerk
 abbrev pub is_about : ℕ → List ℕ → Bool
 is_about actor subject = (is_office actor && is_office_subject subject) || (is_clerk actor && is_clerk_subject subject)
 

@@ -11,7 +11,7 @@ use crate::refusal::Reason;
 use paper::{Columns, Keyed, Marks, judge};
 
 /// Returns the columns of a ward's ballot papers: the numbers of its candidates, in ascending order. Numbers out of range,
-/// which no candidate of an office has, are left out.
+/// which no candidate in an office has, are omitted.
 pub fn columns_of(candidates: &[Candidate]) -> Columns
     ensures is { result ≡ columns_of (map candidate_entry candidates.now) }
     ensures of_a_ward { (s : OfficeState) (ward : ℕ) → IsState s → columns_of (candidates_of s ward) ≡ map (λ c. c.number) (candidates_of s ward) }
@@ -25,14 +25,14 @@ pub fn columns_of(candidates: &[Candidate]) -> Columns
     columns
 }
 
-/// Returns whether a marks text can be read with these columns.
+/// Returns whether a marks text can be read with the given columns.
 pub fn is_readable(columns: Columns, marks: &str) -> bool
     ensures { result ≡ is_readable columns marks.now }
 {
     Marks::read(marks.as_bytes(), columns).is_ok()
 }
 
-/// Returns whether a marks text can be read with these columns and makes the paper valid.
+/// Returns whether a marks text can be read with the given columns and makes the paper valid.
 pub fn is_valid(columns: Columns, marks: &str) -> bool
     ensures { result ≡ is_valid columns marks.now }
 {
