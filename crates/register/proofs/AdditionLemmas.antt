@@ -112,7 +112,7 @@ module _ (s : OfficeState) (n : ℕ) (w : WardEntry) (is : IsState s) (found : w
   unfolding back_of
   back_stays ms moved = others_stay w.number ms (back_of bundles_in) moved (of_some split.back split.behind)
 
-  -- ---- the stage due
+  -- ---- the stage that is due
 
   module _ (action : Action) (due : IsStageDue s n w action) where
     abbrev new : Stage

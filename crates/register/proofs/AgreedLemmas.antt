@@ -9,7 +9,7 @@ use Rattle.register.specs.Polls.{settled_with, settled_papers}
 
 -- ---- two and three keyings
 
--- of two keyings, which may be missing, the first is agreed if they are equal
+-- the first of two keyings, either of which may be missing, is agreed if they are equal
 agreed_two : (b c : List KeyedEntry) → agreed (filter is_keyed (b ∷ c ∷ [])) ≡ cond (is_keyed b && same_marks b c) b []
 unfolding same_marks
 agreed_two [] [] = refl
@@ -25,7 +25,7 @@ equal_behind k ks [] (z ∷ zs) = elim (same_marks (k ∷ ks) (z ∷ zs)) as (λ
 equal_behind k ks (y ∷ ys) [] = refl
 equal_behind k ks (y ∷ ys) (z ∷ zs) = ap (λ e. same_marks (k ∷ ks) (y ∷ ys) || e) (elim (same_marks (k ∷ ks) (z ∷ zs)) as (λ e. (e || false) ≡ e) [ true ↦ refl | false ↦ refl ])
 
--- of three keyings, the first is agreed if a later one equals it; otherwise the result is the same as for the
+-- the first of three keyings is agreed if a later one equals it; otherwise the result is the same as for the
 -- other two
 pub agreed_three : (a b c : List KeyedEntry) → agreed (of_three a b c) ≡ cond (is_keyed a && (same_marks a b || same_marks a c)) a (cond (is_keyed b && same_marks b c) b [])
 agreed_three [] b c = agreed_two b c

@@ -1,4 +1,4 @@
--- A batch command to which there is no objection leads from a state to a state, with a receipt that is in range.
+-- If there is no objection to a batch command, applying it to a state yields a state, and its receipt is in range.
 use Rattle.std.proofs.Common.{rules, inl, inr, ◌≡◌, ℕ, suc, Bool, true, false, cond, not, ◌&&◌, ◌||◌, ◌==◌, ◌++◌, nat_le, codes, List, [], Option, Some, None, is_some, option_map, refl, sym}
 use Rattle.std.proofs.Common.{ap, subst, ◌∙◌, arith}
 use Rattle.std.specs.Fmt.{decimal}
@@ -83,7 +83,7 @@ module _ (s : OfficeState) (b : BatchEntry) (is : IsState s) (new : batch_at s b
       go None found set = absurd (cc)
       go (Some x) found set = rw (found_put_still (λ (x : BatchEntry). x.number) s.batches b t.batch x new found) set
 
-  -- adding a batch leads to a state if its number is new, it is in range, it is in its first round, and it is given
+  -- adding a batch yields a state if its number is new, it is in range, it is in its first round, and it is given
   -- out
   pub added_stays : IsBeforeCount s (batch_added b) → is_batch b ≡ true → b.round ≡ 1 → is_given_out s b ≡ true → IsState (with_effect (batch_added b) s)
   added_stays before good first out =
@@ -226,7 +226,7 @@ module _ (s : OfficeState) (n : ℕ) (b : BatchEntry) (is : IsState s) (found : 
       let own = found_passes (batch_compared n) (λ (x : BatchEntry). is_judged s x (verdicts_of s x.number)) b s.batches parts.1 found in
       rw (no_verdicts s b untaken (verdicts_of s b.number) own) refl
 
-  -- moving the batch to its next round leads to a state, provided that the round is in range
+  -- moving the batch to its next round yields a state, provided that the round is in range
   next_stays : IsBeforeCount s (batch_reopened n (suc b.round)) → is_round (suc b.round) ≡ true → IsState (with_effect (batch_reopened n (suc b.round)) s)
   next_stays before good =
       let keyed = and_parts _ _ is.keyed in

@@ -26,7 +26,7 @@ use Rattle.register.specs.Verdicts as verdicts
 use Rattle.register.specs.Machine.{accepted, refused, step, decided}
 use Rattle.register.specs.Status.{status_at}
 
--- the batch in Harbour ward, with two papers, that clerks 4 and 9 key, in the given round; and another batch
+-- the batch with two papers from Harbour ward, keyed by clerks 4 and 9, in the given round; and another batch
 abbrev batch_in : ℕ → BatchEntry
 batch_in round = record { number = 12; ward = 7; size = 2; first_clerk = 4; second_clerk = 9; round = round }
 
@@ -88,7 +88,7 @@ one_clerk = refl
 
 -- ---- keyings
 
--- after the first clerk's keying, and after the second clerk's keying, which may or may not be equal
+-- after the first clerk's keying, and after the second clerk's keying, which may or may not be equal to the first
 abbrev once : OfficeState
 once = with_batch Keying 1 (keyed 4 (codes "1,2,")) [] (key_receipt 4 ∷ [])
 

@@ -1,4 +1,5 @@
--- A candidate command to which there is no objection leads from a state to a state, with a receipt that is in range.
+-- If there is no objection to a candidate command, applying it to a state yields a state, and its receipt is in
+-- range.
 use Rattle.std.proofs.Common.{rules, ◌≡◌, ℕ, ◌<◌, true, ◌&&◌, ◌++◌, codes, List, None, string_bytes, refl, arith}
 use Rattle.std.specs.Fmt.{decimal}
 use Rattle.std.proofs.lemmas.Bool.{and_parts, and_from}
@@ -28,7 +29,7 @@ withdraw_about : (m n : ℕ) → is_ward_number m ≡ true → is_candidate_numb
 unfolding is_office_subject
 withdraw_about m n h k = rw (are_plain-decimals last_ward max_candidates m n (omega arith) (omega arith) h k) refl
 
--- the numbers of a ward and a candidate, separated by a space, are a line; so is a reply that contains them
+-- the numbers of a ward and a candidate, separated by a space, form a line; so does a reply that contains them
 module _ (ward candidate : ℕ) (good : is_ward_number ward ≡ true) (fine : is_candidate_number candidate ≡ true) where
   both : IsLine 21 (decimal ward ++ (codes " " ++ decimal candidate))
   both = line_append (line_number last_ward ward (omega arith) good) (line_append (words (codes " ") (search rules) refl) (line_number max_candidates candidate (omega arith) fine))

@@ -1,4 +1,4 @@
--- A count can be read back from its tabulation, for the tabulation of any state.
+-- In any state, a count can be read back from its tabulation.
 use Rattle.std.proofs.Common.{◌≡◌, ℕ, suc, ◌+◌, ◌<◌, ◌≤◌, not, ◌==◌, true, List, [], ◌∷◌, ◌++◌, length, map, fold, replicate, drop, get_or, reverse, Some, refl, sym, subst, ap, ◌∙◌}
 use Rattle.std.proofs.Common.{append_assoc, arith, length-append, drop-cons, add-one}
 use Rattle.std.specs.List.{AllByRecursion}

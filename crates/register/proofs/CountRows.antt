@@ -27,8 +27,7 @@ use Rattle.register.specs.Machine.{accepted, refused, step, decided}
 abbrev ward : Phase → ℕ → ℕ → WardEntry
 ward phase seats done = record { number = 7; seats = seats; phase = phase; done = done; name = codes "Harbour" }
 
--- ---- three candidates for two seats, and a batch of two papers on which the two clerks' keyings agree; the second paper is
--- doubtful
+-- ---- three candidates for two seats, and a batch of two papers, keyed identically by both clerks; the second paper is doubtful
 
 -- the papers as keyed by the given clerk
 abbrev keyed : ℕ → List KeyedEntry

@@ -98,7 +98,7 @@ module _ (s : OfficeState) (actor : ℕ) (is : IsState s) (receipt : ReceiptEntr
       let later = with_effect (effect_of actor command (part_of s actor command)) s in
       nothing_added s (with_receipt receipt later) (addition_entries addition) none (of_receipt receipt later ∙ same)
 
-  -- an Advance adds the stage of the action due
+  -- an Advance adds the stage of the action that is due
   stage_alone : (ward : ℕ) → IsCountFor s (Count (Advance ward)) shown → IsAddedFor (Count (Advance ward)) shown addition → (due : HasStageDue s ward)
       → addition_entries addition ≡ addition_at (election_of s due.own) due.action
   stage_alone ward count adds due =

@@ -145,7 +145,7 @@ are_all test s = list_all (λ w. test w (candidates_of s w.number)) s.wards
 abbrev pub has_enough : WardEntry → List CandidateEntry → Bool
 has_enough w candidates = are_enough w.phase w candidates
 
--- adding a ward leads to a state if its number is new, it is in range, and it is in nominations
+-- adding a ward yields a state if its number is new, it is in range, and it is in nominations
 pub ward_stays : (s : OfficeState) (w : WardEntry) → is_ward w ≡ true → w.phase ≡ Nominations → w.done ≡ 0 → ward_at s w.number ≡ None → IsState s → IsState (with_effect (ward_added w) s)
 ward_stays s w good phase done new is =
     let placed = and_parts (are_placed s) (are_all has_enough s) is.nominated in
@@ -183,7 +183,7 @@ ward_stays s w good phase done new is =
       candidates = refl;
     }
 
--- adding a receipt leads to a state if it is in range and there is no receipt for its actor and id yet
+-- adding a receipt yields a state if it is in range and there is no receipt for its actor and id yet
 pub receipt_stays : (s : OfficeState) (r : ReceiptEntry) → is_receipt r ≡ true → receipt_at s r.actor r.id ≡ None → IsState s → IsState (with_receipt r s)
 receipt_stays s r good new is =
     let parts = and_parts _ _ is.keyed in
@@ -203,7 +203,7 @@ receipt_stays s r good new is =
     maps receipt_map = put_is_map receipt_total r s.receipts good new (maps_of is receipt_map)
     maps m = maps_of is m
 
--- The result of every command to which there is no objection: an effect that leads to a state, with the same tabulation unless it counts a stage, and
+-- The result of every command to which there is no objection: an effect that yields a state, with the same tabulation unless it counts a stage, and
 -- with a subject and a reply that the actor's receipt may have.
 pub record IsFit (s : OfficeState) (actor : ℕ) (effect : EffectEntry) (subject reply : List ℕ) : Type 0 where
   pub state : IsState (with_effect effect s)

@@ -1,4 +1,4 @@
--- What batches, keyings and verdicts depend on; if it is unchanged, they still meet the conditions for a state.
+-- The data on which batches, keyings and verdicts depend; as long as it is unchanged, they still meet the conditions for a state.
 use Rattle.std.proofs.Common.{◌≡◌, ℕ, ◌+◌, ◌≤◌, zero, suc, Bool, true, false, ◌&&◌, ◌||◌, nat_le, List, [], ◌∷◌, ◌++◌, arith, Option, Some, None, refl, sym, ap, ◌∙◌}
 use Rattle.std.specs.List.{list_all, range_with_len}
 use Rattle.std.proofs.lemmas.List.Folds.{list_all-append}

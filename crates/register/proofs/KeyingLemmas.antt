@@ -1,4 +1,4 @@
--- A clerk's command to which there is no objection leads from a state to a state, with a receipt that is in
+-- If there is no objection to a clerk's command, applying it to a state yields a state, and its receipt is in
 -- range.
 use Rattle.std.proofs.Common.{rules, inl, inr, ◌≡◌, ◌⊎◌, ℕ, suc, ◌+◌, ◌<◌, ◌≤◌, Bool, true, false, not, ◌&&◌, ◌||◌, ◌==◌, ◌++◌, nat_le, codes, List, [], ◌∷◌, length, map, filter, Option}
 use Rattle.std.proofs.Common.{Some, None, Result, Ok, Err, string_bytes, refl, sym, ap, subst, ◌∙◌, arith}
@@ -306,7 +306,7 @@ module _ (s : OfficeState) (b : BatchEntry) (actor : ℕ) (texts : List (List �
         let parts = and_parts (is_readable (columns_for s b) marks) (list_all (λ k. is_readable (columns_for s b) k.marks) (papers_from b.number b.round actor (paper + 1) others)) read in
         and_from _ _ (rw found (and_from _ _ (le-leb b.round b.round (le_refl b.round)) (and_from _ _ its parts.0))) (keyed_for_each (paper + 1) others parts.1)
 
-    -- recording a whole keying leads to a state if it is in the batch's current round, by one of the batch's
+    -- recording a whole keying yields a state if it is in the batch's current round, by one of the batch's
     -- clerks, who had no keying in that round
     pub keyed_stays : IsBeforeCount s (papers_keyed (papers_for b actor texts)) → first_bad_marks (columns_for s b) 1 texts ≡ None → IsState (with_papers s b actor texts)
     keyed_stays before none =

@@ -75,7 +75,7 @@ added_before s c own = record { number = c.ward; ward = own.ward; found = own.is
 pub withdrawn_before : (s : OfficeState) (n candidate : ℕ) → IsThere Nominations (ward_at s n) → IsBeforeCount s (candidate_withdrawn n candidate)
 withdrawn_before s n candidate own = record { number = n; ward = own.ward; found = own.is; not_sealed = ap is_counted own.phased; own = refl; wards = refl; lots = refl }
 
--- adding a candidate in a ward in nominations leads to a state if the candidate's number is new and the
+-- adding a candidate in a ward in nominations yields a state if the candidate's number is new and the
 -- candidate is in range
 pub candidate_stays : (s : OfficeState) (c : CandidateEntry) → is_candidate c ≡ true → candidate_at s c.ward c.number ≡ None → IsThere Nominations (ward_at s c.ward) → IsState s
     → IsState (with_effect (candidate_added c) s)
@@ -90,7 +90,7 @@ candidate_stays s c good new own is =
     maps candidate_map = put_is_map candidate_total c s.candidates good new (maps_of is candidate_map)
     maps m = maps_of is m
 
--- removing a candidate from a ward in nominations leads to a state
+-- removing a candidate from a ward in nominations yields a state
 pub withdrawn_stays : (s : OfficeState) (n candidate : ℕ) → IsThere Nominations (ward_at s n) → IsState s → IsState (with_effect (candidate_withdrawn n candidate) s)
 withdrawn_stays s n candidate own is =
     let effect = candidate_withdrawn n candidate in

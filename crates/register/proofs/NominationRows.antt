@@ -18,7 +18,7 @@ use Rattle.register.specs.Candidates as candidates
 use Rattle.register.specs.Machine.{accepted, kept, refused, step, decided}
 use Rattle.register.proofs.WorkedRows.{name_eve, nameless}
 
--- an office with ward Quay, which has two seats, in the given phase, with the given candidates and receipts
+-- an office with Quay ward, which has two seats and is in the given phase, and with the given candidates and receipts
 abbrev with_quay : Phase → List CandidateEntry → List ReceiptEntry → OfficeState
 with_quay phase candidates receipts = record empty_office { wards = record { number = 8; seats = 2; phase = phase; done = 0; name = codes "Quay" } ∷ []; candidates = candidates; receipts = receipts }
 

@@ -93,7 +93,7 @@ judged_alone s columns (b ∷ bs) settled =
     ap (λ (js : List Judgement). js ++ judgements columns (map (pile_of s) bs)) own
     ∙ ap (λ (js : List Judgement). judgements_on columns (verdicts_of s b.number) (settled_papers s b) ++ js) (judged_alone s columns bs parts.1)
 
--- so the ballots of settled batches result from these judgements alone
+-- so the ballots of settled batches are determined by these judgements alone
 pub settled_alone : (s : OfficeState) (columns : List ℕ) (bs : List BatchEntry) → list_all is_settled (map (pile_of s) bs) ≡ true
     → ballots_in columns (map (pile_of s) bs) ≡ ballots_by (settled_judgements s columns bs)
 settled_alone s columns bs settled = go (judgements columns (map (pile_of s) bs)) (list_all is_settled (map (pile_of s) bs)) (judged_alone s columns bs settled) settled

@@ -1,4 +1,4 @@
--- A verdict command to which there is no objection leads from a state to a state, with a receipt that is in range.
+-- If there is no objection to a verdict command, applying it to a state yields a state, and its receipt is in range.
 use Rattle.std.proofs.Common.{rules, ◌≡◌, ℕ, Bool, true, false, ◌&&◌, ◌==◌, ◌++◌, codes, List, [], ◌∷◌, filter, Option, Some, None, is_some, string_bytes, refl, sym, ap, ◌∙◌, arith, cond}
 use Rattle.std.specs.Fmt.{decimal}
 use Rattle.std.specs.List.{list_all}
@@ -43,7 +43,7 @@ put_kept {X} cmp p q x (y ∷ ys) good all = elim (is_lt (cmp x y)) as (λ b. li
     go true later each = and_from _ _ (and_parts _ _ each).0 (later (and_parts _ _ each).1)
     go false later each = later each
 
--- adding a verdict leads to a state if it is in range and is on a doubtful paper among a batch's agreed papers that has no
+-- adding a verdict yields a state if it is in range and is on a doubtful paper among a batch's agreed papers that has no
 -- verdict yet
 judged_stays : (s : OfficeState) (v : JudgedEntry) (b : BatchEntry) → is_judged_paper v ≡ true → batch_at s v.batch ≡ Some b → is_verdict_for s b v ≡ true
     → verdict_at s v.batch v.paper ≡ None → IsBeforeCount s (paper_judged v) → IsState s → IsState (with_effect (paper_judged v) s)
@@ -73,7 +73,7 @@ judged_stays s v b good found on new before is =
 
 -- ---- the command
 
--- adding a verdict in the form in which it is stored leads to a state
+-- adding a verdict in the form in which it is stored yields a state
 verdict_stays : (s : OfficeState) (batch paper : ℕ) (verdict : Verdict) (b : BatchEntry) → is_batch_number batch ≡ true → is_paper_number paper ≡ true → batch_at s batch ≡ Some b
     → has_doubtful (taken_papers s b) paper ≡ true → is_verdict (columns_for s b) verdict ≡ true → verdict_at s batch paper ≡ None
     → IsBeforeCount s (paper_judged (judged_as batch paper verdict)) → IsState s

@@ -1,4 +1,5 @@
--- A ward command to which there is no objection leads from a state to a state, with a receipt that is in range.
+-- If there is no objection to a ward command, applying it to a state yields a state, and its receipt is in
+-- range.
 use Rattle.std.proofs.Common.{rules, ◌≡◌, ℕ, Bool, true, false, cond, ◌&&◌, ◌==◌, ◌++◌, codes, List, Some, None, string_bytes, refl, sym, ap, ◌∙◌, arith}
 use Rattle.std.specs.Fmt.{decimal}
 use Rattle.std.proofs.lemmas.Bool.{and_parts, and_from}

@@ -65,7 +65,7 @@ stages_of e = stages_to (contest_of e) e.lots e.ward.done
 abbrev pub due_of : ElectionEntry → Due
 due_of e = if has_count e then due_by (contest_of e) e.lots (stages_of e) else Finished
 
--- the candidates elected after the stages done; in an uncontested ward, all candidates
+-- the candidates elected in the stages done; in an uncontested ward, all candidates
 abbrev pub elected_of : ElectionEntry → List ℕ
 elected_of e = if has_count e then elected_after (contest_of e) (stages_of e) else columns_of e.candidates
 

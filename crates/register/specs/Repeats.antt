@@ -56,7 +56,7 @@ has_texts [] [] = true
 has_texts (k ∷ ks) (text ∷ texts) = bytes_eq k.marks text && has_texts ks texts
 has_texts ks texts = false
 
--- a verdict with the same code and marks as another
+-- a verdict has the same code and marks as another
 abbrev pub is_judged_alike : JudgedEntry → JudgedEntry → Bool
 is_judged_alike other v = (v.code == other.code) && bytes_eq v.marks other.marks
 

@@ -10,7 +10,7 @@ use Rattle.register.specs.Ranges.{is_between, last_ward, last_batch, most_papers
 unfoldable pub is_plain_number : ℕ → ℕ → List ℕ → Bool
 is_plain_number low high t = not (slice_index t 0 == 48) && (all_ascii_digits t && is_between low high (digits_value 10 t))
 
--- the byte between words
+-- the byte that separates words
 abbrev pub is_space : ℕ → Bool
 is_space b = b == 32
 

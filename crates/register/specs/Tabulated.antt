@@ -204,7 +204,7 @@ pub record IsSheetOf (e : ElectionEntry) (sheet : WardSheet) : Type 0 where
   pub counted_is : IsCountedWard e sheet.counted
   pub rejected_are : is_in_count e ≡ true → sheet.rejected ≡ e.ballots.rejected
 
--- if a stage is to be counted in a contested ward, the view includes the ward's count
+-- if the command counts a stage in a contested ward, the view includes the ward's count
 abbrev pub IsCountFor : OfficeState → Command → Option CountValue → Type 0
 IsCountFor s (Count (Advance ward)) shown = (w : WardEntry) → ward_at s ward ≡ Some w → has_count (election_of s w) ≡ true → IsCount (election_of s w) shown
 IsCountFor s command shown = ⊤

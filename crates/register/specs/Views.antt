@@ -18,7 +18,7 @@ use Rattle.register.specs.Tabulated.{IsCountFor}
 use Rattle.register.specs.Machine.{Ruling, accepts, keeps, refuses, Outcome, accepted, outcome_at, decided, part_of}
 
 -- the view shows what the state has for the given command: its receipt or, if there is none, the part of the state that the command needs, and the
--- count to which a stage is to be added
+-- count to which a stage will be added
 pub record IsViewOf (s : OfficeState) (command : Command) (view : View) : Type 0 where
   pub receipt : option_map receipt_entry view.receipt ≡ receipt_at s view.actor view.id.now
   pub part : receipt_at s view.actor view.id.now ≡ None → input_entries view.part ≡ part_of s view.actor command

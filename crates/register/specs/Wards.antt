@@ -31,7 +31,7 @@ objections actor (Add ward seats name) part =
 objections actor (Close ward) part =
     objection (not (is_in_range actor (Close ward))) NumberOutOfRange ∷ phase_objections Nominations part.ward ++ (objection (not (is_stood_in part.candidates)) NoCandidates ∷ [])
 
--- a ward is to be polled: it exists and is contested
+-- a ward requires a poll: it exists and is contested
 abbrev pub is_to_be_polled : Option WardEntry → List CandidateEntry → Bool
 is_to_be_polled None candidates = false
 is_to_be_polled (Some w) candidates = is_contested w candidates

@@ -47,7 +47,7 @@ adds_candidate ward number name = commands.Candidate (candidates.Add ward number
 abbrev pub adds_batch : ℕ → ℕ → ℕ → ℕ → ℕ → Command
 adds_batch batch ward size first_clerk second_clerk = commands.Batch (batches.Add batch ward size first_clerk second_clerk)
 
--- reopens a batch in its next round
+-- reopens a batch for its next round
 abbrev pub opens_again : ℕ → Command
 opens_again batch = commands.Batch (batches.Again batch)
 
@@ -82,7 +82,7 @@ eve ward = record { ward = ward; number = 2; name = codes "Eve" }
 abbrev pub fay : ℕ → CandidateEntry
 fay ward = record { ward = ward; number = 3; name = codes "Fay" }
 
--- the batch in Harbour, with two papers, that clerks 4 and 9 key, in a given round; and a batch with one paper
+-- the batch with two papers from Harbour, keyed by clerks 4 and 9, in the given round; and a batch with one paper
 abbrev pub batch_in : ℕ → BatchEntry
 batch_in round = record { number = 12; ward = 7; size = 2; first_clerk = 4; second_clerk = 9; round = round }
 

@@ -16,7 +16,7 @@ harbour_after done =
       lots = [];
     }
 
--- a bundle of Harbour, and a figure
+-- a bundle from Harbour, and a figure
 abbrev pub lies : List ℕ → ℕ → ℕ → ℕ → PlacedEntry
 lies list papers holder value = record { ward = 7; list = list; papers = papers; holder = holder; value = value }
 

@@ -19,8 +19,8 @@ use crate::view::CommandInput;
 use crate::wards::is_in_phase;
 use std::alloc::{AllocError, Global};
 
-/// A batch of ballot papers: its number (1 to 9999), which is unique across all wards; its ward (1 to 99); its number of papers
-/// (1 to 500); the two clerks (1 to 999) assigned to key it; and its current round (1 to 99).
+/// A batch of ballot papers. Its number (1 to 9999) is unique across all wards. It also has its ward (1 to 99), its number of
+/// papers (1 to 500), the two clerks (1 to 999) assigned to key it, and its current round (1 to 99).
 #[derive(PartialEq, Drop)]
 pub struct Batch {
     pub number: u32,
@@ -53,7 +53,8 @@ pub enum BatchCommand {
     Again {
         batch: u32,
     },
-    /// Also assigns a batch whose keyings differ to a third clerk. The batch is taken as soon as any two keyings agree.
+    /// Assigns a batch whose keyings differ to a third clerk, in addition to its two clerks. The batch is taken as soon as any
+    /// two keyings agree.
     Third {
         batch: u32,
         clerk: u32,
@@ -199,7 +200,7 @@ pub(crate) fn subject_of(alloc: Global, command: &BatchCommand) -> Result<String
 }
 
 #[tactic(auto, unfolding(crate::specs::Batches::reply_to))]
-/// Returns the reply to an accepted command. If a batch is to be keyed again, the reply includes the new round.
+/// Returns the reply to an accepted command. If the command reopens a batch, the reply includes the new round.
 pub(crate) fn reply_to(
     alloc: Global,
     command: &BatchCommand,

@@ -79,8 +79,8 @@ pub fn elections_are_fair()
         → length (election_of s w).ballots.papers + all_rejected (election_of s w).ballots.rejected ≡ sum_by (λ b. b.size) (batches_of s w.number) }
 {}
 
-/// The law of the papers of a ward in count: they consist of one settled keying per batch. In a state, every batch of such a
-/// ward is settled. If only two clerks key a batch, the keying used is that of the clerk with the lower number.
+/// The law of the papers in a ward that is in count: they consist of one settled keying per batch. In a state, every batch
+/// of such a ward is settled. If only two clerks key a batch, the keying used is that of the clerk with the lower number.
 pub fn settled_papers_suffice()
     ensures { (s : OfficeState) (w : WardEntry) (columns : List ℕ) → IsState s → ward_at s w.number ≡ Some w → is_in_count (election_of s w) ≡ true
         → ballots_in columns (piles_of s w.number) ≡ ballots_by (settled_judgements s columns (batches_of s w.number)) }

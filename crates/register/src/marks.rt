@@ -66,7 +66,8 @@ pub(crate) fn marks_objection(columns: Columns, paper: u32, marks: &str) -> Opti
 }
 
 #[tactic(auto, unfolding(crate::specs::Marks::first_bad_marks))]
-/// Returns the objection to the marks on papers, numbered from 1: it names the first paper whose marks can't be read.
+/// Returns the objection to the marks on papers that are numbered from 1. It names the first paper whose marks can't be
+/// read.
 pub(crate) fn first_bad_marks(columns: Columns, papers: &[String]) -> Option<Reason>
     requires { length papers.now < 2 ^ 32 }
     ensures { result ≡ first_bad_marks columns 1 (map string_bytes papers.now) }

@@ -1,4 +1,4 @@
-//! Compares a request that is repeated with the same id with what the state has stored about the original.
+//! Compares a repeated request, which has the same id as the original, with what the state has stored about the original.
 //!
 //! A receipt contains only the id and the subject of its request. Whether a repeated request is identical to the original
 //! is therefore determined from the entry that the original created. Once a candidate has withdrawn, there is no entry

@@ -21,8 +21,8 @@ pub struct Status {
     pub stages: u32,
 }
 
-/// A batch (1 to 9999) assigned to a clerk: its ward (1 to 99), the columns and the number (1 to 500) of its papers, its
-/// current round (1 to 99), and whether this clerk has keyed it in that round.
+/// A batch (1 to 9999) assigned to a clerk, with its ward (1 to 99), the columns and the number (1 to 500) of its papers,
+/// and its current round (1 to 99). Also records whether the clerk has keyed it in that round.
 #[derive(Clone, Copy, PartialEq, Eq)]
 pub struct Work {
     pub batch: u32,

@@ -16,11 +16,11 @@ use paper::Columns;
 use std::alloc::Global;
 
 /// What a command may need from the state. Each item is present only if the command needs it and the state has it. For
-/// nominations: the ward that the command names, or to which the named batch belongs; the candidate that the command names;
-/// and the ward's candidates, ordered by number. For papers: the batch that the command names, and its third clerk; the
-/// actor's own keying of that batch; the keyings in its current round by its two or three clerks; and the verdict on the
-/// paper that the command names. For the count: the poll of the ward; what is due, given the recorded lots; the candidates
-/// elected in the stages done; and the count to which a stage is to be added. The keyings are ordered by clerk number, and
+/// nominations: the ward that the command names, or to which the named batch belongs; the candidate that the command
+/// names; and the ward's candidates, ordered by number. For papers: the batch that the command names, and its third
+/// clerk; the actor's own keying of that batch; the keyings in its current round by its clerks, two or three; and the
+/// verdict on the named paper. For the count: the poll of the ward; what is due, given the recorded lots; the candidates
+/// elected in the stages done; and the count to which a stage will be added. The keyings are ordered by clerk number, and
 /// a missing one is empty. The papers of a keying are in order.
 #[derive(Drop)]
 pub struct CommandInput {

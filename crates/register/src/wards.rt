@@ -83,7 +83,7 @@ pub fn is_contested(ward: &Ward, candidates: &[Candidate]) -> bool
     (ward.seats as usize) < candidates.len()
 }
 
-/// Returns whether a ward is to be polled: it exists and is contested.
+/// Returns whether a ward requires a poll: it exists and is contested.
 fn is_to_be_polled(ward: &Option<Ward>, candidates: &[Candidate]) -> bool
     ensures { result ≡ is_to_be_polled (option_map ward_entry ward.now) (map candidate_entry candidates.now) }
 {

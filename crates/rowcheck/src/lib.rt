@@ -15,8 +15,8 @@
 //! The conditions also have numbers, by which documents refer to them: `item1` to `item8`. Each function returns a `bool`;
 //! `item7` and `item8` wrap it in a `Result`.
 //!
-//! `are_same` compares the rows of two offices, and `finding` returns the rows with a given key to callers that iterate over an
-//! office's rows.
+//! `are_same` compares the rows of two offices, and `finding` returns the rows with a given key to callers that iterate over
+//! the rows of an office.
 #![tactic(auto)]
 
 // Rows.
