@@ -41,12 +41,12 @@ filter_again {X} p (x ∷ xs) = go (p x) refl (filter_again p xs)
     go true passes later = rw passes (ap (λ (ys : List X). x ∷ ys) later)
     go false passes later = later
 
--- reducing wards to what clerks see, twice, is the same as doing it once
+-- reducing wards to what clerks see twice is the same as doing it once
 seen_wards : (ws : List WardEntry) → map (at_stage 0) (map (at_stage 0) ws) ≡ map (at_stage 0) ws
 seen_wards [] = refl
 seen_wards (w ∷ ws) = ap (λ (xs : List WardEntry). at_stage 0 w ∷ xs) (seen_wards ws)
 
--- wards can be reduced to what clerks see before or after a ward is added
+-- adding a ward to wards reduced to what clerks see, and reducing the result, is the same as adding it before reducing
 seen_put : (w : WardEntry) (ws : List WardEntry) → map (at_stage 0) (put ward_cmp w (map (at_stage 0) ws)) ≡ map (at_stage 0) (put ward_cmp w ws)
 seen_put w [] = refl
 seen_put w (x ∷ ws) = go (is_lt (ward_cmp w x)) (seen_put w ws)
@@ -57,7 +57,7 @@ seen_put w (x ∷ ws) = go (is_lt (ward_cmp w x)) (seen_put w ws)
     go true later = ap (λ (xs : List WardEntry). at_stage 0 w ∷ at_stage 0 x ∷ xs) (seen_wards ws)
     go false later = ap (λ (xs : List WardEntry). at_stage 0 x ∷ xs) later
 
--- wards can be reduced to what clerks see before or after a ward is moved to another phase
+-- moving a ward to another phase among such reduced wards, and reducing the result, is the same as moving it before reducing
 seen_moved : (n : ℕ) (phase : Phase) (ws : List WardEntry)
     → map (at_stage 0) (changed (ward_compared n) (in_phase phase) (map (at_stage 0) ws)) ≡ map (at_stage 0) (changed (ward_compared n) (in_phase phase) ws)
 seen_moved n phase [] = refl

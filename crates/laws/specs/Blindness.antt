@@ -67,7 +67,7 @@ IsUnobserved clerk r = (s : OfficeState) → observed_at clerk s r ≡ []
 
 -- ---- consequences
 
--- the rulings on the clerk's own requests in a list, each in the state reached by then
+-- the rulings on a clerk's own requests in a list, each in the state reached at that point
 abbrev pub own_rulings : ℕ → OfficeState → List Request → List Ruling
 own_rulings clerk s [] = []
 own_rulings clerk s (r ∷ rs) = if r.actor == clerk then ruling_on s r ∷ own_rulings clerk (after_one s r) rs else own_rulings clerk (after_one s r) rs

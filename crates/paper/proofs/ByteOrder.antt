@@ -1,5 +1,5 @@
--- Strings of bytes of the same length sort in the same order as the numbers that they represent, most
--- significant byte first.
+-- Byte strings of equal length sort in the same order as the numbers that they represent, most significant byte
+-- first.
 use Rattle.std.proofs.Common.{◌≡◌, ℕ, suc, zero, ◌+◌, ◌*◌, ◌^◌, ◌<◌, ◌≤◌, inl, inr, List, [], ◌∷◌, length, take, get_or, min, refl, sym, ap, ◌∙◌, arith}
 use Rattle.std.specs.Cmp.{nat_cmp_is}
 use Rattle.std.specs.Cmp.Lexicographic.{slice_cmp}
@@ -21,7 +21,7 @@ bytes-take (suc k) [] bytes i = omega arith
 bytes-take (suc k) (x ∷ xs) bytes zero = bytes 0
 bytes-take (suc k) (x ∷ xs) bytes (suc i) = bytes-take k xs (λ j. bytes (suc j)) i
 
--- the number that a string of bytes represents is less than the smallest number with one more byte
+-- the number that a byte string represents is less than the smallest number with one more byte
 number-below : (xs : List ℕ) → AreBytes xs → number_of xs < 256 ^ length xs
 number-below [] bytes = omega arith
 number-below (x ∷ xs) bytes =
@@ -37,7 +37,7 @@ order_shifted a m n Greater is = omega (arith, is)
 order-added : (a m n : ℕ) → nat_cmp (a + m) (a + n) ≡ nat_cmp m n
 order-added a m n = sym (nat_cmp_is (a + m) (a + n) (nat_cmp m n) (order_shifted a m n (nat_cmp m n) (ranked m n (nat_cmp m n) refl)))
 
--- if the first byte of one number is lower, so is the number
+-- a number with a lower first byte is lower
 first_below : (x y m n power : ℕ) → x < y → m < power → x * power + m < y * power + n
 first_below x y m n power below small =
     let more : (x + 1) * power ≤ y * power = mul-le-mul_right power (omega (arith, below)) in

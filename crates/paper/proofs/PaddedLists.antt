@@ -50,7 +50,7 @@ put_over_zeros below c above mid k zeros left same len =
     ∙ append_assoc below (c ∷ []) (above ++ replicate left 0)
     ∙ sym (append_assoc below (c ∷ above) (replicate left 0))
 
--- the array after a number, followed by a second list, is written after a first list
+-- writing a number and another list after a list that is stored in an array
 pub padded-inserted : (below : List ℕ) (c : ℕ) (above mid : List ℕ) (k : ℕ) → length below + length above < max_candidates → mid ≡ above → k ≡ length above →
     put_mid (length below + 1) k (set (padded below) (length below) c) mid ≡ padded (below ++ c ∷ above)
 padded-inserted below c above mid k room same len =

@@ -15,7 +15,7 @@ fields text = slice_split (λ b. b == 44) text
 abbrev pub is_digit : ℕ → Bool
 is_digit b = nat_le 48 b && nat_le b 57
 
--- the number that a string of digits represents
+-- the number that a digit string represents
 abbrev pub number_in : List ℕ → ℕ
 number_in digits = fold (λ n b. n * 10 + (b - 48)) 0 digits
 

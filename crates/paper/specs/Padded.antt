@@ -12,7 +12,7 @@ listed numbers = before_first (λ n. n == 0) numbers
 abbrev pub padded : List ℕ → List ℕ
 padded list = list ++ replicate (max_candidates - length list) 0
 
--- the number that a string of bytes represents, most significant byte first
+-- the number that a byte string represents, most significant byte first
 abbrev pub number_of : List ℕ → ℕ
 number_of [] = 0
 number_of (x ∷ xs) = x * 256 ^ length xs + number_of xs

@@ -84,7 +84,7 @@ impl Tabulation {
         }
     }
 
-    /// Adds the stages done of a ward's count: its bundles in their places, and the figures of its stages. Returns `AllocError` if
+    /// Adds the stages done in a ward's count: its bundles in their places, and the figures of its stages. Returns `AllocError` if
     /// an allocation fails; in that case, part of the count may already have been added.
     pub fn add(
         &mut self,

@@ -34,7 +34,7 @@ module _ (e : ElectionEntry) (ward : WardEntry) (columns : List ℕ) (bundles : 
       let same : papers_of bundles ≡ book.contest.papers = ap (λ bs. papers_of bs) has.bundles_are ∙ ap (λ (c : Contest). c.papers) (sym has.contest_is) in
       subst (λ papers. IsPermutation (papers_of bundles) papers) same (IsPermutation-refl (papers_of bundles))
 
-  -- each of these papers has the same place in the election
+  -- each of these papers has the same place in the book as in the election
   counted_place : (paper : List ℕ) → place book.contest book.history paper ≡ place (contest_of e) (stages_of e) paper
   counted_place paper =
       ap (λ (c : Contest). place c book.history paper) (has.contest_is ∙ sym (contest-reordered (columns_of e.candidates) e.ward.seats e.ballots.papers))

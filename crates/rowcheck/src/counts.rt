@@ -82,9 +82,9 @@ fn is_declared(phase: Phase) -> bool
     phase.number() == Phase::Declared.number()
 }
 
-/// Counts the stages done of a ward in a new book, or as many of them as there are. Returns whether there are as many stages as
-/// the ward claims, every lot was needed and, if the ward is declared, nothing more is due. Returns `AllocError` if an allocation
-/// fails.
+/// Counts, in a new book, as many stages as a ward claims to be done, or as many as there are. Returns whether there are as many
+/// stages as the ward claims, every lot was needed and, if the ward is declared, nothing more is due. Returns `AllocError` if an
+/// allocation fails.
 fn count_done(
     alloc: Global,
     ward: &Ward,
@@ -132,7 +132,7 @@ fn add_stages(
     )
 }
 
-/// Adds the stages done of a ward's count to the tabulation. Returns whether the count is correct: it has the stages done, every
+/// Adds the stages done in a ward's count to the tabulation. Returns whether the count is correct: it has the stages done, every
 /// lot was needed and, if the ward is declared, nothing more is due. Returns `AllocError` if an allocation fails.
 fn add_from_ballots(
     alloc: Global,
@@ -189,7 +189,7 @@ fn is_uncounted(rows: &Rows, ward: &Ward) -> bool
     (ward.done == 0) & undrawn
 }
 
-/// Adds the stages done of a ward's count to the tabulation. Returns whether the count is correct; a ward without a count must
+/// Adds the stages done in a ward's count to the tabulation. Returns whether the count is correct; a ward without a count must
 /// have no stages done and no lots. Returns `AllocError` if an allocation fails.
 fn add_count(
     alloc: Global,

@@ -21,7 +21,7 @@ const LAST_CODE: u32 = 5;
 trait Ranged {
     ghost is_ranged: { Self → Bool };
 
-    /// Returns whether all of them are within range.
+    /// Returns whether all of the row's numbers and texts are within range.
     fn is_in_range(&self) -> bool
         ensures { result ≡ is_ranged self.now };
 }
@@ -102,7 +102,7 @@ impl Ranged for DrawnLot {
     }
 }
 
-/// Returns whether a text can be the subject of a receipt of the given actor.
+/// Returns whether a text can be the subject of a receipt for the given actor.
 fn is_about(actor: u32, subject: &str) -> bool
     ensures { result ≡ is_about actor subject.now }
 {

@@ -11,7 +11,7 @@ abbrev pub failed_calls : {T : Type 0} → Counted T → ℕ
 failed_calls s = s.failed
 
 -- how many of `len` bytes a writer accepted, given the result of a write; an error counts as a failure, and so does accepting
--- no bytes when there are any
+-- no bytes when there are any to accept
 abbrev pub taken_of : {E : Type 0} → ℕ → Result ℕ E → Option ℕ
 taken_of len (Err e) = None
 taken_of len (Ok n) = if n == 0 && nat_lt 0 len then None else Some n

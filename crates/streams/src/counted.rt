@@ -37,7 +37,7 @@ impl<T> Counted<T> {
 }
 
 /// Returns how many of `len` bytes a writer accepted, given the result of a write. Returns `None` for a failure: an error, or no
-/// bytes accepted when there are any.
+/// bytes accepted when there are any to accept.
 fn taken(answer: io::Result<usize>, len: usize) -> Option<usize>
     ensures { result ≡ taken_of len answer }
 {
