@@ -45,7 +45,7 @@ zip-within [] ys same = omega arith
 zip-within (x ∷ xs) [] same = cc
 zip-within (x ∷ xs) (y ∷ ys) same = omega (arith, zip-within xs ys (ap (drop 1) same))
 
--- the bearers among the first candidates, with the next candidate, who is or isn't a bearer
+-- the bearers among the first candidates after adding the next candidate, who may or may not be a bearer
 bearers-yes : (n : ℕ) (xs ys : List ℕ) (i : ℕ) (found more : Bearers) → found ≡ bearers_of (marked_with n (take i (zip xs ys))) → i < length xs → i < length ys →
     get_or ys i 0 ≡ n → more ≡ one_more found (get_or xs i 0) → more ≡ bearers_of (marked_with n (take (i + 1) (zip xs ys)))
 bearers-yes n xs ys i found more so_far here there same one =

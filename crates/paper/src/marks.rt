@@ -1,4 +1,4 @@
-//! Marks texts.
+//! Parses marks texts.
 
 ghost use Rattle.std.specs.Prelude.{◌≡◌, ℕ, ◌+◌, ◌-◌, ◌<◌, ◌≤◌, ◌==◌, length, take, count_by, OnOk, IfOk, IfErr, Ok, Err};
 ghost use Rattle.std.specs.List.{after_first, before_first, list_all, position_or_len};

@@ -116,7 +116,7 @@ module _ (s : OfficeState) (b : BatchEntry) (is : IsState s) (new : batch_at s b
 
 -- ---- a batch in its next round
 
--- moving a batch to another round leaves its number unchanged and keeps it in range
+-- moving a batch to another valid round leaves its number unchanged and keeps it in range
 in_range_still : (round : ℕ) → is_round round ≡ true → (x : BatchEntry) → is_batch x ≡ true → is_batch (in_round round x) ≡ true
 unfolding is_batch
 in_range_still round good x fine =

@@ -1,5 +1,5 @@
--- Batches, computed: the refusals of batch commands, keyings and verdicts; the status of the ward; and which of the offices
--- are states.
+-- Examples of batches, checked by computation: the refusals of batch commands, keyings and verdicts; the status of the
+-- ward; and which of the offices are states.
 use Rattle.std.proofs.Common.{ℕ, true, false, ◌≡◌, List, [], ◌∷◌, map, codes, refl, string_bytes, Some, ◌++◌}
 use Rattle.std.specs.Fmt.{digits}
 use Rattle.std.specs.declared.string.String.{String}

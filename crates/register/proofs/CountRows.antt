@@ -1,5 +1,5 @@
--- The count of a ward, computed: the ward's papers are judged, it is sealed, stages are counted, a lot is drawn, and the ward is
--- declared.
+-- An example of a ward's count, checked by computation: the ward's papers are judged, it is sealed, stages are counted, a lot is
+-- drawn, and the ward is declared.
 use Rattle.std.proofs.Common.{ℕ, true, false, ◌≡◌, List, [], ◌∷◌, ◌++◌, codes, refl}
 use Rattle.std.specs.Fmt.{digits}
 use Rattle.paper.specs.Preferences.{preferences_from}

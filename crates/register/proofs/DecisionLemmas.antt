@@ -91,7 +91,7 @@ module _ (s : OfficeState) (actor : ℕ) (is : IsState s) (receipt : ReceiptEntr
   abbrev IsTold : EffectEntry → Type 0
   IsTold effect = SameTabulation (with_addition (addition_entries addition) (tabulation_of s)) (tabulation_of (with_receipt receipt (with_effect effect s)))
 
-  -- a command that adds nothing leaves the tabulation unchanged
+  -- a command that adds nothing and leaves the tabulation unchanged
   stays : (command : Command) → addition_entries addition ≡ no_addition → tabulation_of (with_effect (effect_of actor command (part_of s actor command)) s) ≡ tabulation_of s
       → IsTold (effect_of actor command (part_of s actor command))
   stays command none same =

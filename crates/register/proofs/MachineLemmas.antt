@@ -1,5 +1,5 @@
--- Every step leads from a state to a state, and a repeated request gets the reply of the original if that was
--- accepted.
+-- Every step from a state leads to a state, and a repeated request gets the reply to the original one if that
+-- was accepted.
 use Rattle.std.proofs.Common.{◌≡◌, ℕ, Bool, true, false, cond, List, [], ◌∷◌, Option, Some, None, string_bytes, refl, ap, ◌∙◌}
 use Rattle.std.specs.Ordering.{nat_cmp, ordering_then}
 use Rattle.std.specs.Cmp.Lexicographic.{slice_cmp}
@@ -108,7 +108,7 @@ module _ (s : OfficeState) (actor : ℕ) (id : List ℕ) (command : Command) whe
       receipt_stays (with_effect (effect_of actor command (part_of s actor command)) s) (receipt_for actor id command (part_of s actor command))
       (and_from _ _ fit.about (and_from _ _ fit.text (and_from _ _ good fit.line))) (still_new new) fit.state
 
-  -- every step leads from a state to a state
+  -- every step from a state leads to a state
   pub step_stays : IsState s → IsState (state_after s (step s actor id command))
   unfolding step decided
   step_stays is = go (is_id id) refl (receipt_at s actor id) refl

@@ -1,4 +1,4 @@
--- Changes to candidates and wards that lead from a state to a state.
+-- Changes to candidates and wards that, applied to a state, yield a state.
 use Rattle.std.proofs.Common.{◌≡◌, ℕ, ◌==◌, not, Bool, true, false, cond, List, Option, Some, None, is_some, option_map, refl, sym, ap, ◌∙◌}
 use Rattle.std.specs.List.{list_all}
 use Rattle.std.specs.List.Sorted.{IsStrictlySortedBy}

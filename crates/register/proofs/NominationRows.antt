@@ -1,4 +1,4 @@
--- Nominations, computed: candidates are added and withdrawn, and each refusal occurs.
+-- Examples of nominations, checked by computation: candidates are added and withdrawn, and each refusal occurs.
 use Rattle.std.proofs.Common.{ℕ, true, false, ◌≡◌, List, [], ◌∷◌, codes, refl, string_bytes}
 use Rattle.std.specs.Fmt.{digits}
 use Rattle.std.specs.declared.string.String.{String}

@@ -122,7 +122,7 @@ has_verdict verdicts paper = list_any (λ (v : JudgedEntry). v.paper == paper) v
 abbrev pub is_open : List JudgedEntry → KeyedEntry → Bool
 is_open verdicts k = is_doubtful k && not (has_verdict verdicts k.paper)
 
--- the number of doubtful papers in a taken batch that have no verdict
+-- the number of a taken batch's doubtful papers that have no verdict
 abbrev pub open_in : OfficeState → BatchEntry → ℕ
 open_in s b = length (filter (is_open (verdicts_of s b.number)) (taken_papers s b))
 

@@ -13,7 +13,7 @@ use Rattle.register.specs.Agreement.{is_its_clerk, keyings_now, differ}
 use Rattle.register.specs.Effects.{EffectEntry, batch_added, batch_reopened, third_set}
 use Rattle.register.specs.CommandInputs.{CommandInputEntries, empty_input, is_in_phase, batch_objections, passes}
 
--- ---- the part of the state that belongs to a batch, if there is one
+-- ---- the part of the state that belongs to a batch, if the batch exists
 
 abbrev pub ward_for : OfficeState → Option BatchEntry → Option WardEntry
 ward_for s None = None

@@ -64,7 +64,7 @@ with_receipt r s = record s { receipts = put receipt_cmp r s.receipts }
 abbrev pub with_change : ChangeEntry → OfficeState → OfficeState
 with_change change s = with_receipt change.receipt (with_effect change.effect s)
 
--- the entry of an effect
+-- the entry for an effect
 abbrev pub effect_entry : Effect → EffectEntry
 effect_entry (WardAdded w) = ward_added (ward_entry w)
 effect_entry (WardMoved ward phase) = ward_moved ward phase
@@ -78,6 +78,6 @@ effect_entry (PaperJudged v) = paper_judged (judged_entry v)
 effect_entry (StageCounted ward done) = stage_counted ward done
 effect_entry (LotDrawn l) = lot_drawn (lot_entry l)
 
--- the entry of a change
+-- the entry for a change
 abbrev pub change_entry : Change → ChangeEntry
 change_entry change = record { effect = effect_entry change.effect; receipt = receipt_entry change.receipt }

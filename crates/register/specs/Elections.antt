@@ -90,7 +90,7 @@ is_tied (Act action) c = false
 is_tied (Lot stage kind tied) c = list_any (nat_eq c) tied
 is_tied Finished c = false
 
--- the same tests for what is due, if known; if it isn't known, neither is met
+-- the same tests for what is due, if known; if it isn't known, both tests fail
 abbrev pub has_finished : Option Due → Bool
 has_finished None = false
 has_finished (Some due) = is_finished due

@@ -33,7 +33,7 @@ next_of s w = next_in w.phase s w
 abbrev pub next_at : OfficeState → ℕ → Option NextStepEntry
 next_at s ward = option_map (next_of s) (ward_at s ward)
 
--- the entry of a step
+-- the entry for a step
 abbrev pub step_entry : NextStep → NextStepEntry
 step_entry (step.Nominations candidates seats) = nominations_end candidates seats
 step_entry (step.Papers status) = papers_stand (status_entry status)

@@ -74,35 +74,35 @@ pub record ReceiptEntry : Type 0 where
   pub subject : List ℕ
   pub reply : List ℕ
 
--- the entry of a ward
+-- the entry for a ward
 abbrev pub ward_entry : Ward → WardEntry
 ward_entry w = record { number = w.number; seats = w.seats; phase = w.phase; done = w.done; name = string_bytes w.name }
 
--- the entry of a candidate
+-- the entry for a candidate
 abbrev pub candidate_entry : Candidate → CandidateEntry
 candidate_entry c = record { ward = c.ward; number = c.number; name = string_bytes c.name }
 
--- the entry of a batch
+-- the entry for a batch
 abbrev pub batch_entry : Batch → BatchEntry
 batch_entry b = record { number = b.number; ward = b.ward; size = b.size; first_clerk = b.first_clerk; second_clerk = b.second_clerk; round = b.round }
 
--- the entry of a third clerk
+-- the entry for a third clerk
 abbrev pub third_entry : ThirdClerk → ThirdEntry
 third_entry t = record { batch = t.batch; clerk = t.clerk }
 
--- the entry of a keyed paper
+-- the entry for a keyed paper
 abbrev pub keyed_entry : KeyedPaper → KeyedEntry
 keyed_entry k = record { batch = k.batch; round = k.round; clerk = k.clerk; paper = k.paper; marks = string_bytes k.marks }
 
--- the entry of a judged paper
+-- the entry for a judged paper
 abbrev pub judged_entry : JudgedPaper → JudgedEntry
 judged_entry v = record { batch = v.batch; paper = v.paper; code = v.code; marks = string_bytes v.marks }
 
--- the entry of a lot
+-- the entry for a lot
 abbrev pub lot_entry : DrawnLot → LotEntry
 lot_entry l = record { ward = l.ward; stage = l.stage; candidate = l.candidate }
 
--- the entry of a receipt
+-- the entry for a receipt
 abbrev pub receipt_entry : Receipt → ReceiptEntry
 receipt_entry r = record { actor = r.actor; id = string_bytes r.id; subject = string_bytes r.subject; reply = string_bytes r.reply }
 

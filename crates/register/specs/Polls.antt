@@ -164,6 +164,6 @@ pub record StandFor {P : Type 0} (holds : P → List (List ℕ) → Type 0) (bal
   pub rejected_are : ballots.rejected ≡ entry.rejected
   pub settled_is : ballots.settled ≡ entry.settled
 
--- the entry of a poll
+-- the entry for a poll
 abbrev pub poll_entry : PollTally → PollEntry
 poll_entry poll = record { valid = poll.valid; rejected = poll.rejected; quota = poll.quota; settled = poll.settled }

@@ -45,7 +45,7 @@ status_at s ward = option_map (status_of s) (ward_at s ward)
 abbrev pub columns_at : OfficeState → ℕ → Option (List ℕ)
 columns_at s batch = option_map (λ (b : BatchEntry). columns_of (candidates_of s b.ward)) (batch_at s batch)
 
--- the entry of a status
+-- the entry for a status
 abbrev pub status_entry : Status → StatusEntry
 status_entry t =
     record {
@@ -84,7 +84,7 @@ work_on s clerk b =
 abbrev pub work_of : OfficeState → ℕ → List WorkEntry
 work_of s clerk = map (work_on s clerk) (filter (is_work s clerk) s.batches)
 
--- the entry of a piece of work
+-- the entry for a piece of work
 abbrev pub work_entry : Work → WorkEntry
 work_entry w = record { batch = w.batch; ward = w.ward; columns = w.columns; size = w.size; round = w.round; keyed = w.keyed }
 
@@ -108,6 +108,6 @@ paper_for s clerk b = if is_its_clerk clerk b (third_at s b.number) then option_
 abbrev pub paper_at : OfficeState → ℕ → ℕ → Option BallotPaperEntry
 paper_at s clerk batch = option_and_then (paper_for s clerk) (batch_at s batch)
 
--- the entry of a ballot paper
+-- the entry for a ballot paper
 abbrev pub paper_entry : BallotPaper → BallotPaperEntry
 paper_entry p = record { ward = p.ward.number; name = string_bytes p.ward.name; candidates = map candidate_entry p.candidates.items }

@@ -26,7 +26,7 @@ has_word_and_numbers words passes word numbers = list_any (bytes_eq word) words 
 abbrev pub is_about_ward : List ℕ → List ℕ → Bool
 is_about_ward = has_word_and_numbers (codes "ward" ∷ codes "close" ∷ codes "seal" ∷ codes "advance" ∷ codes "declare" ∷ []) (is_plain_number 1 last_ward)
 
--- a candidate of a ward is added or withdrawn
+-- a candidate in a ward is added or withdrawn
 abbrev pub is_about_candidate : List ℕ → List ℕ → Bool
 is_about_candidate = has_word_and_numbers (codes "candidate" ∷ codes "withdraw" ∷ []) (are_plain_numbers 1 last_ward 1 max_candidates)
 
@@ -38,7 +38,7 @@ is_about_lot = has_word_and_numbers (codes "lot" ∷ []) (are_plain_numbers 1 la
 abbrev pub is_about_batch : List ℕ → List ℕ → Bool
 is_about_batch = has_word_and_numbers (codes "batch" ∷ codes "again" ∷ codes "third" ∷ []) (is_plain_number 1 last_batch)
 
--- a paper of a batch is judged
+-- a paper in a batch is judged
 abbrev pub is_about_paper : List ℕ → List ℕ → Bool
 is_about_paper = has_word_and_numbers (codes "judge" ∷ []) (are_plain_numbers 1 last_batch 1 most_papers)
 

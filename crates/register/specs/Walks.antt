@@ -10,7 +10,7 @@ use Rattle.register.specs.declared.polls.Judgement.{Judgement}
 use Rattle.register.specs.Polls.{is_rejected}
 use Rattle.register.specs.Tabulated.{PlacedEntry, FigureEntry, AdditionEntries, placed_at, figure_at, figures_to}
 
--- the numbers of papers rejected with each code from 1 to 5, updated for one judgement; folding this over all judgements yields
+-- the number of papers rejected with each code from 1 to 5, updated for one judgement; folding this over all judgements yields
 -- `rejected_with` for each code
 abbrev pub and_rejected : List ℕ → Judgement → List ℕ
 and_rejected rejected judgement =
@@ -20,7 +20,7 @@ and_rejected rejected judgement =
 abbrev pub is_same_placed : Placed → Placed → Bool
 is_same_placed old new = (old.holder == new.holder) && (old.value == new.value)
 
--- the bundles of a ward whose old and new places differ
+-- a ward's bundles whose old and new places differ
 abbrev pub moved_bundles : ℕ → List Bundle → List Placed → List Placed → List PlacedEntry
 moved_bundles ward [] before now = []
 moved_bundles ward (b ∷ bs) [] now = []

@@ -16,7 +16,7 @@ use count::{Bundles, NextStage, Placed, Stage, StoredCount, figures_of};
 use paper::Columns;
 use std::alloc::{AllocError, Global};
 
-/// Returns the bundles of a ward whose places have changed, with their new places. Returns `AllocError` if an allocation
+/// Returns a ward's bundles whose places have changed, with their new places. Returns `AllocError` if an allocation
 /// fails.
 fn moved_bundles(
     alloc: Global,

@@ -32,7 +32,7 @@ pub enum Judgement {
     Open,
 }
 
-/// A collection of the preferences of valid papers, filled one paper at a time.
+/// A collection of valid papers' preferences, filled one paper at a time.
 pub trait KeepsPapers {
     // The collection contains the given papers, added in the given order.
     ghost holds: { Self → List (List ℕ) → Type 0 };

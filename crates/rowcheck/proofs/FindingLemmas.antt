@@ -129,7 +129,7 @@ module _ {X Y : Type 0} (f : X → Y) (p : Y → Bool) (q : X → Bool) (alike :
       go true later = ap (λ ys. f x ∷ ys) later
       go false later = later
 
-  -- the entry of the first row that is found
+  -- the entry for the first row that is found
   pub first_found : (xs : List X) → option_map f (slice_get (filter q xs) 0) ≡ find p (map f xs)
   first_found [] = refl
   first_found (x ∷ xs) = rw (alike x) (go (p (f x)) (first_found xs))

@@ -105,7 +105,7 @@ module _ {W X : Type 0} (own : W → ℕ) (key : X → ℕ) (test : X → Option
 -- ---- keyings
 
 module _ (s : OfficeState) (rise : IsStrictlySortedBy batch_cmp s.batches) where
-  -- Every keyed paper belongs to an existing batch, and every batch has valid papers and rounds.
+  -- every keyed paper belongs to an existing batch, and every batch has valid papers and rounds.
   pub keyed_by_batch : (list_all (λ k. is_some (batch_at s k.batch)) s.keyings && list_all (is_rightly_keyed s) s.batches) ≡ all_keyed s
   keyed_by_batch =
       rw (

@@ -9,7 +9,8 @@ use std::io::{Read, Write};
 
 /// A sink made from a writer, or a source made from a reader.
 ///
-/// An error of the writer or reader counts as a failure, and so does a write that accepts none of the bytes of a nonempty slice.
+/// An error from the writer or reader counts as a failure, and so does a write that accepts none of the bytes of a nonempty
+/// slice.
 #[derive(Drop)]
 pub struct Counted<T> {
     stream: T,

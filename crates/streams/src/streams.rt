@@ -44,8 +44,8 @@ pub trait Source {
     /// The number of failed calls so far.
     ghost failed: { Self → ℕ };
 
-    /// Reads the next bytes into the front of a buffer, and returns how many: none only if the buffer is empty or the source is
-    /// at its end.
+    /// Reads the next bytes into the front of a buffer and returns how many there are: 0 only if the buffer is empty or the
+    /// source is exhausted.
     ///
     /// After `Broken`, the bytes still to be read are unchanged; the content of the buffer is unspecified.
     fn fetch(&mut self, room: &mut [u8]) -> Result<usize, Broken>
