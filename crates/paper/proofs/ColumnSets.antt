@@ -60,7 +60,7 @@ ascends_some : (low : ℕ) (xs : List ℕ) → Ascends low xs → AllByRecursion
 ascends_some low [] up = tt
 ascends_some low (x ∷ xs) up = (omega (arith, up.0), ascends_some x xs up.2)
 
--- the array of a set of columns stores the set
+-- the array made from a set of columns stores the set
 pub listed-padded_columns : (xs : List ℕ) → IsCandidateSet xs → listed (padded xs) ≡ xs
 listed-padded_columns xs set = listed-append_zeros xs (max_candidates - length xs) (ascends_some 0 xs (ascends_from_columns xs set))
 
@@ -116,7 +116,7 @@ with_present c low (x ∷ xs) up found =
       ]
     ]
 
--- the parts of a list, split at the first number that isn't less than c
+-- a list with c inserted before the first number that isn't less than c
 abbrev pub parts : ℕ → List ℕ → List ℕ
 parts c xs = take (prefix_len (λ d. nat_lt d c) xs) xs ++ c ∷ drop (prefix_len (λ d. nat_lt d c) xs) xs
 

@@ -62,7 +62,7 @@ pub length_ranking : (xs : List ℕ) → IsRanking xs → length xs ≤ max_cand
 length_ranking xs h =
     omega (arith, length-le_from_distinct_below (0 ∷ xs) 31 (distinct_zero xs h) (λ q found. below_more 0 q (eqb q 0) (list_any (eqb q) xs) (omega arith) (below xs q h) refl found))
 
--- the array of a ranking stores the ranking
+-- the array made from a ranking stores the ranking
 pub listed-padded_ranking : (xs : List ℕ) → IsRanking xs → listed (padded xs) ≡ xs
 listed-padded_ranking xs h = listed-append_zeros xs (max_candidates - length xs) (ranking_some xs h)
 

@@ -71,8 +71,8 @@ lot_about m n h k = rw (are_plain-from last_ward first_lot_stage last_lot_stage 
 
 -- ---- the ward of a count
 
--- the stage of the given action is due in a count: the count is held, the stages done exist, and the ward moves to the
--- next stage
+-- the stage of the given action is due in a count: the election is contested, the stages done exist, and the ward
+-- moves to the next stage
 pub record IsStageDue (s : OfficeState) (n : ℕ) (w : WardEntry) (action : Action) : Type 0 where
   pub contested : has_count (election_of s w) ≡ true
   pub stages : length (stages_of (election_of s w)) ≡ w.done

@@ -154,7 +154,7 @@ module _ (s : OfficeState) (n : ℕ) (w : WardEntry) (change : WardEntry → War
       let parts = and_parts (not (b.first_clerk == b.second_clerk)) (is_polled (ward_at s b.ward) (candidates_of s b.ward)) out in
       record { given_out = and_from _ _ parts.0 (polled_still b.ward (candidates_of s b.ward) parts.1); candidates = refl }
 
-  -- after the change, an existing ward still has enough candidates, and its election is sound
+  -- the change yields a state if the changed ward still has enough candidates and its election is sound
   pub changed_stays : has_enough (change w) (candidates_of s (change w).number) ≡ true → is_sound (election_of s (change w)) ≡ true → IsState s → IsState (with_ward n change s)
   changed_stays enough sound is =
       let placed = and_parts (are_placed s) (are_all has_enough s) is.nominated in

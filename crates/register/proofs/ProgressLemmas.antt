@@ -64,7 +64,7 @@ pub record IsHeld (e : ElectionEntry) (due : Due) : Type 0 where
   pub contested : has_count e ≡ true
   pub is : due_by (contest_of e) e.lots (stages_of e) ≡ due
 
--- if anything is due, a count is held
+-- if anything is due, there is a count
 pub held : (e : ElectionEntry) (due : Due) → due_of e ≡ due → is_finished due ≡ false → IsHeld e due
 held e due is open_ = go (has_count e) refl is
   where

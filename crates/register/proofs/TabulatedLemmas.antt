@@ -206,7 +206,7 @@ module _ (ward : ℕ) where
   stage_rises stage [] up = tt
   stage_rises stage (f ∷ fs) up = (stage_above stage f fs up.0, stage_rises stage fs up.1)
 
-  -- a figure of the ward, from one of the first stages, up to the given number
+  -- a figure of the ward, from a stage no later than the given one
   abbrev IsWithin : ℕ → FigureEntry → Type 0
   IsWithin stages f = (f.ward ≡ ward) × (f.stage ≤ stages)
 

@@ -90,7 +90,7 @@ is_name t = is_utf8 t && (is_between 1 120 (length t) && list_all is_name_byte t
 abbrev pub is_id_byte : ℕ → Bool
 is_id_byte b = is_between 97 122 b || (is_between 48 57 b || (b == 45))
 
--- an id: 1 to 40 characters, each from a to z or 0 to 9, or a hyphen
+-- an id: 1 to 40 characters, each a letter from a to z, a digit or a hyphen
 unfoldable pub is_id : List ℕ → Bool
 is_id t = is_between 1 40 (length t) && list_all is_id_byte t
 

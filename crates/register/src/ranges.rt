@@ -160,7 +160,7 @@ pub fn is_name(text: &str) -> bool
     fits & are_name_bytes(bytes)
 }
 
-/// Returns whether a text is an id: 1 to 40 characters, each one of `a-z`, `0-9` and `-`.
+/// Returns whether a text is an id: 1 to 40 characters from `a-z`, `0-9` and `-`.
 pub fn is_id(text: &str) -> bool
     ensures { result ≡ is_id text.now }
 {

@@ -11,7 +11,7 @@ use std::marker::Model;
 /// The reason for refusing a request.
 #[derive(Clone, Copy, PartialEq, Eq)]
 pub enum Reason {
-    /// The id doesn't consist of 1 to 40 characters, each one of `a-z`, `0-9` and `-`.
+    /// The id doesn't consist of 1 to 40 characters from `a-z`, `0-9` and `-`.
     BadId,
     /// The receipt for this actor and id has a different subject.
     IdUsed,

@@ -240,7 +240,7 @@ fn are_of_wards(rows: &Rows, lots: &[DrawnLot]) -> bool
 }
 
 /// Returns the tabulation of the counts of all wards, for comparison by `is_tabulated`. Returns `None` unless all lots belong to
-/// existing wards and the counts are as the rows claim.
+/// existing wards and the counts match what the rows claim.
 ///
 /// In each contested ward that has been sealed, counting its papers with its lots must yield the stages done. Each of its lots
 /// must be for a stage, no later than the next one, that needed or needs a lot, and must name one of the tied candidates. If the

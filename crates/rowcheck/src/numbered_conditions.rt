@@ -11,7 +11,7 @@ use crate::rows::Rows;
 use crate::tabulation::is_tabulated;
 use std::alloc::{AllocError, Global};
 
-/// Returns whether the counts are as the rows claim: the seventh condition, for rows that meet the first and fourth
+/// Returns whether the counts match what the rows claim: the seventh condition, for rows that meet the first and fourth
 /// conditions. [`all_counted`](crate::all_counted) performs the same check and returns the tabulation of the counts.
 /// Returns `AllocError` if an allocation fails.
 pub fn item7(alloc: Global, rows: &Rows) -> Result<bool, AllocError>
