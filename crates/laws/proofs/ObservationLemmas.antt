@@ -69,7 +69,7 @@ seen_moved n phase (w ∷ ws) = go (is_eq (ward_compared n w)) (seen_moved n pha
     go true later = ap (λ (xs : List WardEntry). at_stage 0 (in_phase phase w) ∷ xs) later
     go false later = ap (λ (xs : List WardEntry). at_stage 0 w ∷ xs) later
 
--- setting the number of stages done doesn't affect what clerks see of the wards
+-- setting the number of completed stages doesn't affect what clerks see of the wards
 seen_staged : (n done : ℕ) (ws : List WardEntry) → map (at_stage 0) (changed (ward_compared n) (at_stage done) ws) ≡ map (at_stage 0) ws
 seen_staged n done [] = refl
 seen_staged n done (w ∷ ws) = go (is_eq (ward_compared n w)) (seen_staged n done ws)

@@ -18,8 +18,8 @@ pub record IsSealedIn (s : OfficeState) (w : WardEntry) : Type 0 where
 
 -- A sealed ward in a later state. It still exists, has the same number, seats and name, and is still sealed. The following are unchanged: its
 -- candidates; the keyings of each of its batches in the current round, and the verdicts on their papers; the preferences of each valid paper; and the
--- number of papers rejected with each code. The stages that had been done are the first of the stages done now. The lots that had been drawn are among
--- the lots drawn now. If the ward had been declared, its election is identical, including the result.
+-- number of papers rejected with each code. The stages that had been completed are the first of those completed now. The lots that had been drawn are
+-- among the lots drawn now. If the ward had been declared, its election is identical, including the result.
 pub record StaysSealed (s later : OfficeState) (w : WardEntry) : Type 0 where
   pub ward : WardEntry
   pub there : ward_at later w.number ≡ Some ward

@@ -53,7 +53,7 @@ module _ (e : ElectionEntry) (held : has_count e ≡ true) (done : length (stage
   bundles_done : (s : Stage) (before : History) → stages_of e ≡ s ∷ before → bundles_in e ≡ map (placed_after e (s ∷ before)) (bundled e.ballots.papers)
   bundles_done s before is = rw (some_done s before is) (ap (λ (stages : History). map (placed_after e stages) (bundled e.ballots.papers)) is)
 
-  -- the tabulated figures of the stages done, possibly none
+  -- the tabulated figures of the completed stages, possibly none
   figures_done : (stages : History) → stages_of e ≡ stages → figures_in e ≡ figures_to e.ward.number (columns_of e.candidates) stages
   figures_done [] is = rw (none_done is) refl
   figures_done (s ∷ before) is = rw (some_done s before is) (ap (figures_to e.ward.number (columns_of e.candidates)) is)

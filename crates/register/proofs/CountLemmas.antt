@@ -71,8 +71,8 @@ lot_about m n h k = rw (are_plain-from last_ward first_lot_stage last_lot_stage 
 
 -- ---- the ward of a count
 
--- the stage of the given action is due in a count: the election is contested, the stages done exist, and the ward
--- moves to the next stage
+-- the stage of the given action is due in a count: the election is contested, the completed stages exist, and the
+-- ward moves to the next stage
 pub record IsStageDue (s : OfficeState) (n : ℕ) (w : WardEntry) (action : Action) : Type 0 where
   pub contested : has_count (election_of s w) ≡ true
   pub stages : length (stages_of (election_of s w)) ≡ w.done
@@ -281,7 +281,7 @@ drawn_stays s l w good found phased due is =
     maps lot_map = put_is_map lot_total l s.lots good new (maps_of is lot_map)
     maps m = maps_of is m
 
--- the stages done are unchanged
+-- the completed stages are unchanged
 drawn_same : (s : OfficeState) (l : LotEntry) (w : WardEntry) (r : ReceiptEntry) → ward_at s l.ward ≡ Some w → w.phase ≡ Sealed → IsLotAt (due_of (election_of s w)) l.stage l.candidate → IsState s
     → HasSameStages s (with_receipt r (with_effect (lot_drawn l) s)) l.ward
 drawn_same s l w r found phased due is =
@@ -372,7 +372,7 @@ is_waited s actor ward stage candidate none =
     in
     record { office = range.0; good = range.1; own = found.ward; found = found.is; phased = found.phased; due = waits (due_of (election_of s found.ward)) stage candidate waited among }
 
--- the Lot leaves the stages done unchanged
+-- the Lot leaves the completed stages unchanged
 pub lot_keeps : (s : OfficeState) (actor ward stage candidate : ℕ) (r : ReceiptEntry) → IsState s
     → first_reason (objections actor (Lot ward stage candidate) (part_of s actor (Lot ward stage candidate))) ≡ None
     → HasSameStages s (with_receipt r (with_effect (effect_of (Lot ward stage candidate) (part_of s actor (Lot ward stage candidate))) s)) ward
@@ -399,7 +399,7 @@ is_over s actor ward none =
     in
     record { office = range.0; number = range.1; own = found.ward; found = found.is; phased = found.phased; finished = finished }
 
--- the Declare leaves the stages done unchanged
+-- the Declare leaves the completed stages unchanged
 pub declare_keeps : (s : OfficeState) (actor ward : ℕ) (r : ReceiptEntry) → IsState s → first_reason (objections actor (Declare ward) (part_of s actor (Declare ward))) ≡ None
     → HasSameStages s (with_receipt r (with_effect (effect_of (Declare ward) (part_of s actor (Declare ward))) s)) ward
 declare_keeps s actor ward r is none = let d = is_over s actor ward none in declared_same s ward d.own is d.found r

@@ -94,7 +94,7 @@ sealed_void = refl
 
 -- ---- two candidates for one seat, without papers
 
--- the ward with the given number of stages done
+-- the ward with the given number of completed stages
 abbrev quiet : Phase → ℕ → List LotEntry → List ReceiptEntry → OfficeState
 quiet phase done lots receipts =
     record {

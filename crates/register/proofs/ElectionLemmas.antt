@@ -1,4 +1,4 @@
--- Elections and their counts: what keeps a count correct up to the last stage done.
+-- Elections and their counts: what keeps a count correct up to the last completed stage.
 use Rattle.std.proofs.Common.{◌≡◌, ℕ, suc, Bool, true, false, Some, cond, not, ◌&&◌, ◌||◌, ◌==◌, List, [], ◌∷◌, length, map, None, is_some, refl, ap, ◌∙◌, arith}
 use Rattle.std.specs.List.{list_all}
 use Rattle.std.proofs.lemmas.Bool.{and_parts, and_from, eqb-true}
@@ -135,7 +135,7 @@ right_in e counted sound =
 
 -- ---- sealing a ward
 
--- without any stages done or lots recorded, the count is correct so far
+-- without any completed stages or recorded lots, the count is correct so far
 pub right_at_start : (e : ElectionEntry) → is_uncounted e ≡ true → is_declared e.ward.phase ≡ false → is_right_so_far e ≡ true
 unfolding stages_to
 right_at_start e none open_ =

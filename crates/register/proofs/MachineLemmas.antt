@@ -166,7 +166,8 @@ module _ (s : OfficeState) (actor : ℕ) (id : List ℕ) where
   abbrev own_receipt : Command → ReceiptEntry
   own_receipt command = receipt_for actor id command (part_of s actor command)
 
-  -- an accepted Advance adds the stage that is due; an accepted Lot or Declare leaves the stages done unchanged
+  -- an accepted Advance adds the stage that is due; an accepted Lot or Declare leaves the completed stages
+  -- unchanged
   pub advances : (command : Command) → IsState s → IsAdvanced s command (step s actor id command)
   advances (Count (Advance ward)) is = advances_where (Count (Advance ward)) (λ reply. tt) (λ why. tt) (λ none. advance_adds s actor ward (own_receipt (Count (Advance ward))) is none)
   advances (Count (Lot ward stage candidate)) is =

@@ -110,7 +110,7 @@ pub record KeepsWards (change : WardEntry → WardEntry) : Type 0 where
   pub compared : (m : ℕ) (x : WardEntry) → ward_compared m (change x) ≡ ward_compared m x
   pub polled : (x : WardEntry) (cs : List CandidateEntry) → is_polled (Some x) cs ≡ true → is_polled (Some (change x)) cs ≡ true
 
--- moving to any phase past nominations is such a change, and so is setting any number of stages done
+-- moving to any phase past nominations is such a change, and so is setting any number of completed stages
 pub moved : (phase : Phase) → (phase_number phase == phase_number Nominations) ≡ false → KeepsWards (in_phase phase)
 unfolding is_ward
 moved phase beyond =

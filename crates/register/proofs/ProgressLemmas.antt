@@ -23,7 +23,7 @@ use Rattle.register.proofs.MapLemmas.{list_all_weaker, put_all, same_number, bot
 use Rattle.register.proofs.ElectionLemmas.{is_sound, sound_before, uncounted_before, unsealed, uncontested, sound_in, IsRightSoFar, right_in, right_at_start}
 use Rattle.register.proofs.StageLemmas.{acted, ended, IsWaitedFor, waited_for, stage_more, same_stages}
 
--- the election with its ward in another phase, with another number of stages done, or with other lots
+-- the election with its ward in another phase, with another number of completed stages, or with other lots
 abbrev pub in_phase_of : Phase → ElectionEntry → ElectionEntry
 in_phase_of phase e = record e { ward = in_phase phase e.ward }
 
@@ -154,7 +154,7 @@ module _ (e : ElectionEntry) (ls : List LotEntry) (l : LotEntry) (kind : TiedFor
   waited : IsWaitedFor (contest_of e) e.lots (stages_of e) l.stage kind tied
   waited = let h = is_held in waited_for (contest_of e) e.lots (stages_of e) l.stage kind tied h.is
 
-  -- the lot is for the stage that follows those done
+  -- the lot is for the stage that follows the completed ones
   next_stage : l.stage ≡ e.ward.done + 1
   next_stage = let w = waited in let r = so_far in stage-due (contest_of e) (stages_of e) l.stage kind tied w.due ∙ ap (λ n. n + 1) r.stages
 
@@ -187,7 +187,7 @@ module _ (e : ElectionEntry) (ls : List LotEntry) (l : LotEntry) (kind : TiedFor
   as_before : (k : ℕ) → k < l.stage → stages_to (contest_of e) drawn_lots k ≡ stages_to (contest_of e) e.lots k
   as_before k low = same_stages (contest_of e) e.lots drawn_lots l.stage agree k low
 
-  -- the stages done are unchanged
+  -- the completed stages are unchanged
   pub stages_still : stages_of (with_lots (put lot_cmp l ls) e) ≡ stages_of e
   stages_still = let n = next_stage in as_before e.ward.done (omega (arith, n))
 

@@ -79,7 +79,8 @@ module _ (s : OfficeState) (actor : ℕ) where
   own_seen batch round = filter_both (λ (k : KeyedEntry). (k.batch == batch) && ((k.round == round) && (k.clerk == actor))) (λ k. k.clerk == actor)
       (λ k passes. (and_parts (k.round == round) (k.clerk == actor) (and_parts (k.batch == batch) ((k.round == round) && (k.clerk == actor)) passes).1).1) s.keyings
 
-  -- the part of the state that a keying needs is the same in what the clerk sees, apart from the stages done in its ward
+  -- the part of the state that a keying needs is the same in what the clerk sees, apart from the completed stages of its
+  -- ward
   part_seen : (command : KeyingCommand) → keyings.part_of (seen_by actor s) actor command
       ≡ record (keyings.part_of s actor command) { ward = option_map (at_stage 0) (ward_for s (batch_at s command.batch)) }
   part_seen command =
@@ -90,7 +91,7 @@ module _ (s : OfficeState) (actor : ℕ) where
       by_batch None = refl
       by_batch (Some b) = ward_seen b.ward
 
--- the number of stages done doesn't affect the objections to a keying
+-- the number of completed stages doesn't affect the objections to a keying
 objections_alike : (actor : ℕ) (command : KeyingCommand) (part : CommandInputEntries) (ward : Option WardEntry)
     → keyings.objections actor command (record part { ward = option_map (at_stage 0) ward }) ≡ keyings.objections actor command (record part { ward = ward })
 objections_alike actor command part None = refl
@@ -246,7 +247,8 @@ work_seen s clerk = go s.batches
 
 -- ---- the ballot paper text for the papers to be keyed
 
--- the ballot paper text depends only on what the clerk sees: everything about a ward except the number of stages done
+-- the ballot paper text depends only on what the clerk sees: everything about a ward except the number of completed
+-- stages
 pub paper_seen : (s : OfficeState) (clerk batch : ℕ) → paper_at (seen_by clerk s) clerk batch ≡ paper_at s clerk batch
 paper_seen s clerk batch = go (batch_at s batch)
   where

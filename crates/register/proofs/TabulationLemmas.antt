@@ -23,7 +23,7 @@ use Rattle.register.proofs.ProgressLemmas.{in_phase_of, with_lots}
 -- ---- entries derived from a count
 
 -- Entries derived from an election's count: there are none before the count has a stage, and they depend neither on the ward's phase nor on lots, as
--- long as the stages done are unchanged.
+-- long as the completed stages are unchanged.
 pub record IsOfCount {X : Type 0} (told : ElectionEntry → List X) : Type 0 where
   pub none : (e : ElectionEntry) → has_stages e ≡ false → told e ≡ []
   pub of_phase : (e : ElectionEntry) (phase : Phase) → told (in_phase_of phase e) ≡ told e
@@ -43,7 +43,7 @@ figures_of_count = record {
   of_lots = λ e ls same. ap (λ (stages : History). cond (has_stages e) (figures_to e.ward.number (columns_of e.candidates) stages) []) same;
 }
 
--- an election without stages done has no stages
+-- an election without completed stages has no stages
 pub no_stages : (e : ElectionEntry) → is_uncounted e ≡ true → has_stages e ≡ false
 no_stages e none = and_right (has_count e) (not (e.ward.done == 0)) (not_from_true (e.ward.done == 0) (and_parts _ _ none).0)
 
@@ -73,7 +73,7 @@ tabulation_alike s t wards alike = same_tabulation s t (whole bundles_in) (whole
     whole told = ap (flat_map (λ (w : WardEntry). told (election_of t w))) wards ∙ told_alike told s t alike s.wards
 
 module _ {X : Type 0} (told : ElectionEntry → List X) (of : IsOfCount told) (s : OfficeState) where
-  -- adding a ward without stages done
+  -- adding a ward without completed stages
   told_added : (w : WardEntry) → w.done ≡ 0 → told_by told (with_effect (ward_added w) s) ≡ told_by told s
   told_added w none = flat_put ward_cmp (λ (x : WardEntry). told (election_of s x)) w s.wards (of.none (election_of s w) (and_right (has_count (election_of s w)) (not (w.done == 0)) (rw none refl)))
 

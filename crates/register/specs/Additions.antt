@@ -41,7 +41,7 @@ addition_by e [] s = record { placed = map (placed_after e (s ∷ [])) (bundled 
 addition_by e (r ∷ before) s =
     record { placed = []; moved = map (placed_after e (s ∷ r ∷ before)) (moved_between e (r ∷ before) (s ∷ r ∷ before)); figures = figures_added e (r ∷ before) s }
 
--- what the stage of an action adds to the stages done
+-- what the stage of an action adds to the completed stages
 abbrev pub addition_at : ElectionEntry → Action → AdditionEntries
 addition_at e action = addition_by e (stages_of e) (stage_of (contest_of e) (stages_of e) action)
 

@@ -102,7 +102,7 @@ subject_of (Declare ward) = codes "declare " ++ decimal ward
 abbrev pub stage_after : ℕ → ℕ
 stage_after done = if nat_le last_lot_stage done then done else done + 1
 
--- the number of the next stage after those done in a ward
+-- the number of the stage that follows the completed stages of a ward
 abbrev pub next_stage : Option WardEntry → ℕ
 next_stage None = 1
 next_stage (Some w) = stage_after w.done

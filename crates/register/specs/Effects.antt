@@ -10,8 +10,8 @@ use Rattle.register.specs.Offices.{candidate_cmp, batch_cmp, third_cmp, keyed_cm
 use Rattle.register.specs.Offices.{candidate_entry, batch_entry, third_entry, keyed_entry, judged_entry, lot_entry, receipt_entry}
 
 -- What a command does to the state, apart from its receipt. A ward is added or enters another phase; a candidate is added or withdrawn; a batch is
--- added, reopened for another round, or assigned to a third clerk. Papers are keyed; a paper is judged; the number of stages done in a ward's count is
--- set; or a lot is drawn.
+-- added, reopened for another round, or assigned to a third clerk. Papers are keyed; a paper is judged; the number of completed stages in a ward's
+-- count is set; or a lot is drawn.
 pub data EffectEntry : Type 0 where
   ward_added : WardEntry → EffectEntry
   ward_moved : ℕ → Phase → EffectEntry
@@ -34,7 +34,7 @@ pub record ChangeEntry : Type 0 where
 abbrev pub in_phase : Phase → WardEntry → WardEntry
 in_phase phase w = record w { phase = phase }
 
--- a ward, with the given number of stages done
+-- a ward, with the given number of completed stages
 abbrev pub at_stage : ℕ → WardEntry → WardEntry
 at_stage done w = record w { done = done }
 

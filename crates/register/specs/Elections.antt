@@ -57,15 +57,15 @@ has_count e = is_contested e.ward e.candidates
 abbrev pub contest_of : ElectionEntry → Contest
 contest_of e = contest_for (columns_of e.candidates) e.ward.seats e.ballots.papers
 
--- the stages done: the first stages of the count, most recent first
+-- the completed stages: the first stages of the count, most recent first
 abbrev pub stages_of : ElectionEntry → History
 stages_of e = stages_to (contest_of e) e.lots e.ward.done
 
--- what is due after the stages done, given the recorded lots; in an uncontested ward, the count is finished
+-- what is due after the completed stages, given the recorded lots; in an uncontested ward, the count is finished
 abbrev pub due_of : ElectionEntry → Due
 due_of e = if has_count e then due_by (contest_of e) e.lots (stages_of e) else Finished
 
--- the candidates elected in the stages done; in an uncontested ward, all candidates
+-- the candidates elected in the completed stages; in an uncontested ward, all candidates
 abbrev pub elected_of : ElectionEntry → List ℕ
 elected_of e = if has_count e then elected_after (contest_of e) (stages_of e) else columns_of e.candidates
 
@@ -108,7 +108,8 @@ is_drawn_for e lot = nat_le lot.0 (e.ward.done + 1) && is_tied (due_after (conte
 abbrev pub is_declared : Phase → Bool
 is_declared phase = phase_number phase == phase_number Declared
 
--- the count has the stages done, every lot was or is needed and, if the ward is declared, the count is finished
+-- the count has as many stages as are recorded as completed, every lot was or is needed and, if the ward is
+-- declared, the count is finished
 abbrev pub is_right_so_far : ElectionEntry → Bool
 is_right_so_far e =
     (length (stages_of e) == e.ward.done) && (list_all (is_drawn_for e) e.lots && (not (is_declared e.ward.phase) || is_finished (due_after (contest_of e) (stages_of e))))

@@ -17,7 +17,7 @@ use Rattle.register.specs.declared.receipt.Receipt.{Receipt}
 
 -- ---- entries
 
--- a ward: its number, its number of seats, the phase of its election, the number of stages done in its count, and its name
+-- a ward: its number, its number of seats, the phase of its election, the number of completed stages in its count, and its name
 pub record WardEntry : Type 0 where
   pub number : ℕ
   pub seats : ℕ

@@ -75,8 +75,8 @@ all_judged s = list_all (λ v. is_some (batch_at s v.batch)) s.verdicts && list_
 unfoldable pub all_agreed : OfficeState → Bool
 all_agreed s = list_all (λ w. is_agreed (election_of s w)) s.wards
 
--- the seventh condition: every lot belongs to an existing ward; the stages done and the lots are those of the count, and there are none before the count
--- begins
+-- the seventh condition: every lot belongs to an existing ward; the completed stages and the lots are those of the count, and there are none before the
+-- count begins
 unfoldable pub all_counted : OfficeState → Bool
 all_counted s = list_all (λ l. is_some (ward_at s l.ward)) s.lots && list_all (λ w. is_counted_right (election_of s w)) s.wards
 

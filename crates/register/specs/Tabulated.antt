@@ -89,7 +89,7 @@ abbrev pub figures_to : ℕ → List ℕ → History → List FigureEntry
 figures_to ward candidates [] = []
 figures_to ward candidates (s ∷ before) = figures_to ward candidates before ++ map (figure_at ward (length before + 1)) (figures_at candidates (s ∷ before))
 
--- all figures of the stages done in a ward
+-- all figures for the completed stages of a ward
 abbrev pub figures_in : ElectionEntry → List FigureEntry
 figures_in e = if has_stages e then figures_to e.ward.number (columns_of e.candidates) (stages_of e) else []
 

@@ -238,7 +238,7 @@ pub fn stage_after(done: u32) -> u32
     }
 }
 
-/// Returns the number of the next stage after those done in a ward.
+/// Returns the number of the stage that follows the completed stages of a ward.
 fn next_stage(ward: &Option<Ward>) -> u32
     ensures { result ≡ next_stage (option_map ward_entry ward.now) }
 {

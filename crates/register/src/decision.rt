@@ -35,7 +35,7 @@ pub enum Effect {
     PapersKeyed(Vec<KeyedPaper>),
     /// Adds this verdict on a paper.
     PaperJudged(JudgedPaper),
-    /// Sets the number of stages done in the count of this ward.
+    /// Sets the number of completed stages in the count of this ward.
     StageCounted { ward: u32, done: u32 },
     /// Adds this lot.
     LotDrawn(DrawnLot),

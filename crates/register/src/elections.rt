@@ -59,7 +59,8 @@ pub struct WardSheet {
     pub rejected: [u32; REJECTIONS],
 }
 
-/// The progress of a count: what is due, given the recorded lots, and which candidates have been elected in the stages done.
+/// The progress of a count: what is due, given the recorded lots, and which candidates have been elected in the completed
+/// stages.
 #[derive(Clone, Copy)]
 pub struct Progress {
     pub due: Due,
@@ -185,8 +186,8 @@ impl Election {
         })
     }
 
-    /// Returns the ward with its count at the start, with no stages done, and how many of its papers are rejected. Returns
-    /// `None` if its number of seats exceeds the limit, which never happens in an office. Returns `AllocError` if an
+    /// Returns the ward with its count at the start, with no completed stages, and how many of its papers are rejected.
+    /// Returns `None` if its number of seats exceeds the limit, which never happens in an office. Returns `AllocError` if an
     /// allocation fails.
     pub fn begin(self, alloc: Global) -> Result<Option<WardSheet>, AllocError>
         ensures same { IfOk result (λ found. IfSome found (λ begun. (begun.counted.ward ≡ self.ward) × (begun.counted.candidates ≡ self.candidates))) }

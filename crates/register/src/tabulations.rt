@@ -21,9 +21,9 @@ use paper::{Columns, Prefs};
 use std::alloc::{AllocError, Global};
 use votes::{MAX_PAPERS, Votes};
 
-/// A bundle of equal ballot papers in a ward, with its place after the stages done. It has the preferences, one candidate's number
-/// (1 to 30) per byte, and the number of papers, at least 1. The holder is a candidate's number, or 0 for none. The value of each
-/// paper is in units.
+/// A bundle of equal ballot papers in a ward, with its place after the completed stages. It has the preferences, one candidate's
+/// number (1 to 30) per byte, and the number of papers, at least 1. The holder is a candidate's number, or 0 for none. The value of
+/// each paper is in units.
 #[derive(PartialEq, Eq, Drop)]
 pub struct PlacedBundle {
     pub ward: u32,
@@ -84,8 +84,8 @@ impl Tabulation {
         }
     }
 
-    /// Adds the stages done in a ward's count: its bundles in their places, and the figures of its stages. Returns `AllocError` if
-    /// an allocation fails; in that case, part of the count may already have been added.
+    /// Adds the completed stages of a ward's count: its bundles in their places, and the figures of its stages. Returns `AllocError`
+    /// if an allocation fails; in that case, part of the count may already have been added.
     pub fn add(
         &mut self,
         alloc: Global,

@@ -20,8 +20,8 @@ use std::alloc::Global;
 /// names; and the ward's candidates, ordered by number. For papers: the batch that the command names, and its third
 /// clerk; the actor's own keying of that batch; the keyings in its current round by its clerks, two or three; and the
 /// verdict on the named paper. For the count: the poll of the ward; what is due, given the recorded lots; the candidates
-/// elected in the stages done; and the count to which a stage will be added. The keyings are ordered by clerk number, and
-/// a missing one is empty. The papers of a keying are in order.
+/// elected in the completed stages; and the count to which a stage will be added. The keyings are ordered by clerk
+/// number, and a missing one is empty. The papers of a keying are in order.
 #[derive(Drop)]
 pub struct CommandInput {
     pub ward: Option<Ward>,

@@ -16,8 +16,8 @@ use crate::refusal::Reason;
 use crate::view::CommandInput;
 use std::alloc::{AllocError, Global};
 
-/// A ward: its number (1 to 99), its number of seats (1 to 15), its phase, the number of stages done in its count (0 to 31), and
-/// its name.
+/// A ward: its number (1 to 99), its number of seats (1 to 15), its phase, the number of completed stages in its count (0 to 31),
+/// and its name.
 #[derive(PartialEq, Drop)]
 pub struct Ward {
     pub number: u32,

@@ -98,7 +98,7 @@ module _ (e : ElectionEntry) where
   abbrev due_at : ℕ → Due
   due_at k = due_after (contest_of e) (stages_to (contest_of e) e.lots k)
 
-  -- what is due before each stage done, and before the stage that follows them
+  -- what is due before each completed stage, and before the stage that follows
   abbrev dues_of : List Due
   dues_of = map due_at (range_with_len 0 (e.ward.done + 1))
 
@@ -108,12 +108,12 @@ module _ (e : ElectionEntry) where
     | inr past ↦ let p = past.1 in rw (past.0, due_past due_at (e.ward.done + 1) (lot.0 - 1) (omega (arith, p))) refl
   ]
 
-  -- if all stages done have been counted
+  -- if all completed stages have been counted
   told : (has_finished (slice_get dues_of e.ward.done) ≡ is_finished (due_at e.ward.done)) × (list_all (is_drawn_by dues_of) e.lots ≡ list_all (is_drawn_for e) e.lots)
   told = (ap has_finished (due_within due_at (e.ward.done + 1) e.ward.done (omega arith)), all_same (is_drawn_by dues_of) (is_drawn_for e) e.lots drawn_one)
 
   module _ (asked : ℕ) (stages : History) (dues : List Due) (fair : IsContest (contest_of e)) (is : stages ≡ stages_to (contest_of e) e.lots asked) where
-    -- what this proves about the stages done and about the lots
+    -- what this proves about the completed stages and about the lots
     abbrev pub is_told : Bool
     is_told = (length stages == e.ward.done) && (list_all (is_drawn_by dues) e.lots && (not (is_declared e.ward.phase) || has_finished (slice_get dues e.ward.done)))
 
@@ -136,7 +136,7 @@ module _ (e : ElectionEntry) where
       | inr past ↦ told_many past.1 (many past.1) short
     ]
 
-    -- if as many stages are counted as are claimed to be done, the counted stages are the stages done
+    -- if as many stages are counted as are claimed to be done, the counted stages are the completed stages
     pub told_stages : (e.ward.done ≤ 31 → asked ≡ e.ward.done) → IsShort (contest_of e) stages → length stages ≡ e.ward.done → stages ≡ stages_of e
     told_stages few short all =
         let columns = length_columns (contest_of e).candidates fair.candidate_set in

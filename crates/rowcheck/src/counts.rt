@@ -1,4 +1,4 @@
-//! The counts of wards: the stages done, the lots drawn, and the tabulation.
+//! The counts of wards: the completed stages, the lots drawn, and the tabulation.
 //!
 //! The stages of a count, and what is due before each of them, are determined by its papers and lots. Each count is therefore
 //! recounted, once, and compared with the rows. The resulting bundles and figures are kept for `is_tabulated`.
@@ -132,8 +132,9 @@ fn add_stages(
     )
 }
 
-/// Adds the stages done in a ward's count to the tabulation. Returns whether the count is correct: it has the stages done, every
-/// lot was needed and, if the ward is declared, nothing more is due. Returns `AllocError` if an allocation fails.
+/// Adds the completed stages of a ward's count to the tabulation. Returns whether the count is correct: it has as many stages as
+/// the ward claims, every lot was needed and, if the ward is declared, nothing more is due. Returns `AllocError` if an allocation
+/// fails.
 fn add_from_ballots(
     alloc: Global,
     ward: &Ward,
@@ -180,7 +181,7 @@ fn add_in_count(
     }
 }
 
-/// Returns whether a ward has no stages done and no recorded lots.
+/// Returns whether a ward has no completed stages and no recorded lots.
 fn is_uncounted(rows: &Rows, ward: &Ward) -> bool
     requires { MapsAreSorted (state_of rows.now) }
     ensures { result ≡ is_uncounted (election_of (state_of rows.now) (ward_entry ward.now)) }
@@ -189,8 +190,8 @@ fn is_uncounted(rows: &Rows, ward: &Ward) -> bool
     (ward.done == 0) & undrawn
 }
 
-/// Adds the stages done in a ward's count to the tabulation. Returns whether the count is correct; a ward without a count must
-/// have no stages done and no lots. Returns `AllocError` if an allocation fails.
+/// Adds the completed stages of a ward's count to the tabulation. Returns whether the count is correct; a ward without a count
+/// must have no completed stages and no lots. Returns `AllocError` if an allocation fails.
 fn add_count(
     alloc: Global,
     rows: &Rows,
@@ -242,11 +243,11 @@ fn are_of_wards(rows: &Rows, lots: &[DrawnLot]) -> bool
 /// Returns the tabulation of the counts of all wards, for comparison by `is_tabulated`. Returns `None` unless all lots belong to
 /// existing wards and the counts match what the rows claim.
 ///
-/// In each contested ward that has been sealed, counting its papers with its lots must yield the stages done. Each of its lots
-/// must be for a stage, no later than the next one, that needed or needs a lot, and must name one of the tied candidates. If the
-/// ward is declared, the count must be finished. In any other ward, no stage may be done and no lot recorded. This is the seventh
-/// condition on the rows of an office, assuming that its tables are in key order without duplicates and meet the first and fourth
-/// conditions. Returns `AllocError` if an allocation fails.
+/// In each contested ward that has been sealed, counting its papers with its lots must yield the completed stages. Each of its
+/// lots must be for a stage, no later than the next one, that needed or needs a lot, and must name one of the tied candidates. If
+/// the ward is declared, the count must be finished. In any other ward, no stage may be done and no lot recorded. This is the
+/// seventh condition on the rows of an office, assuming that its tables are in key order without duplicates and meet the first
+/// and fourth conditions. Returns `AllocError` if an allocation fails.
 pub fn all_counted(alloc: Global, rows: &Rows) -> Result<Option<Tabulation>, AllocError>
     requires rise { MapsAreSorted (state_of rows.now) }
     requires in_range { all_in_range (state_of rows.now) ≡ true }

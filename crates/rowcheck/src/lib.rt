@@ -4,7 +4,7 @@
 //! conditions. An office opens only if they meet all of them.
 //!
 //! Each condition is defined for a state in `register`'s `specs/StateConditions.antt`, for example `all_in_range`. The function
-//! of the same name, `all_in_range(&rows)`, checks it for `state_of rows`. `all_counted` recounts the stages done in each
+//! of the same name, `all_in_range(&rows)`, checks it for `state_of rows`. `all_counted` recounts the completed stages of each
 //! count, once. If the counts are correct, it returns their tabulation; it returns `AllocError` if an allocation fails.
 //! `is_tabulated` compares the rows of bundles and figures with that tabulation, one by one: they must be the tabulation of the
 //! state (`IsTabulationOf`, in `specs/Tabulated.antt`). No list is searched once per row of another list. Lists in key order

@@ -1,5 +1,5 @@
--- Checks of the stages done in a ward's count, given what is due before each stage; and of the tabulation of those
--- stages.
+-- Checks of the completed stages of a ward's count, given what is due before each stage; and of the tabulation of
+-- those stages.
 use Rattle.std.specs.Prelude.{◌≡◌, ℕ, ◌-◌, Bool, true, List, ◌++◌, slice_get}
 use Rattle.count.specs.Books.{BundledBook}
 use Rattle.count.specs.Bundles.{Bundle, papers_of, bundled}
@@ -31,7 +31,7 @@ pub record IsOnBundlesOf (e : ElectionEntry) (ward : WardEntry) (lots : List (�
   pub lots_are : lots ≡ e.lots
   pub contest_is : contest ≡ contest_on_bundles e
 
--- a book has counted the stages done in an election, with the papers in the election's bundles
+-- a book has counted the completed stages of an election, with the papers in the election's bundles
 pub record HasCounted (e : ElectionEntry) (ward : WardEntry) (columns : List ℕ) (bundles : List Bundle) (book : BundledBook) : Type 0 where
   pub contested : has_count e ≡ true
   pub ward_is : ward ≡ e.ward
@@ -40,7 +40,7 @@ pub record HasCounted (e : ElectionEntry) (ward : WardEntry) (columns : List ℕ
   pub contest_is : book.contest ≡ contest_on_bundles e
   pub stages_are : book.history ≡ stages_of e
 
--- the stages done in an election's count were appended to a tabulation
+-- the completed stages of an election's count were appended to a tabulation
 pub record IsAdded (e : ElectionEntry) (old new : TabulationEntries) : Type 0 where
   pub bundles : new.bundles ≡ old.bundles ++ bundles_in e
   pub figures : new.figures ≡ old.figures ++ figures_in e
