@@ -46,7 +46,7 @@ module _ (s : OfficeState) (clerk : ℕ) where
       ap (λ (papers : List KeyedEntry). cond (is_keyed papers) (Some (record { round = suc n; papers = papers })) (last_keyed (seen_by clerk s) batch clerk n)) (own_seen batch (suc n))
       ∙ ap (cond (is_keyed (keying_of s batch (suc n) clerk)) (Some (record { round = suc n; papers = keying_of s batch (suc n) clerk }))) (last_seen batch n)
 
-  -- a clerk's own keying of an earlier round depends only on what the clerk sees
+  -- a clerk's own keying from an earlier round depends only on what the clerk sees
   pub earlier_seen : (batch : ℕ) → earlier_at (seen_by clerk s) clerk batch ≡ earlier_at s clerk batch
   earlier_seen batch = go (batch_at s batch)
     where

@@ -117,7 +117,7 @@ unfolding is_keyed_paper
 round_low k fine = leb-true 1 k.round (and_parts _ _ (and_parts _ _ (and_parts _ _ fine).1).0).0
 
 module _ (s : OfficeState) (is : IsState s) (batch round clerk : ℕ) where
-  -- if a keying exists, its batch exists, and it has each of the batch's papers
+  -- if a keying exists, so does its batch, and the keying has each of the batch's papers
   pub there_whole_of : (k : KeyedEntry) (ks : List KeyedEntry) → keying_of s batch round clerk ≡ k ∷ ks → (b : BatchEntry) × (batch_at s batch ≡ Some b) × (is_whole b.size (k ∷ ks) ≡ true)
   there_whole_of k ks there =
       let own = has_numbers batch round clerk k (head_passes (is_paper_of batch round clerk) k ks s.keyings there) in
@@ -136,7 +136,7 @@ module _ (s : OfficeState) (is : IsState s) (batch round clerk : ℕ) where
           ap (λ n. keying_of s n k.round k.clerk) (sym number ∙ own.batch_is) ∙ ap (λ n. keying_of s batch n k.clerk) own.round_is ∙ ap (keying_of s batch round) own.clerk_is ∙ there in
           (b, ap (batch_at s) (sym own.batch_is) ∙ found, keying_whole s b k.round k.clerk k ks same (and_parts _ _ parts.1).0 of_round)
 
-  -- the first paper of a keying has the number 1
+  -- the first paper of a keying has number 1
   starts_at_one : (k : KeyedEntry) (ks : List KeyedEntry) → keying_of s batch round clerk ≡ k ∷ ks → k.paper ≡ 1
   starts_at_one k ks there = let it = there_whole_of k ks there in first_of_whole it.0.size k ks it.2
 

@@ -101,7 +101,7 @@ lists_counted db s t bundles figures first placed shown Office has low = absurd 
 abbrev with_thirds : List ThirdClerk → OfficeState → OfficeState
 with_thirds thirds s = record s { thirds = map third_entry thirds }
 
--- these tables, and the table of third clerks
+-- the tables listed so far, and that of third clerks
 pub lists_maps : (db : Database) (s : OfficeState) (t : TabulationEntries) (thirds : List ThirdClerk) → ListsFirst 10 db s t
     → ListsEntries Third db (map (λ (x : ThirdClerk). row_of_third (third_entry x)) thirds) → ListsMaps db (with_thirds thirds s) t
 unfolding tables_with

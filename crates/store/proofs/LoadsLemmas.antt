@@ -26,7 +26,7 @@ use Rattle.store.proofs.RowLemmas.{if_entry_told, if_entries_told}
 
 -- ---- one query
 
--- a query for the entry with a key, if the row with that key is the row of the state's entry
+-- a query for the entry with a given key, if the row with that key is that of the state's entry
 pub loads_entry : {V X : Type 0} {old new : State} {r : Result (Option V) Fault} {kinds : Bool} (t : Table) (test : Row → Bool) (IsRow : Row → Type 0)
     (entry : V → X) (row : X → Row) (back : Row → X) → ((x : X) → back (row x) ≡ x) → (there : OfficeState → Option X)
     → ((s : OfficeState) → IsState s → filter test (tables_of s t) ≡ option_to_list (option_map row (there s))) → ((s : OfficeState) → IsState s → IfSome (option_map row (there s)) IsRow)
@@ -69,7 +69,7 @@ pub loads_as : {X Y : Type 0} {P : OfficeState → X → Type 0} {Q : OfficeStat
     → ((s : OfficeState) → IsState s → P s x → Q s y) → LoadsAt old new (Ok y) Q
 loads_as one told = record { shows = λ clean s at. told s at.is (one.shows clean s at); cause = λ clean s at. tt; opens = one.opens; reads = one.reads; keeps = one.keeps }
 
--- the same for a read that may have failed
+-- the same statement for a read that may have failed
 pub loads_told : {X : Type 0} {P Q : OfficeState → X → Type 0} {old new : State} {r : Result X Fault} → LoadsAt old new r P → ((s : OfficeState) (x : X) → P s x → Q s x) → LoadsAt old new r Q
 loads_told {r = Ok x} one told = record { shows = λ clean s at. told s x (one.shows clean s at); cause = λ clean s at. tt; opens = one.opens; reads = one.reads; keeps = one.keeps }
 loads_told {r = Err f} one told = record { shows = λ clean s at. tt; cause = one.cause; opens = one.opens; reads = one.reads; keeps = one.keeps }

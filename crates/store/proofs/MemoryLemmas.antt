@@ -25,7 +25,7 @@ pub map_alike : {A B : Type 0} (f g : A → B) → ((x : A) → f x ≡ g x) →
 map_alike f g same [] = refl
 map_alike {B = B} f g same (x ∷ xs) = ap (λ (y : B). y ∷ map f xs) (same x) ∙ ap (λ (ys : List B). g x ∷ ys) (map_alike f g same xs)
 
--- two states agree on a batch, except for its row
+-- two states agree about a batch, except for its row
 record HasSameOf (s t : OfficeState) (b : BatchEntry) : Type 0 where
   third : third_at t b.number ≡ third_at s b.number
   keying : (clerk : ℕ) → keying_of t b.number b.round clerk ≡ keying_of s b.number b.round clerk
@@ -129,7 +129,7 @@ known_still s effect r k apart is = is ∙ sym (known_alike s (with_effect effec
 
 -- ---- what remains of a cache
 
--- the entries that remain after a test removes all that an effect concerns are correct
+-- once a test has removed all entries that an effect concerns, the remaining entries are correct
 pub left_known : (s : OfficeState) (effect : EffectEntry) (r : ReceiptEntry) (test : CachedBatch → Bool)
     → ((k : CachedBatch) → test k ≡ false → is_about effect (row_of k) ≡ false) → (ks : List CachedBatch)
     → AreKnown s ks

@@ -385,12 +385,12 @@ bundles_none s is = older_none WithoutCounts s is Bundle (omega arith)
 pub figures_none : (s : OfficeState) → IsOlderState s → older_tables WithoutCounts s Vote ≡ []
 figures_none s is = older_none WithoutCounts s is Vote (omega arith)
 
--- with the part that it lacked, an older office has the whole tabulation
+-- once the part it lacked is added, an older office has the whole tabulation
 pub completed_filled : (form : OlderForm) (s : OfficeState) (a : AdditionEntries) → IsCompletedBy form s a → tables_with s (with_addition a (tabulation_in form s)) ≡ tables_of s
 unfolding tables_of
 completed_filled form s a lacks = ap (tables_with s) lacks
 
--- ---- at a connection
+-- ---- on a connection
 
 pub rests_older : (form : OlderForm) (db : Database) (s : OfficeState) (st : State) → RestsAt db st → HoldsOlder form db s → RestsOlder form s st
 rests_older form db s st rests held = record {
@@ -409,7 +409,7 @@ older_rests form s st older = (
   record { is = older.is; first = older.rests.first },
 )
 
--- what a stop left of an older office is identified again after reopening
+-- what a stop left of an older office is recognized again after reopening
 pub older_again : (form : OlderForm) (s : OfficeState) (db : Database) → IsDatabase db → StoresOlder form s db.trees → HoldsOlder form db s
 older_again form s db sound left = record { is = left.is; first = first_found (tables_in form) (older_tables form s) db sound left.stores }
 
@@ -440,7 +440,7 @@ unfolding IsOffice
 state_ours db s held = record { office = λ _. begins_to Office db.schema held.office.begins; every = λ _. held.office.begins }
 
 module _ (r : Result Migrated Fault) (old new : State) where
-  -- the clauses of a migration for any database: about what it opened, about a fault, and about what a stop leaves
+  -- the clauses of a migration for any database: what it opened, which fault it reports, and what a stop leaves
   abbrev Opens : Type 0
   Opens = (db : Database) → IsOurs db.schema → IsOlderSchema db.schema → RestsAt db old → IfOk r (λ m. (x : OfficeState) × WasAt db m x × IsAt x new)
 
@@ -524,7 +524,7 @@ asked_mapped (r ∷ rs) = ap (λ b. is_about_third (receipt_entry r).subject || 
 pub asked : (rows : Rows) (form : OlderForm) → list_any (λ (r : ReceiptValue). is_about_third (receipt_entry r).subject) rows.receipts.items ≡ true → ¬ IsOlderOf form (state_of rows) (tabulated rows)
 asked rows form hit is = true≢false (sym hit ∙ sym (asked_mapped rows.receipts.items) ∙ is.is.unasked)
 
--- what an older office lacks of the tabulation that was computed
+-- the part of the computed tabulation that an older office lacks
 pub if_lacking : (o : Option Addition) (rows : Rows) (form : OlderForm) (u : TabulationEntries) → list_any (λ (r : ReceiptValue). is_about_third (receipt_entry r).subject) rows.receipts.items ≡ false
     → IsBare form (state_of rows) (tabulated rows) → IsTabulatedAs (state_of rows) u
     → IfSome o (λ a. IsTabulatedAs (state_of rows) u → (tabulated rows ≡ tabulation_in form (state_of rows)) × IsCompletedBy form (state_of rows) (addition_entries a))

@@ -1,4 +1,4 @@
--- Adjacent papers are a keying if they have its numbers.
+-- Adjacent papers form a keying if they have its numbers.
 use Rattle.std.proofs.Common.{◌≡◌, ℕ, zero, suc, ◌+◌, Bool, true, cond, ◌&&◌, ◌==◌, List, [], ◌∷◌, map, filter, length, Option, Some, None, IfSome}
 use Rattle.std.proofs.Common.{Result, Ok, Err, IfOk, IfErr, OnOk, IsTrue, inl, inr, refl, sym, ap, subst, ◌∙◌, arith, Ordering, Less, Equal, nat_cmp}
 use Rattle.std.specs.Prelude.{⊤}
@@ -67,7 +67,7 @@ module _ (s : OfficeState) (is : IsState s) (batch round clerk : ℕ) where
       (same_place j k (a.batch_is ∙ sym b.batch_is) (a.round_is ∙ sym b.round_is) (a.clerk_is ∙ sym b.clerk_is) paper)
       (same_place k j (b.batch_is ∙ sym a.batch_is) (b.round_is ∙ sym a.round_is) (b.clerk_is ∙ sym a.clerk_is) (sym paper))
 
-  -- papers of a keying that are numbered alike are equal
+  -- papers of a keying with the same numbers are equal
   same_numbered : (n : ℕ) (js ks : List KeyedEntry) → length js ≡ length ks → are_numbered n js ≡ true → are_numbered n ks ≡ true
       → AllByRecursion (IsIn s batch round clerk) js → AllByRecursion (IsIn s batch round clerk) ks → js ≡ ks
   unfolding are_numbered

@@ -21,7 +21,7 @@ module _ {P : Type 0} (holds : P → List (List ℕ) → Type 0) (were : List Ju
   pub count_none : (ballots : Ballots P) → ((js : List Judgement) → were js → StandFor holds ballots (ballots_by js)) → CountAfter holds were columns verdicts ballots []
   count_none ballots start = λ js counted. subst (λ (ls : List Judgement). StandFor holds ballots (ballots_by ls)) (sym (append-nil js)) (start js counted)
 
-  -- one more paper is counted after the others
+  -- another paper is counted after the others
   pub count_more : (old new : Ballots P) (before : List KeyedPaper) (k : KeyedPaper)
       → ((js : List Judgement) → StandFor holds old (ballots_by js) → StandFor holds new (ballots_by (js ++ judgement_on columns verdicts (keyed_entry k) ∷ [])))
       → CountAfter holds were columns verdicts old (map keyed_entry before) → CountAfter holds were columns verdicts new (map keyed_entry (before ++ k ∷ []))
@@ -32,7 +32,7 @@ module _ {P : Type 0} (holds : P → List (List ℕ) → Type 0) (were : List Ju
       subst (λ (ls : List Judgement). StandFor holds new (ballots_by ls)) (append_assoc js told (judgement_on columns verdicts (keyed_entry k) ∷ []) ∙ ap
       (λ (ls : List Judgement). js ++ ls) all) (added (js ++ told) (counted js were_counted))
 
--- the judgements of one more batch
+-- the judgements on another batch
 pub judgements_after : (s : OfficeState) (columns : List ℕ) (bs : List BatchEntry) (b : BatchEntry)
     → settled_judgements s columns bs ++ judgements_on columns (verdicts_of s b.number) (settled_papers s b) ≡ settled_judgements s columns (bs ++ b ∷ [])
 judgements_after s columns bs b =

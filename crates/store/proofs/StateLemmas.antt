@@ -203,7 +203,7 @@ maps_rise s t each = record {
 
 -- ---- states
 
--- maps in ascending order with the same rows are equal, no matter which tabulation is with them
+-- maps in ascending order with the same rows are equal, whichever tabulation accompanies them
 pub equal_maps : (s x : OfficeState) (t u : TabulationEntries) → MapsAreSorted s → MapsAreSorted x → SameContents (tables_with s t) (tables_with x u) → s ≡ x
 unfolding tables_with
 equal_maps s x t u rise also same =

@@ -61,7 +61,7 @@ open_both s (b ∷ bs) cs = let later = open_both s bs cs in omega (arith, later
 pub no_tally : (s : OfficeState) (tally : Tally) → tally.taken ≡ 0 → tally.differing ≡ 0 → tally.doubtful_open ≡ 0 → IsTally s [] tally
 no_tally s tally taken differing doubtful_open = record { taken = λ few. taken; differing = λ few. differing; doubtful_open = λ few. doubtful_open }
 
--- the tally of several batches and one more
+-- the tally of several batches and another
 pub more_tally : (s : OfficeState) (bs : List BatchEntry) (b : BatchEntry) (some one sum : Tally) → IsTally s bs some → IsTally s (b ∷ []) one
     → (sum.taken ≡ min (some.taken + one.taken) (2 ^ 64 - 1)) × (sum.differing ≡ min (some.differing + one.differing) (2 ^ 64 - 1)) ×
     (sum.doubtful_open ≡ min (some.doubtful_open + one.doubtful_open) (2 ^ 64 - 1)) → IsTally s (bs ++ b ∷ []) sum

@@ -64,7 +64,7 @@ strange_store : (n : ℕ) (db : Database) (f : Fault) → (f ≡ Memory) ⊎ (f 
 strange_store n db f (inl same) = subst (TellsStrange n db) (sym same) tt
 strange_store n db f (inr same) = subst (TellsStrange n db) (sym same) tt
 
--- rows that are not a list of entries are not those of any state
+-- no state has rows that are not a list of entries
 pub told_strange : (n : ℕ) (t : Table) (IsRow : Row → Type 0) → has_entries t ≡ true → place_of t < n → ((s : OfficeState) → IsState s → AllByRecursion IsRow (tables_of s t))
     → (db : Database) (f : Fault)
     → (f ≡ Memory) ⊎ ((f ≡ Store) ⊎ ((f ≡ Damaged) × HoldsNone t IsRow db)) → TellsStrange n db f
@@ -72,7 +72,7 @@ told_strange n t IsRow has low fits db f (inl memory) = strange_store n db f (in
 told_strange n t IsRow has low fits db f (inr (inl store)) = strange_store n db f (inr store)
 told_strange n t IsRow has low fits db f (inr (inr none)) = subst (TellsStrange n db) (sym none.0) (t, has, low, λ s is. none.1 (tables_of s t) (fits s is) (tables_rise s is t has))
 
--- if one of the first `n` tables has rows that no state has, so has one of the first `m`
+-- if one of the first `n` tables has rows that no state has, so does one of the first `m`
 pub strange_more : (n m : ℕ) → n ≤ m → (db : Database) (f : Fault) → TellsStrange n db f → TellsStrange m db f
 strange_more n m up db Memory told = tt
 strange_more n m up db Store told = tt
@@ -268,7 +268,7 @@ pub state_version : (db : Database) (s : OfficeState) → HoldsState db s → Ha
 unfolding IsOffice
 state_version db s holds = subst (λ rows. HoldsTable Office rows db.trees) (office_rows s) (holds.office.holds Office)
 
--- the faults of an opening, from those of its parts
+-- the faults reported by an opening, from those of its parts
 pub told_office : (db : Database) → has_table Office db.schema ≡ true → (f : Fault) → FaultOfOfficeTable db f → IsFaultOf db f
 told_office db there Memory told = tt
 told_office db there Store told = tt

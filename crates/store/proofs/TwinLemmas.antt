@@ -88,7 +88,7 @@ module _ (s : OfficeState) (k c : CachedBatch) (own : IsKnown s k) (taken : is_t
 
 -- ---- the first twin
 
--- one more element that doesn't pass a test, after others that don't
+-- another element that doesn't pass a test, after others that don't
 pub find_more : {X : Type 0} (p : X → Bool) (xs : List X) (x : X) → find p xs ≡ None → p x ≡ false → find p (xs ++ x ∷ []) ≡ None
 find_more p [] x none other = rw other refl
 find_more {X} p (y ∷ xs) x none other = go (p y) (find_more p xs x) none
@@ -123,7 +123,7 @@ module _ {X : Type 0} (row : CachedBatch → X) (known : List CachedBatch) (k : 
 
 -- ---- the batches of a ward
 
--- the overviews of several batches and one more
+-- the overviews of several batches and another
 pub views_more : (s : OfficeState) (ward : ℕ) (bs : List BatchEntry) (b : BatchEntry) (before : List BatchView) (found : Option BatchView) → before ≡ map (batch_view_of s)
     (filter (λ (c : BatchEntry). c.ward == ward) bs)
     → found ≡ batch_view_in s ward b → before ++ option_to_list found ≡ map (batch_view_of s) (filter (λ (c : BatchEntry). c.ward == ward) (bs ++ b ∷ []))

@@ -72,7 +72,7 @@ equal_rows rows news same = subst (IsPermutation rows) same (IsPermutation-refl 
 
 -- ---- wards
 
--- one more ward
+-- another ward
 pub ward_put : (s : OfficeState) (t : TabulationEntries) (w : WardEntry) → SameContents (added Ward (row_of_ward w) (tables_with s t)) (tables_with (with_effect (ward_added w) s) t)
 unfolding added tables_with
 ward_put s t w = filled_changed (office_rows ∷ []) Ward (map row_of_ward s.wards) (map row_of_ward (put ward_cmp w s.wards))
@@ -90,7 +90,7 @@ phase_put s t number phase =
     (map (λ r. cond (has_key Ward values r) (with_value PhaseOfWard (value_set PhaseOfWard values) r) r)) refl
     (equal_rows _ _ (rows_set PhaseOfWard values row_of_ward (λ w. is_eq (ward_compared number w)) (in_phase phase) (λ w. key_of_number number w.number) (λ w. refl) s.wards))
 
--- a ward with this number of stages done
+-- a ward with the given number of stages done
 pub done_put : (s : OfficeState) (t : TabulationEntries) (number done : ℕ) → SameContents (value_put DoneOfWard (Int (pos number) ∷ Int (pos done) ∷ []) (tables_with s t))
     (tables_with (with_effect (stage_counted number done) s) t)
 unfolding value_put tables_with
@@ -103,7 +103,7 @@ done_put s t number done =
 
 -- ---- candidates
 
--- one more candidate
+-- another candidate
 pub candidate_put : (s : OfficeState) (t : TabulationEntries) (c : CandidateEntry) → SameContents (added Candidate (row_of_candidate c) (tables_with s t))
     (tables_with (with_effect (candidate_added c) s) t)
 unfolding added tables_with
@@ -124,7 +124,7 @@ candidate_gone s t ward number =
 
 -- ---- batches
 
--- one more batch
+-- another batch
 pub batch_put : (s : OfficeState) (t : TabulationEntries) (b : BatchEntry) → SameContents (added Batch (row_of_batch b) (tables_with s t)) (tables_with (with_effect (batch_added b) s) t)
 unfolding added tables_with
 batch_put s t b =
@@ -143,7 +143,7 @@ round_put s t number round =
     (map (λ r. cond (has_key Batch values r) (with_value RoundOfBatch (value_set RoundOfBatch values) r) r)) refl
     (equal_rows _ _ (rows_set RoundOfBatch values row_of_batch (λ b. is_eq (batch_compared number b)) (in_round round) (λ b. key_of_number number b.number) (λ b. refl) s.batches))
 
--- one more third clerk
+-- another third clerk
 pub third_put : (s : OfficeState) (t : TabulationEntries) (e : ThirdEntry) → SameContents (added Third (row_of_third e) (tables_with s t)) (tables_with (with_effect (third_set e) s) t)
 unfolding added tables_with
 third_put s t e =
@@ -171,7 +171,7 @@ papers_put s t papers =
     (subst (λ rows. IsPermutation rows (map row_of_keyed (put_each keyed_cmp papers s.keyings))) (map-append row_of_keyed papers s.keyings)
     (IsPermutation-map row_of_keyed (papers ++ s.keyings) (put_each keyed_cmp papers s.keyings) (put_each_same keyed_cmp papers s.keyings)))
 
--- one more verdict
+-- another verdict
 pub verdict_put : (s : OfficeState) (t : TabulationEntries) (v : JudgedEntry) → SameContents (added Verdict (row_of_judged v) (tables_with s t)) (tables_with (with_effect (paper_judged v) s) t)
 unfolding added tables_with
 verdict_put s t v =
@@ -181,7 +181,7 @@ verdict_put s t v =
 
 -- ---- lots
 
--- one more lot
+-- another lot
 pub lot_put : (s : OfficeState) (t : TabulationEntries) (l : LotEntry) → SameContents (added Lot (row_of_lot l) (tables_with s t)) (tables_with (with_effect (lot_drawn l) s) t)
 unfolding added tables_with
 lot_put s t l =
@@ -191,7 +191,7 @@ lot_put s t l =
 
 -- ---- receipts
 
--- one more receipt
+-- another receipt
 pub receipt_put : (s : OfficeState) (t : TabulationEntries) (r : ReceiptEntry) → SameContents (added Receipt (row_of_receipt r) (tables_with s t)) (tables_with (with_receipt r s) t)
 unfolding added tables_with
 receipt_put s t r = filled_changed (office_rows ∷ ward_rows s ∷ candidate_rows s ∷ batch_rows s ∷ keying_rows s ∷ verdict_rows s ∷ lot_rows s ∷ []) Receipt
@@ -204,7 +204,7 @@ receipt_put s t r = filled_changed (office_rows ∷ ward_rows s ∷ candidate_ro
 abbrev state_rows : OfficeState → List (Table × List Row)
 state_rows s = office_rows ∷ ward_rows s ∷ candidate_rows s ∷ batch_rows s ∷ keying_rows s ∷ verdict_rows s ∷ lot_rows s ∷ receipt_rows s ∷ []
 
--- a tabulation with some bundles in their new places
+-- a tabulation with the moved bundles in their new places
 abbrev pub with_moved : List PlacedBundle → TabulationEntries → TabulationEntries
 with_moved moved t = record t { bundles = fold (λ bundles b. moved_to b bundles) t.bundles (map placed_entry moved) }
 

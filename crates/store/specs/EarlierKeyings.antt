@@ -4,7 +4,7 @@ use Rattle.register.specs.Offices.{KeyedEntry, BatchEntry, OfficeState, keyed_en
 use Rattle.register.specs.Agreement.{is_keyed, is_its_clerk}
 use Rattle.store.specs.declared.earlier_keyings.KeyedRound.{KeyedRound}
 
--- a round of a batch that a clerk keyed, and the papers in order, as the clerk keyed them
+-- a round of a batch that a clerk keyed, and the papers, in order, as the clerk keyed them
 pub record KeyedRoundEntry : Type 0 where
   pub round : ℕ
   pub papers : List KeyedEntry
@@ -19,7 +19,7 @@ last_keyed s batch clerk (suc n) =
 abbrev pub earlier_for : OfficeState → ℕ → BatchEntry → Option (Option KeyedRoundEntry)
 earlier_for s clerk b = if is_its_clerk clerk b (third_at s b.number) then Some (last_keyed s b.number clerk (b.round - 1)) else None
 
--- the same for the batch with this number, if there is one
+-- the same for the batch with the given number, if there is one
 abbrev pub earlier_at : OfficeState → ℕ → ℕ → Option (Option KeyedRoundEntry)
 earlier_at s clerk batch = option_and_then (earlier_for s clerk) (batch_at s batch)
 

@@ -17,7 +17,7 @@ IsPhase v = (p : Phase) × (v ≡ Int (pos (phase_number p)))
 abbrev pub this_version : ℕ
 this_version = 2
 
--- the row of the office, with a schema version
+-- the row of the office, with the given schema version
 abbrev pub office_row : ℕ → Row
 office_row version = Int (pos 1) ∷ Int (pos version) ∷ []
 

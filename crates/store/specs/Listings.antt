@@ -25,7 +25,7 @@ use Rattle.store.specs.EntryRows.{row_of_batch, row_of_keyed, row_of_judged}
 use Rattle.store.specs.StateTables.{tables_of, tables_with}
 use Rattle.store.specs.Openings.{has_entries}
 
--- A listing of rows, for any database of this kind at which the connection rests: what it finds there, which fault is reported for the rows, and why it
+-- A listing of rows, for any database of the given kind at which the connection rests: what it finds there, which fault is reported for the rows, and why it
 -- fails. It changes nothing, and the connection is open if it succeeds.
 pub record ListsAt {X : Type 0} (old new : State) (result : Result X Fault) (IsKind : Database → Type 0) (IsTold : Database → X → Type 0) (Gives : Database → Fault → Type 0) : Type 0 where
   pub lists : HasCleanDisk new → (db : Database) → IsKind db → RestsAt db old → IfOk result (IsTold db)

@@ -1,4 +1,4 @@
--- An office that an earlier program made, and the result of its migration.
+-- An office made by an earlier program, and the result of its migration.
 use Rattle.std.specs.Prelude.{◌≡◌, ◌⊎◌, ◌==◌, ℕ, Bool, true, false, List, [], ◌∷◌, codes, ⊤, Result, Err, IfOk, IfErr}
 use Rattle.std.specs.List.{list_any, starts_with}
 use Rattle.sqlite.specs.Tree.{Trees}
@@ -86,7 +86,7 @@ HoldsNoOlder db = (form : OlderForm) (s : OfficeState) → ¬ HoldsOlder form db
 
 -- ---- what a migration reports
 
--- the database contained this state: at this version, and nothing had to be done, or as an older office
+-- the database contained this state: in this version, so nothing had to be done, or as an older office
 abbrev pub WasAt : Database → Migrated → OfficeState → Type 0
 WasAt db Already s = HoldsState db s
 WasAt db Done s = (form : OlderForm) × HoldsOlder form db s
@@ -108,19 +108,19 @@ IsToldInMigration db WrongDatabase = HasNoOffice db
 IsToldInMigration db NewerSchema = IsNewer db
 IsToldInMigration db OlderSchema = ⊥
 
--- why a migration failed, if it reports a fault of the store: either not all rows could be listed; or the rows are the older tables of a state, and nothing
+-- why a migration failed, if it reports a fault of the store: either the rows couldn't all be listed, or the rows are the older tables of a state, and nothing
 -- specifies why a write fails
 abbrev pub FailsToMigrate : Database → State → State → Fault → Type 0
 FailsToMigrate db old new f = FailsToList db old new f ⊎ ((form : OlderForm) × (s : OfficeState) × HoldsOlder form db s)
 
 -- ---- the parts of a migration
 
--- the maps that were read have no third clerk; and in the form without counts there was no tabulation
+-- the maps that were read have no third clerk; and, in the form without counts, there was no tabulation
 pub record IsBare (form : OlderForm) (s : OfficeState) (t : TabulationEntries) : Type 0 where
   pub no_thirds : s.thirds ≡ []
   pub no_counts : form ≡ WithoutCounts → t ≡ no_tabulation
 
--- these maps are an older state, and this is the tabulation that such an office has
+-- these maps form an older state, and this is the tabulation that such an office has
 pub record IsOlderOf (form : OlderForm) (s : OfficeState) (t : TabulationEntries) : Type 0 where
   pub is : IsOlderState s
   pub tabulated : t ≡ tabulation_in form s

@@ -1,4 +1,4 @@
--- What may be found when an office is opened.
+-- What an opening may find.
 use Rattle.std.specs.Prelude.{◌≡◌, ◌≢◌, ◌⊎◌, ◌<◌, ℕ, ℤ, pos, ◌<ℤ◌, Bool, true, false, List, [], ◌∷◌, ⊤, IsTrue}
 use Rattle.sqlite.specs.declared.types.Value.TheVariants.{Int}
 use Rattle.sqlite.specs.Order.{Row}
@@ -31,7 +31,7 @@ IsNewer db = (version : ℤ) × (pos this_version <ℤ version) × (tuples Offic
 abbrev pub IsOlder : Database → Type 0
 IsOlder db = tuples Office db.trees ≡ office_row 1 ∷ []
 
--- the office table has exactly one row, that of an office of this version
+-- the office table has exactly one row, that of an office of the given version
 abbrev pub HasVersion : ℕ → Database → Type 0
 HasVersion version db = HoldsTable Office (office_row version ∷ []) db.trees
 
@@ -72,7 +72,7 @@ pub record IsBlank (st : State) : Type 0 where
 
 -- ---- the parts of an opening
 
--- the fault reported for the rows of a table: `Damaged` only if they are not those of any state
+-- the fault reported for the rows of a table: `Damaged` only if no state has them
 abbrev pub TellsNoState : Database → Fault → Type 0
 TellsNoState db Memory = ⊤
 TellsNoState db Store = ⊤
@@ -82,7 +82,7 @@ TellsNoState db WrongDatabase = ⊥
 TellsNoState db NewerSchema = ⊥
 TellsNoState db OlderSchema = ⊥
 
--- the row is that of an office of this version
+-- the row is that of an office of the given version
 abbrev pub IsVersion : ℕ → Row → Type 0
 IsVersion version row = at (column_places Office) row ≡ office_row version
 
@@ -134,7 +134,7 @@ has_entries Office = false
 abbrev pub ListsMaps : Database → OfficeState → TabulationEntries → Type 0
 ListsMaps db s t = (u : Table) → has_entries u ≡ true → ListsEntries u db (tables_with s t u)
 
--- these maps are a state, and this is the tabulation of its counts
+-- these maps form a state, and this is the tabulation of its counts
 abbrev pub IsTabulatedAs : OfficeState → TabulationEntries → Type 0
 IsTabulatedAs s t = IsState s × IsTabulationOf t s
 

@@ -11,7 +11,7 @@ use Rattle.store.specs.declared.overviews.piles.ReadBatch.{ReadBatch}
 use Rattle.store.specs.Keyings.{keyings_by}
 use Rattle.store.specs.Overviews.{BatchView, standing_by, batch_view, batch_view_with, pile_in}
 
--- these are the keyings of the current round of a batch, and its third clerk
+-- these are the keyings of a batch's current round, and its third clerk
 pub record KeyingsAre (s : OfficeState) (b : BatchEntry) (keyings : Keyings) : Type 0 where
   pub third_is : option_map third_entry keyings.third_clerk ≡ third_at s b.number
   pub they_are : keyings_by keyings ≡ keyings_now s b
@@ -40,7 +40,7 @@ abbrev pub is_pile : List ℕ → Option (List ℕ) → Bool
 is_pile text None = false
 is_pile text (Some pile) = bytes_eq text pile
 
--- the numbers of the batches with this text as their pile
+-- the numbers of the batches that have this text as their pile
 abbrev pub numbers_with : List ReadView → List ℕ → List ℕ
 numbers_with batches text = map (λ (r : ReadView). r.number) (filter (λ (r : ReadView). is_pile text r.pile) batches)
 

@@ -32,7 +32,7 @@ use sqlite::Alter;
 use tables::Fault;
 
 impl<S: Alter> Store<S> {
-    /// Returns the part of the state that an actor's command needs, and the count to which a stage is to be added.
+    /// Returns the part of the state that an actor's command needs, and the count to which a stage will be added.
     fn find_part(&mut self, actor: u32, command: &Command) -> Result<CommandInput, Fault>
         ensures { Loads S.Store self.old self.new result (λ s part. (input_entries part ≡ part_of s actor command.now) × IsCountFor s command.now part.count) }
     {

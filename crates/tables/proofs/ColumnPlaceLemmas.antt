@@ -14,7 +14,7 @@ padded zero r = []
 padded (suc n) [] = Null ∷ padded n []
 padded (suc n) (v ∷ vs) = v ∷ padded n vs
 
--- A value in front shifts the indices by one.
+-- Prepending a value shifts the indices by one.
 shifted : (k n : ℕ) (v : Value) (r : Row) → at (places_from (suc k) n) (v ∷ r) ≡ at (places_from k n) r
 shifted k zero v r = refl
 shifted k (suc n) v r = ap (λ l. column r k ∷ l) (shifted (suc k) n v r)
@@ -59,7 +59,7 @@ padded_column (suc n) (suc k) (v ∷ vs) low = padded_column n k vs (omega (arit
 pub column_shown : (n k : ℕ) (r : Row) → k < n → column (at (places_from 0 n) r) k ≡ column r k
 column_shown n k r low = ap (λ (x : Row). column x k) (pads n r) ∙ padded_column n k r low
 
--- a row of the right kinds consists of the values at its indices
+-- a row with values of the correct kinds consists of the values at its indices
 pub typed_at : (cs : List Column) (r : Row) → are_of cs r ≡ true → at (places_from 0 (length cs)) r ≡ r
 typed_at cs r h = pads (length cs) r ∙ padded_itself (length cs) r (typed_length cs r h)
 

@@ -41,7 +41,7 @@ width key place [] (v ∷ vs) h = absurd (true≢false (sym h))
 width key place (c ∷ cs) [] h = omega arith
 width key place (c ∷ cs) (v ∷ vs) h = let later : length vs ≤ length cs = width key (place + 1) cs vs (and_parts _ (are_typed key (place + 1) cs vs) h).1 in omega (arith, later)
 
--- each table is in a schema that begins with the tables up to it
+-- a schema that begins with the tables up to a given one has that table
 begun_has : (t : Table) (s : Schema) → BeginsTo t s → Has s.tables (definition t)
 begun_has Office s h = subst (λ (x : Schema). Has x.tables (definition Office)) (sym h.is) (inl refl)
 begun_has Ward s h = subst (λ (x : Schema). Has x.tables (definition Ward)) (sym h.is) (inr (inl refl))
@@ -101,7 +101,7 @@ shown_rows t test db rows lists =
     ap (at (column_places t)) raw.2 ∙ at_twice (length (columns_of t)) raw.0 ∙ sym raw.2)
     ∙ mapped_itself rows
 
--- rows of the right kinds that are returned by a query for all rows are the table's contents
+-- rows with values of the correct kinds, returned by a query for all rows, are the table's contents
 pub rows_held : (t : Table) (db : Database) → BeginsTo t db.schema → IsDatabase db → (rows : List Row) → ListsKeyed t db rows → list_all (is_row_of t) rows ≡ true → HoldsTable t rows db.trees
 rows_held t db begins sound rows keyed typed =
     let n = length (columns_of t) in
@@ -129,12 +129,12 @@ held_listed t db rows lists held holds =
 
 -- ---- rows that a table can't contain
 
--- a row that isn't of a kind is in no list of rows of that kind
+-- a row that isn't of a given kind is in no list of rows of that kind
 no_wrong : (IsRow : Row → Type 0) (rows : List Row) → HasInvalidRow IsRow rows → (held : List Row) → AllByRecursion IsRow held → IsPermutation held rows → ⊥
 no_wrong IsRow rows other held all same =
     other.2 (all_has IsRow held (get_or rows other.0 []) all (permuted_has (get_or rows other.0 []) rows held (IsPermutation-sym _ _ same) (has_at rows other.0 [] other.1)))
 
--- rows of which two have the same key aren't, in any order, a list in ascending key order
+-- rows with a repeated key aren't, in any order, a list in ascending key order
 no_repeat : (t : Table) (rows : List Row) → IsSorted (row_cmp t) rows → FailsToRise t rows → (held : List Row) → IsStrictlySortedBy (row_cmp t) held → IsPermutation held rows → ⊥
 no_repeat t rows sorted fails held rise same =
     let apart = IsDistinct-IsPermutation (eq_by_cmp (row_cmp t)) (eq_by_cmp_equiv (row_total t)).symm held rows same (IsDistinct-from_sorted (row_cmp t) held rise) in

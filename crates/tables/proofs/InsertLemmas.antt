@@ -75,13 +75,13 @@ cast_all_of (c ∷ cs) (v ∷ vs) h = ap (λ x. x ∷ cast_all cs vs) (one c.kin
 
 -- ---- the statement
 
--- one table's rows may have changed, and those of no other table
+-- one table's rows may have changed, and no other table's
 pub record Changes (schema : Schema) (tree : ℕ) (old new : Database) : Type 0 where
   pub is : new.schema ≡ schema
   pub sound : IsDatabase new
   pub others : AllByRecursion (λ t. t.tree ≢ tree → new.trees t.tree ≡ old.trees t.tree) schema.tables
 
--- one table has one more row
+-- one table has an additional row
 pub record Adds (schema : Schema) (tree : ℕ) (tuple : Row) (old new : Database) : Type 0 where
   pub changes : Changes schema tree old new
   pub row : IsPermutation (tuple ∷ map (drop 1) (old.trees tree)) (map (drop 1) (new.trees tree))

@@ -1,4 +1,4 @@
--- What each INSERT is parsed as, under a schema that begins with the tables.
+-- How each INSERT is parsed, under a schema that begins with the tables.
 use Rattle.std.proofs.Common.{◌≡◌, ℕ, ◌+◌, List, [], ◌∷◌, ◌++◌, length, ◌/◌, refl, slice_get, Some, map}
 use Rattle.std.specs.List.{flat_map, filter_map}
 use Rattle.sqlite.specs.declared.types.Value.TheVariants.{Null}

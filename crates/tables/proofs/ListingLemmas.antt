@@ -1,4 +1,4 @@
--- What the queries of a table return.
+-- What the queries on a table return.
 use Rattle.std.proofs.Common.{◌≡◌, ℕ, zero, suc, ◌+◌, ◌<◌, ◌≤◌, List, [], ◌∷◌, ◌++◌, map, filter, drop, length, Bool, true, Ok, Err, Result, IfOk, refl, sym, ap, subst, ◌∙◌, arith}
 use Rattle.std.specs.List.{list_all}
 use Rattle.std.specs.List.Sorted.{IsPermutation, IsSorted}
@@ -29,7 +29,7 @@ use Rattle.tables.proofs.ReadLemmas.{rests_at}
 use Rattle.tables.proofs.SelectLemmas.{reads_rows, shows_columns, ordered_terms, ordered_keys, columns_from, ordered_from}
 use Rattle.tables.proofs.Queries.{Reads, scans, selects_rowids}
 
--- a schema that begins with all tables begins with those up to any one
+-- a schema that begins with all tables begins with those up to any one of them
 pub begins_to : (t : Table) (s : Schema) → IsOfficeSchema s → BeginsTo t s
 begins_to Office s h =
     record { rest = map definition (drop (1 + place_of Office) all_tables) ++ h.rest; others = map key_index (drop (1 + place_of Office) all_tables) ++ h.others; views = h.views; is = h.is }
@@ -39,7 +39,7 @@ pub key_within : (t : Table) → (shape t).key ≤ length (columns_of t)
 key_within Office = omega arith
 key_within t = omega arith
 
--- a comparison of keys depends only on the first columns
+-- comparing keys depends only on the first columns
 same_keys : (k n : ℕ) (a b x y : Row) → ((j : ℕ) → j < k + n → column a j ≡ column x j) → ((j : ℕ) → j < k + n → column b j ≡ column y j)
     → key_cmp k (ascending_keys n) a b ≡ key_cmp k (ascending_keys n) x y
 same_keys k zero a b x y first second = refl

@@ -1,4 +1,4 @@
--- What a query for some rows finds.
+-- What a query finds.
 use Rattle.std.proofs.Common.{◌≡◌, ◌⊎◌, inl, inr, List, [], ◌∷◌, map, filter, length, Option, Some, None, IfSome, slice_index_or, option_map, Bool, refl, sym, ap, subst, ◌∙◌, arith}
 use Rattle.std.specs.Option.{option_to_list}
 use Rattle.std.specs.List.{AllByRecursion}
@@ -24,7 +24,7 @@ use Rattle.tables.proofs.ListingLemmas.{office_of}
 pub itself : (t : Table) (c : Contents) (s : State) → Rests c s → (r : Row) → Has (c t) r → at (column_places t) r ≡ r
 itself t c s rests r there = typed_at (columns_of t) r (test_has (is_row_of t) (c t) r ((office_of c s rests).holds t).typed there)
 
--- the rows of the entries are the rows that were found
+-- the rows of the entries are the rows found
 pub found_as : (t : Table) (test : Row → Bool) (c : Contents) (rows shown : List Row) → Finds t test c rows → map (at (column_places t)) rows ≡ shown → (s : State) → Rests c s → Finds t test c shown
 found_as t test c rows shown finds is s rests =
     let whole : map (at (column_places t)) rows ≡ rows =

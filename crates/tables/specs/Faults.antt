@@ -38,10 +38,10 @@ abbrev pub value_fault : Error → Fault
 value_fault (SqliteFailure OutOfMemory) = Memory
 value_fault _ = Damaged
 
--- the fault is the reason why `sqlite` refused this query
+-- the fault says why `sqlite` refused this query
 abbrev pub TellsQuery : List ℕ → Row → State → State → Fault → Type 0
 TellsQuery sql params old new f = (e : Error) × (f ≡ fault_of e) × (HasCleanDisk new → FailsToQuery sql params old new e)
 
--- the fault is the reason why `sqlite` refused this statement inside a transaction
+-- the fault says why `sqlite` refused this statement inside a transaction
 abbrev pub TellsStatement : List ℕ → Row → State → State → Fault → Type 0
 TellsStatement sql params old new f = (e : Error) × (f ≡ fault_of e) × (HasCleanDisk new → IsTrue old.in_transaction → ExecutesInside 0 sql params old new (Err e))

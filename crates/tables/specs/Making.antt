@@ -21,7 +21,7 @@ pub record FirstAt (n : ℕ) (c : Contents) (db : Database) : Type 0 where
   pub sound : IsDatabase db
   pub holds : HoldsFirst n c db.trees
 
--- the same; opaque, to keep a proof search from unfolding it
+-- the same condition; opaque, to keep a proof search from unfolding it
 unfoldable pub HasFirstTables : ℕ → Contents → Database → Type 0
 HasFirstTables = FirstAt
 

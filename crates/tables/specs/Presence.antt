@@ -9,11 +9,11 @@ use Rattle.tables.specs.declared.presence.TablesPresent.{TablesPresent}
 use Rattle.tables.specs.declared.presence.TablesPresent.TheVariants.{Whole, WithoutThird, WithoutCounts, Other}
 use Rattle.tables.specs.Schema.{shape, all_tables, schema_from, BeginsTo, IsOfficeSchema}
 
--- whether some table has the name of this one, ignoring the case of ASCII letters
+-- whether any table has the name of this one, ignoring the case of ASCII letters
 abbrev pub has_table : Table → Schema → Bool
 has_table t s = list_any (λ d. same_name d.name (shape t).name) s.tables
 
--- whether some table of an office exists
+-- whether any table of an office exists
 abbrev pub has_some_table : Schema → Bool
 has_some_table s = list_any (λ t. has_table t s) all_tables
 

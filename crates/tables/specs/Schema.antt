@@ -28,7 +28,7 @@ Definition = sqlite_table.Table
 
 -- ---- differences between the tables
 
--- a column as it is defined in the text of its table: whole numbers, texts or bytes, and the range to which it is restricted
+-- a column as it is defined in the text of its table: whole numbers, texts or bytes, and the range it is restricted to
 pub record Field : Type 0 where
   pub name : List ℕ
   pub kind : Kind
@@ -50,7 +50,7 @@ words name = record { name = name; kind = Text; range = None }
 abbrev pub bytes : List ℕ → Field
 bytes name = record { name = name; kind = Blob; range = None }
 
--- A table's name and columns; `key` is the number of first columns that form the key.
+-- A table's name and columns; `key` is the number of leading columns that form the key.
 pub record Shape : Type 0 where
   pub name : List ℕ
   pub key : ℕ
@@ -160,7 +160,7 @@ all_tables = Office ∷ Ward ∷ Candidate ∷ Batch ∷ Keying ∷ Verdict ∷ 
 
 -- ---- the schema
 
--- this many consecutive numbers, from this one
+-- the given number of consecutive numbers, starting with the given one
 abbrev pub places_from : ℕ → ℕ → List ℕ
 places_from k zero = []
 places_from k (suc n) = k ∷ places_from (suc k) n
@@ -182,7 +182,7 @@ keyed_by key name tree columns checks = record {
   is_counted = false;
 }
 
--- a table of this shape, with its rows in this tree
+-- a table with the given shape, whose rows are in the given tree
 abbrev pub shaped : Shape → ℕ → Definition
 shaped s tree = keyed_by (places_from 1 s.key) s.name tree (map column_of s.fields) (checks_from 1 s.fields)
 
@@ -213,7 +213,7 @@ pub record BeginsTo (t : Table) (s : Schema) : Type 0 where
   pub views : List View
   pub is : s ≡ schema_from (1 + place_of t) rest others views
 
--- these tables refer to no other tables
+-- the given tables refer to no other tables
 abbrev pub AreFree : List Definition → Type 0
 AreFree = AllByRecursion (λ t. t.references ≡ [])
 

@@ -54,7 +54,7 @@ impl Table {
         }
     }
 
-    /// Returns how many of the first columns form the key: 1 to 4.
+    /// Returns how many leading columns form the key: 1 to 4.
     pub fn key_columns(self) -> usize
         ensures { result ≡ (shape self).key }
     {

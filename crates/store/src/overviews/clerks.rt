@@ -1,4 +1,4 @@
-//! A batch's clerks, and which of them have keyed it, read from the tables.
+//! The clerks of a batch, and which of them have keyed it, read from the tables.
 
 ghost use Rattle.std.specs.Prelude.{◌≡◌, map, IfOk};
 ghost use Rattle.register.specs.Offices.{batch_entry};

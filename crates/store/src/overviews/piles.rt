@@ -14,8 +14,8 @@ use register::KeyedPaper;
 use std::alloc::{AllocError, Global};
 use std::collections::HashMap;
 
-/// The data that was read for a batch: its number; its papers as one text, if it is taken; and its overview without its
-/// twin, if it belongs to the requested ward.
+/// The data read for a batch: its number; its papers as one text, if it is taken; and its overview without its twin, if
+/// it belongs to the requested ward.
 #[derive(Drop)]
 pub(crate) struct ReadBatch {
     pub(crate) number: u32,
@@ -83,7 +83,7 @@ fn put_under(
     Ok(())
 }
 
-/// Appends the number of a batch that was read to its group, if the batch is taken.
+/// Appends the number of a batch to its group if the batch is taken.
 fn put_batch(
     alloc: Global,
     numbers: &mut HashMap<String, Vec<u32>>,
@@ -97,7 +97,7 @@ fn put_batch(
     }
 }
 
-/// Returns the numbers of the batches that were read, in order, grouped by their piles.
+/// Returns the numbers of the given batches, in order, grouped by their piles.
 pub(crate) fn numbers_by_pile(
     alloc: Global,
     batches: &[ReadBatch],
@@ -140,7 +140,7 @@ fn twin_under(
     first_other(group, number)
 }
 
-/// Returns the overview of a batch that was read, with its twin, which is found in these numbers.
+/// Returns the overview of a batch, with its twin, which is looked up in `numbers`.
 fn paired(numbers: &HashMap<String, Vec<u32>>, batch: ReadBatch) -> Option<BatchOverview>
     ensures { option_map batch_view result ≡ paired (numbers_under numbers.now) (read_view batch) }
 {
@@ -156,7 +156,7 @@ fn paired(numbers: &HashMap<String, Vec<u32>>, batch: ReadBatch) -> Option<Batch
     }
 }
 
-/// Returns the overviews of batches that were read, in order, each with its twin.
+/// Returns the overviews of the given batches, in order, each with its twin.
 pub(crate) fn all_paired(
     alloc: Global,
     numbers: &HashMap<String, Vec<u32>>,

@@ -77,7 +77,7 @@ impl<S: Alter> Store<S> {
         })
     }
 
-    /// Returns the overviews of these wards, which are all wards of an office. They are read one after another.
+    /// Returns the overviews of the given wards, which are all the wards of an office. They are read one after another.
     fn ward_overviews(&mut self, wards: Vec<Ward>) -> Result<Vec<WardOverview>, Fault>
         requires { IsOpen S.Store self.old }
         ensures { Loads S.Store self.old self.new result (λ s found. map ward_entry wards.items ≡ s.wards → map ward_view found.items ≡ ward_views s) }

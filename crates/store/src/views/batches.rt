@@ -18,7 +18,7 @@ use tables::value_conversion::number;
 use tables::{Fault, Reference};
 
 impl<S: Alter> Store<S> {
-    /// Returns the batch with this number, if there is one.
+    /// Returns the batch with the given number, if there is one.
     pub(crate) fn find_batch(&mut self, batch: u32) -> Result<Option<Batch>, Fault>
         ensures { Loads S.Store self.old self.new result (λ s found. option_map batch_entry found ≡ batch_at s batch) }
     {
@@ -44,7 +44,7 @@ impl<S: Alter> Store<S> {
         entries_beginning::<Batches, S>(self.alloc, &mut self.conn, &[])
     }
 
-    /// Returns the third clerk of the batch with this number, if one is assigned.
+    /// Returns the third clerk of the batch with the given number, if one is assigned.
     pub(crate) fn find_third(&mut self, batch: u32) -> Result<Option<ThirdClerk>, Fault>
         ensures { Loads S.Store self.old self.new result (λ s found. option_map third_entry found ≡ third_at s batch) }
     {

@@ -21,7 +21,7 @@ use std::alloc::Global;
 use tables::Fault;
 
 /// Returns the input of a command that needs the poll of an election, if there is one. It fails only if the ward has no
-/// seats or too many, which is never the case in an office.
+/// seats or too many, which never happens in an office.
 fn polled(alloc: Global, found: Option<Election>) -> Result<CommandInput, Fault>
     ensures part { IfOk result (λ part. (entry : Option ElectionEntry) → IsFoundFor found entry → input_entries part ≡ polled_part entry) }
     ensures cause { IfErr result (λ f. f ≡ Fault.Store) }
@@ -86,7 +86,7 @@ impl<S: Alter> Store<S> {
     }
 
     /// Returns the count of a contested ward before its first stage, begun from its papers, and how many of the papers
-    /// are rejected. `None` if the ward has too many seats, which is never the case in an office.
+    /// are rejected. Returns `None` if the ward has too many seats, which never happens in an office.
     pub(crate) fn begin_sheet(&mut self, contest: CountedWard) -> Result<Option<WardSheet>, Fault>
         ensures { Loads S.Store self.old self.new result
             (λ s found. WasFound s contest → has_count (election_in s contest) ≡ true → contest.ward.done ≡ 0 → IsBegun (election_in s contest) found) }
@@ -99,8 +99,8 @@ impl<S: Alter> Store<S> {
         }
     }
 
-    /// Returns the count of a contested ward that has a stage, as it was stored, from the tabulation alone. `None` if
-    /// the tabulation is not that of any count; in an office it always is.
+    /// Returns the count of a contested ward that has a stage, as it was stored, from the tabulation alone. Returns
+    /// `None` if no count has this tabulation; in an office one always does.
     pub(crate) fn resume_count(
         &mut self,
         contest: CountedWard,
@@ -118,7 +118,8 @@ impl<S: Alter> Store<S> {
         }
     }
 
-    /// Returns the count of a contested ward: begun from its papers if no stage is done, otherwise from the tabulation alone.
+    /// Returns the count of a contested ward: begun from its papers if no stage has been done, otherwise read from the
+    /// tabulation alone.
     pub(crate) fn contested_count(
         &mut self,
         contest: CountedWard,
@@ -136,7 +137,7 @@ impl<S: Alter> Store<S> {
         }
     }
 
-    /// Returns the ward with this number, if there is one, and its count if it is contested.
+    /// Returns the ward with the given number, if there is one, and its count if it is contested.
     fn find_count(&mut self, ward: u32) -> Result<Option<CountedWard>, Fault>
         ensures { Loads S.Store self.old self.new result (λ s found. IsCountedFor (option_map (election_of s) (ward_at s ward)) found) }
     {

@@ -14,7 +14,7 @@ use tables::finding::{entries_beginning, find_entry};
 use tables::value_conversion::number;
 
 impl<S: Alter> Store<S> {
-    /// Returns the ward with this number, if there is one.
+    /// Returns the ward with the given number, if there is one.
     pub(crate) fn find_ward(&mut self, ward: u32) -> Result<Option<Ward>, Fault>
         ensures { Loads S.Store self.old self.new result (λ s found. option_map ward_entry found ≡ ward_at s ward) }
     {
