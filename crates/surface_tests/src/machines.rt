@@ -1,4 +1,4 @@
-//! The calls of `register`: each command, and the decision on it.
+//! The functions of `register`: each command, and the decision on it.
 
 use register::{Command, CommandInput, Decision, Request, Verdict, View, decide};
 use std::alloc::{AllocError, Global};
@@ -9,7 +9,7 @@ fn decision_on(alloc: Global, view: &View<'_>, command: &Command) -> Result<Deci
     decide(alloc, view, command)
 }
 
-/// Returns the view that the machine has of an empty office, for a request with this id.
+/// Returns the machine's view of an empty office, for a request with the given id.
 fn view_of(alloc: Global, id: &str) -> View<'_> {
     View {
         actor: 0,
@@ -61,7 +61,7 @@ fn texts(alloc: Global) -> Result<[Command; 3], AllocError> {
     ])
 }
 
-/// Returns the number of the refusal of a command with a bad id, and the length of its text.
+/// Returns the number of the refusal of a command with a bad id, and the length of the refusal's text.
 fn refused(alloc: Global, command: &Command) -> Result<Option<(u32, usize)>, AllocError> {
     let decision = decision_on(alloc, &view_of(alloc, "BAD"), command)?;
     Ok(refusal_in(&decision))

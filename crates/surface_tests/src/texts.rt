@@ -1,4 +1,4 @@
-//! The calls of `sheet` and `keyfile`: the texts of a ward, and import files.
+//! The functions of `sheet` and `keyfile`: the texts of a ward, and import files.
 
 ghost use Rattle.std.specs.Prelude.{◌-◌, ◌^◌, ◌<◌};
 ghost use Rattle.sheet.specs.Wards.{CanBePrinted};

@@ -1,4 +1,4 @@
-//! The calls of `votes` and `paper`: values and the streams to which their text is written, marks, and preferences.
+//! The functions of `votes` and `paper`: values and the streams to which their text is written, marks, and preferences.
 
 ghost use Rattle.std.specs.Prelude.{◌-◌, ◌^◌, ◌<◌};
 
@@ -32,7 +32,7 @@ fn fetch<R: Source>(source: &mut R, room: &mut [u8]) -> Result<usize, Broken>
     source.fetch(room)
 }
 
-/// Reads from these bytes. Also returns how many calls failed.
+/// Reads from the given bytes. Also returns how many calls failed.
 fn fetch_from(bytes: &[u8]) -> (Result<usize, Broken>, u64) {
     let mut room = [0; 4];
     let mut source = Counted::new(bytes);

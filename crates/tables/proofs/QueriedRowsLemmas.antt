@@ -41,7 +41,7 @@ found_cause t test c IsRow rows f finds all (inr wrong) =
     let there = has_filtered test (c t) _ (permuted_has _ rows (filter test (c t)) (IsPermutation-sym _ _ finds.same) (has_at rows k.0 [] k.1)) in
     absurd (k.2 (all_has IsRow (c t) _ all there.0))
 
--- ---- the row with a key
+-- ---- the row with a given key
 
 -- the only row of a query doesn't represent an entry
 pub one_other : (IsRow : Row → Type 0) (o : Option Row) (rows : List Row) → rows ≡ option_to_list o → HasInvalidRow IsRow rows → ¬ IfSome o IsRow

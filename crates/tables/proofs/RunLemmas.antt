@@ -28,7 +28,7 @@ use Rattle.tables.proofs.QueriedRowsLemmas.{itself}
 use Rattle.tables.proofs.CauseLemmas.{if_fails, begun, either_way, places_length}
 use Rattle.tables.proofs.RunQueries.{selects_rowid, accepts_rowid, between_tests, selects_between, accepts_between}
 
--- ---- the rowid of the row with a key
+-- ---- the rowid of the row with a given key
 
 -- the rows returned are rowids of rows with the given key
 pub rowid_shown : (t : Table) (key : Row) → length key ≡ (shape t).key → (db : Database) → BeginsTo t db.schema → (old new : State) (rows : List Row)

@@ -22,7 +22,7 @@ use Rattle.tables.proofs.QueryLemmas.{query_text}
 use Rattle.tables.proofs.SelectLemmas.{IsSelect, query as one_select, columns_from, tests_from}
 use Rattle.tables.proofs.CauseLemmas.{number_in, text_in, bytes_in, behind}
 
--- ---- the rowid of the row with a key
+-- ---- the rowid of the row with a given key
 
 -- the conditions on a SELECT of the rowid of the row with a given key
 pub record ReadsRowid (t : Table) : Type 0 where
