@@ -215,7 +215,7 @@ const RECORDS: &str = "\u{feff}count,\"Ann \"\"A\"\", jr.\",Bob,Cy\r
 2,1,1,2\r
 ";
 
-/// The ballots that result from these records.
+/// The ballots that result from `RECORDS`.
 const RECORDED: &str = r#"3 2
 4 1 2 0
 2 1 3 0
@@ -286,7 +286,7 @@ const RANKED: &str = "count,rank1,Rank 2,rank 3
 2,,,
 ";
 
-/// The ballots that result from these records.
+/// The ballots that result from `RANKED`.
 const RANKED_BALLOTS: &str = r#"3 2
 4 1 2 0
 2 1 3 0

@@ -187,7 +187,7 @@ doubtful_at s ward = option_map (λ (w : WardEntry). doubtful_papers s w.number)
 
 -- ---- differences
 
--- whether a keying has this paper with these marks
+-- whether a keying has the given paper with the same marks
 abbrev pub has_alike : KeyedEntry → List KeyedEntry → Bool
 has_alike k keying = list_any (λ (j : KeyedEntry). (j.paper == k.paper) && bytes_eq j.marks k.marks) keying
 

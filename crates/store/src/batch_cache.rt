@@ -100,8 +100,8 @@ pub(crate) fn copy_known(alloc: Global, known: &CachedBatch) -> Result<CachedBat
     })
 }
 
-/// Returns the first index, starting from `from`, of an entry whose batch has this number or a higher one. An index is
-/// only a hint about where to look.
+/// Returns the first index, starting from `from`, of an entry whose batch has the given number or a higher one. An
+/// index is only a hint about where to look.
 pub(crate) fn next_place(known: &[CachedBatch], from: usize, number: u32) -> usize {
     for place in from..known.len() {
         if known[place].overview.batch.number >= number {

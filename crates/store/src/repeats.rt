@@ -36,7 +36,7 @@ impl<S: Alter> Store<S> {
         Ok(!is_ward_of(&found, seats, name))
     }
 
-    /// Returns whether a candidate with this number has withdrawn from a ward.
+    /// Returns whether a candidate with the given number has withdrawn from a ward.
     fn candidate_withdrew(&mut self, ward: u32, candidate: u32) -> Result<bool, Fault>
         ensures { Loads S.Store self.old self.new result (λ s found. found ≡ has_withdrawn s ward candidate) }
     {

@@ -100,7 +100,7 @@ fn beginnings<M: TestHost + Drop>(
     Ok(all)
 }
 
-/// Runs a script on disks, one of which stops after `calls` calls, restarts them, and checks the rows: they must be
+/// Runs a script on disks, one of which stops after a number of calls, restarts them, and checks the rows: they must be
 /// those after the acknowledged requests, or after one additional request. When repeated, the script must have its
 /// whole output, and the rows must be the same as without the stop. Returns whether nothing stopped.
 fn stop_script<M: TestHost + Drop>(

@@ -68,8 +68,8 @@ fn sides_of<M: TestHost + Drop>(
     Ok((sides, host))
 }
 
-/// Executes an order on disks, one of which stops after `calls` calls. Returns whether the order was acknowledged, and
-/// the disks.
+/// Executes an order on disks, one of which stops after a number of calls. Returns whether the order was acknowledged,
+/// and the disks.
 fn stop_under<M: TestHost + Drop>(
     rt: &(impl Abort + AllocGlobal),
     host: M,
@@ -89,9 +89,9 @@ fn stop_under<M: TestHost + Drop>(
     Ok((answered, left))
 }
 
-/// Executes an order on disks, one of which stops after `calls` calls, restarts them, and checks the rows: they must be
-/// those before the order or those after it, and only those after it if it was acknowledged. When repeated, the order
-/// must end as it does without the stop, and the ward's sheet must be the same. Returns whether the order was
+/// Executes an order on disks, one of which stops after a number of calls, restarts them, and checks the rows: they
+/// must be those before the order or those after it, and only those after it if it was acknowledged. When repeated, the
+/// order must end as it does without the stop, and the ward's sheet must be the same. Returns whether the order was
 /// acknowledged.
 fn stop_once<M: TestHost + Drop>(
     rt: &(impl Abort + AllocGlobal),

@@ -193,7 +193,7 @@ fn goes_on_from(
     ends_as_worked(rt, &mut book, worked)
 }
 
-/// Does the same after each stage of a worked election.
+/// Does the same as `goes_on_from` at each stage of a worked election.
 fn goes_on_from_each(rt: &impl Abort, alloc: Global, worked: &Worked) -> Result<(), Fail> {
     let bundles = bundles_of(alloc, worked.papers)?;
     for stages in 0..worked.stages.len() {

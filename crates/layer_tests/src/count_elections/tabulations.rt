@@ -62,7 +62,7 @@ fn is_read_back(
     Ok(())
 }
 
-/// Does the same after each stage of a worked election.
+/// Does the same as `is_read_back` after each stage of a worked election.
 pub fn is_read_back_at_each(rt: &impl Abort, alloc: Global, worked: &Worked) -> Result<(), Fail> {
     let bundles = bundles_of(alloc, worked.papers)?;
     for stages in 1..=worked.stages.len() {

@@ -42,7 +42,7 @@ pub struct BatchOverview {
     pub twin: Option<u32>,
 }
 
-/// Returns the standing of a batch with these keyings of its current round.
+/// Returns the standing of a batch with the given keyings of its current round.
 fn standing_by(keyings: &Keyings) -> BatchStanding
     ensures { result ≡ standing_by (keyings_by keyings.now) }
 {
@@ -88,7 +88,7 @@ fn overviews_among(alloc: Global, read: Vec<ReadBatch>) -> Result<Vec<BatchOverv
 }
 
 impl<S: Alter> Store<S> {
-    /// Returns the overview of a batch with these keyings, without its twin.
+    /// Returns the overview of a batch with the given keyings, without its twin.
     pub(crate) fn batch_overview(
         &mut self,
         batch: Batch,
@@ -106,7 +106,7 @@ impl<S: Alter> Store<S> {
         Ok(overview_by(batch, clerks, keyings, &verdicts))
     }
 
-    /// Returns the overview of a batch of this ward; `None` for a batch of another ward.
+    /// Returns the overview of a batch in the given ward; `None` for a batch in any other ward.
     fn overview_in(
         &mut self,
         batch: Batch,
@@ -123,7 +123,7 @@ impl<S: Alter> Store<S> {
         Ok(Some(overview))
     }
 
-    /// Returns the agreed papers of a batch with these keyings, as one text; `None` if the batch isn't taken.
+    /// Returns the agreed papers of a batch with the given keyings, as one text; `None` if the batch isn't taken.
     pub(crate) fn pile_in(
         &mut self,
         batch: &Batch,
@@ -143,7 +143,7 @@ impl<S: Alter> Store<S> {
         Ok(Some(text))
     }
 
-    /// Reads the data about a batch that the overviews of this ward need.
+    /// Reads the data about a batch that the overviews of the given ward need.
     fn read_batch(&mut self, batch: Batch, ward: u32) -> Result<ReadBatch, Fault>
         ensures { Loads S.Store self.old self.new result (λ s found. read_view found ≡ read_view_of s ward (batch_entry batch)) }
     {

@@ -42,7 +42,7 @@ impl<S: Alter> Store<S> {
         Ok(ClerkOverview { clerk, keyed })
     }
 
-    /// Returns the overviews of these clerks, in order.
+    /// Returns the overviews of the given clerks, in order.
     pub(crate) fn clerk_overviews(
         &mut self,
         batch: &Batch,

@@ -24,7 +24,7 @@ pub struct Differences {
     pub papers: Vec<u32>,
 }
 
-/// Returns whether a keying has this paper with these marks.
+/// Returns whether `keying` has the same paper as `keyed`, with the same marks.
 fn has_alike(keyed: &KeyedPaper, keying: &[KeyedPaper]) -> bool
     ensures { result ≡ has_alike (keyed_entry keyed.now) (map keyed_entry keying.now) }
 {
@@ -64,8 +64,8 @@ fn differing_among(
 }
 
 #[tactic(auto, using(crate::proofs::OverviewLemmas::apart_three))]
-/// Returns the numbers of the papers on which these keyings differ: those on which another keying has different marks
-/// from the first existing one.
+/// Returns the numbers of the papers on which the given keyings differ: those on which another keying has different
+/// marks from the first existing one.
 fn differing_papers(alloc: Global, keyings: &Keyings) -> Result<Vec<u32>, AllocError>
     ensures { IfOk result (λ papers. papers.items ≡ differing_papers (keyings_by keyings.now)) }
 {
@@ -82,7 +82,7 @@ fn differing_papers(alloc: Global, keyings: &Keyings) -> Result<Vec<u32>, AllocE
     }
 }
 
-/// Returns a batch, and where these keyings of its current round differ. The only error is `Memory`.
+/// Returns a batch, and where the given keyings of its current round differ. The only error is `Memory`.
 fn differences_by(alloc: Global, batch: Batch, keyings: &Keyings) -> Result<Differences, Fault>
     ensures is { IfOk result (λ found. differences_view found ≡ differences_by (batch_entry batch) (keyings_by keyings.now)) }
     ensures cause { IfErr result (λ f. f ≡ Fault.Memory) }

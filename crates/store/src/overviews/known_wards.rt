@@ -23,7 +23,7 @@ use sqlite::Alter;
 use std::alloc::{AllocError, Global};
 use tables::Fault;
 
-/// Appends the overview of a batch to `found` if the batch belongs to this ward.
+/// Appends the overview of a batch to `found` if the batch belongs to the given ward.
 fn put_own(
     alloc: Global,
     found: &mut Vec<BatchOverview>,
@@ -93,7 +93,7 @@ fn tally_among(overviews: &[BatchOverview]) -> Tally
 }
 
 impl<S: Alter> Store<S> {
-    /// Returns the status of a ward whose batches have these overviews.
+    /// Returns the status of a ward whose batches have the given overviews.
     fn status_by(&mut self, ward: &Ward, batches: &[BatchOverview]) -> Result<Status, Fault>
         ensures { Loads S.Store self.old self.new result (λ s found.
             map batch_view batches.now ≡ views_of s (batches_of s ward.now.number)

@@ -67,7 +67,7 @@ fn counted_among(
     Ok(found)
 }
 
-/// Returns the papers of a batch as they are counted in a ward with these candidates. The only error is `Memory`.
+/// Returns the papers of a batch as they are counted in a ward with the given candidates. The only error is `Memory`.
 fn papers_by(
     alloc: Global,
     candidates: Vec<Candidate>,

@@ -111,7 +111,7 @@ pub(crate) fn numbers_by_pile(
     Ok(numbers)
 }
 
-/// Returns the first of these numbers that isn't `number`.
+/// Returns the first of the given numbers that isn't `number`.
 fn first_other(numbers: &[u32], number: u32) -> Option<u32>
     ensures { result ≡ find (λ n. not (n == number)) numbers.now }
 {
@@ -123,7 +123,7 @@ fn first_other(numbers: &[u32], number: u32) -> Option<u32>
     None
 }
 
-/// Returns the first other batch with the same pile as this one, if there is one.
+/// Returns the first other batch with the same pile as the given one, if there is one.
 fn twin_under(
     numbers: &HashMap<String, Vec<u32>>,
     pile: &Option<String>,

@@ -137,7 +137,7 @@ impl<S: Alter> Store<S> {
         }
     }
 
-    /// Returns the result of `with_twin` if the batch belongs to this ward, otherwise `None`.
+    /// Returns the result of `with_twin` if the batch belongs to the given ward, otherwise `None`.
     fn with_twin_in(
         &mut self,
         known: &[CachedBatch],

@@ -100,7 +100,7 @@ impl<S: Alter> Store<S> {
     }
 
     /// Returns the count of a contested ward that has a stage, as it was stored, from the tabulation alone. Returns
-    /// `None` if no count has this tabulation; in an office one always does.
+    /// `None` if no count has this tabulation, which never happens in an office.
     pub(crate) fn resume_count(
         &mut self,
         contest: CountedWard,

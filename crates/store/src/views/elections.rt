@@ -42,7 +42,7 @@ fn add_papers<P: KeepsPapers>(
     }
 }
 
-/// Returns whether a ward was found, and is in count with these candidates.
+/// Returns whether a ward was found and is in count with the given candidates.
 fn is_found_in_count(found: &Option<Ward>, candidates: &[Candidate]) -> bool
     ensures { result ≡ is_counted_with (option_map ward_entry found.now) (map candidate_entry candidates.now) }
 {

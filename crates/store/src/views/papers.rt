@@ -41,7 +41,7 @@ pub(crate) struct BatchPapers {
 }
 
 impl Keyings {
-    /// Returns the papers on which these keyings agree; empty if the batch isn't taken.
+    /// Returns the papers on which the keyings agree; empty if the batch isn't taken.
     pub(crate) fn agreed(&self) -> &[KeyedPaper]
         ensures { map keyed_entry result.now ≡ agreed (keyings_by self.now) }
     {

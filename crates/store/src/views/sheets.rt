@@ -48,7 +48,7 @@ impl<S: Alter> Store<S> {
     }
 
     /// Returns the count of a ward in count that has a stage, from the tabulation alone; and how many of its papers are
-    /// rejected. Returns `None` if no count has this tabulation; in an office one always does.
+    /// rejected. Returns `None` if no count has this tabulation, which never happens in an office.
     fn resume_sheet(&mut self, contest: CountedWard) -> Result<Option<WardSheet>, Fault>
         ensures { Loads S.Store self.old self.new result
             (λ s found. WasFound s contest → is_in_count_of (election_in s contest) ≡ true → (contest.ward.done ≡ 0 → ⊥) → IsSheet (election_in s contest) found) }

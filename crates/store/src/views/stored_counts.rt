@@ -35,8 +35,8 @@ impl<S: Alter> Store<S> {
         entries_beginning::<StageFigures, S>(self.alloc, &mut self.conn, &[number(ward)])
     }
 
-    /// Returns the stored data of the count of a ward that has a stage. Returns `None` if no count has this tabulation;
-    /// in an office one always does.
+    /// Returns the stored data of the count of a ward that has a stage. Returns `None` if no count has this tabulation,
+    /// which never happens in an office.
     fn read_stored_count(&mut self, contest: &CountedWard) -> Result<Option<StoredCount>, Fault>
         ensures { Loads S.Store self.old self.new result
             (λ s found. WasFound s contest.now → has_stages (election_in s contest.now) ≡ true → IsStoredCount (election_in s contest.now) found) }
