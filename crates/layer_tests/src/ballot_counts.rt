@@ -37,7 +37,7 @@ Stage 1: first preferences
 /// The line about the lot that the count waits for.
 pub(crate) const TIED_LINE: &str = "lot needed at stage 2 among 2 Bob, 3 Cy\n";
 
-/// The sheet if the lot names the third candidate.
+/// The sheet if the lot falls on the third candidate.
 const DRAWN_SHEET: &str = "Ward 1 Harbour
 Seats 1, valid 4, quota 3.00000
 Rejected 1: 0, 2: 0, 3: 0, 4: 0, 5: 0
@@ -76,7 +76,7 @@ const DRAWN_BALLOTS: &str = r#"3 1
 # Lot at stage 2: 3
 "#;
 
-/// The table of a ward whose count needs no lot.
+/// The table for a ward whose count needs no lot.
 const TABLE: &str =
     r#""candidate","name","Stage 1: first preferences","Stage 1 gained","Stage 1 lost","Stage 1 standing","Stage 2: surplus of 1","Stage 2 gained","Stage 2 lost","Stage 2 standing","Stage 3: exclusion of 2, last vacancies","Stage 3 gained","Stage 3 lost","Stage 3 standing"
 "1","Ann","6.00000","6.00000","0.00000","elected","4.00000","0.00000","2.00000","elected","4.00000","0.00000","0.00000","elected"

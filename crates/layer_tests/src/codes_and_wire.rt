@@ -81,7 +81,7 @@ const FAULTS: [(&str, &str); 24] = [
     ),
 ];
 
-/// Requests under a clerk's number, with the values of `Authorization`.
+/// Requests under a clerk's number, with their values of `Authorization`.
 const SENT: [(&str, &str, &str); 20] = [
     ("GET /clerks/4/work", FOUR, "Work { clerk: 4 }"),
     ("GET /clerks/9/work", NINE, "Work { clerk: 9 }"),
@@ -188,7 +188,7 @@ const DRAWN_FOR_OFFICE: [u8; 16] = [0, 1, 2, 3, 4, 5, 6, 7, 8, 9, 10, 11, 12, 13
 /// The codes generated from the clerks' bytes followed by the office's.
 const MADE_WITH_OFFICE: &str = "4 abcd-a7fg-2347\n5 jkmn-prst-uwxy\noffice abcd-efgh-jkmn-prst\n";
 
-/// Returns the report on a text that is read as a file of codes.
+/// Returns the report on a text read as a file of codes.
 fn fault_in(alloc: Global, text: &str) -> Result<String, AllocError> {
     match Codes::read(alloc, text.as_bytes()) {
         Ok(_) => String::from_str(alloc, "none"),

@@ -1,4 +1,4 @@
-//! Import files that are read whole or refused, and the texts of their faults.
+//! Import files that are read in full or refused, and the texts of their faults.
 
 use crate::sheet_outputs::is_text;
 use keyfile::{CandidateRow, FileDigest, FileFault, Flaw, read_candidates, read_keying};

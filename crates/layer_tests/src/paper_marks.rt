@@ -112,7 +112,7 @@ fn standing() -> Standing {
     )
 }
 
-/// The preferences in which the next available one is searched for.
+/// The preferences searched for the next available one.
 const PREFS: &[u8] = &[1, 3, 4, 5, 2];
 
 /// The place at which the search through those preferences starts, and the next available one; 0 if there is none.

@@ -346,7 +346,7 @@ fn compare(rt: &impl Abort, text: &str, above: &str, body: &str) -> Result<(), F
     }
 }
 
-/// Prints a page, and compares it.
+/// Prints a page, and compares it with the expected texts.
 fn prints_page<P: Printed>(
     rt: &(impl Abort + AllocGlobal),
     printed: &P,
@@ -463,7 +463,7 @@ fn poll_of(rejected: [u32; 5]) -> Option<Poll> {
     Some(Poll { valid: 9, rejected })
 }
 
-/// Returns the ward of a poll with rejected papers of each code.
+/// Returns the ward of a poll that has rejected papers for each code.
 fn with_rejected<'a>(candidates: &'a [(u8, String)]) -> Ward<'a> {
     harbour(candidates, 2, poll_of([1, 20, 300, 4000, 50000]))
 }

@@ -129,7 +129,7 @@ fn asks_with(
     Ok(())
 }
 
-/// Headers; whether an office whose origin has a port accepts them, and whether one whose origin has none does.
+/// Headers, whether an office whose origin has a port accepts them, and whether one whose origin has no port does.
 const PROXIED: [(&str, bool, bool); 17] = [
     ("Origin: https://count.example.org:8443", true, false),
     ("Origin: https://count.example.org", false, false),

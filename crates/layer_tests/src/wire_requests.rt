@@ -1,4 +1,5 @@
-//! What HTTP requests ask, read from readers that return everything at once, that return one byte at a time, and that fail.
+//! What HTTP requests ask when read from readers that return everything at once, that return one byte at a time, or that
+//! fail.
 
 ghost use Rattle.std.specs.Prelude.{◌-◌, ◌^◌, ◌<◌};
 

@@ -64,7 +64,7 @@ pub are_tables : (s : OfficeState) (t : TabulationEntries) → IsTabulationOf t 
 unfolding tables_of
 are_tables s t is = ap (tables_with s) is
 
--- a connection to the copy that rests at these tables keeps that state
+-- a connection to the copy keeps the copied state if it rests at these tables
 pub copy_is_at : (s : OfficeState) (t : TabulationEntries) (st : State) → IsTabulatedAs s t → ((trees : Trees) → IsTrue st.is_open → st.may_leave trees → trees ≡ st.committed.trees)
     → Rests (tables_with s t) st → IsAt s st
 copy_is_at s t st is settled rests = rests_is_at s st settled is.0 (subst (λ (c : Contents). Rests c st) (are_tables s t is.1) rests)
@@ -76,7 +76,7 @@ copy_stops s t old new is clean survives trees may = elim (survives.crash clean 
   | inr made ↦ inr (subst (λ (c : Contents). Stores c trees) (are_tables s t is) made)
 ]
 
--- if a stop leaves all of the copy, its tables are those of some state
+-- if a stop leaves all of the copy, its tables are those of a state
 pub copy_whole : (s : OfficeState) (t : TabulationEntries) (old new : State) → IsTabulatedAs s t → HasCleanDisk new → Survives old new (Stores (tables_with s t))
     → (trees : Trees) → new.may_leave trees
     → old.may_leave trees ⊎ ((x : OfficeState) × StoresState x trees)

@@ -25,7 +25,7 @@ keyed_before s batch clerk (suc n) above keyed =
 
 -- ---- what a clerk sees of earlier keyings
 
--- filtering by a weaker test first doesn't change the result of a filter
+-- filtering by a weaker test first doesn't change the result of filtering
 filter_both : {X : Type 0} (p q : X → Bool) → ((x : X) → p x ≡ true → q x ≡ true) → (xs : List X) → filter p (filter q xs) ≡ filter p xs
 filter_both p q stronger [] = refl
 filter_both {X} p q stronger (x ∷ xs) = go (q x) refl (p x) refl (filter_both p q stronger xs)

@@ -1,4 +1,4 @@
--- What is read for the count of a ward is what the state contains.
+-- The data read for the count of a ward is that of the state.
 use Rattle.std.proofs.Common.{◌≡◌, ◌≤◌, ◌==◌, ◌&&◌, not, ℕ, Bool, List, map, Option, Some, None, MatchOption, IfSome, IsSome, option_map, true, false, refl, sym, ap, subst, ◌∙◌, true≢false, arith}
 use Rattle.std.proofs.Math.Bool.{and-false}
 use Rattle.std.proofs.lemmas.Bool.{and_parts, and_from, ne_eqb}
@@ -28,7 +28,7 @@ pub part_polled : (s : OfficeState) (ward : Option WardEntry) → polled_part (o
 part_polled s None = refl
 part_polled s (Some w) = refl
 
--- the input with what is due, for a ward that may not exist
+-- the input with what the count requires next, for a ward that may not exist
 pub part_counted : (s : OfficeState) (ward : Option WardEntry) → counted_part (option_map (election_of s) ward) ≡ record empty_input { ward = ward; due = due_for s ward; elected = elected_for s ward }
 part_counted s None = refl
 part_counted s (Some w) = refl
@@ -46,7 +46,7 @@ ward_is_sound s ward w is found =
     let few = seats_and_papers_are_few s w is.in_range is.keyed is.rise there in
     record { some_seats = few.0; few_seats = few.1 }
 
--- an election that was found meets the conditions on its number of seats
+-- an election that has been found meets the conditions on its number of seats
 pub sound_polled : {R : Type 0} (s : OfficeState) (ward : ℕ) (found : Option Election) → IsState s → IsFoundFor found (option_map (election_of s) (ward_at s ward))
     → MatchOption found R (λ e. 1 ≤ e.ward.seats → e.ward.seats ≤ max_seats → R) → R
 sound_polled s ward None is there r = r
@@ -61,7 +61,7 @@ sound_polled {R = R} s ward (Some e) is there r = by_ward (ward_at s ward) refl 
 
 -- ---- the count
 
--- a ward that is found under some number is also found under its own
+-- a ward found under any number is also found under its own
 pub ward_there : (s : OfficeState) (ward : ℕ) (w : WardEntry) → ward_at s ward ≡ Some w → ward_at s w.number ≡ Some w
 ward_there s ward w found = subst (λ (n : ℕ). ward_at s n ≡ Some w) (found_number (λ (x : WardEntry). x.number) s.wards ward w found) found
 

@@ -99,7 +99,7 @@ loads_failed {old = old} {new = new} {r = Err e} is failed = record {
   keeps = failed.keeps;
 }
 
--- the failure of a read that follows another, passed on
+-- a failure of a read that follows another, passed on
 pub loads_cut : {X Y Z : Type 0} {P : OfficeState → X → Type 0} {Q : OfficeState → Y → Type 0} {R : OfficeState → Z → Type 0} {old mid new : State} {x : X} {f : Fault} {r : Result Z Fault}
     → IsErrAnd r (λ e. e ≡ f) → LoadsAt old mid (Ok x) P → LoadsAt mid new (Err f) Q → LoadsAt old new r R
 loads_cut {r = Ok z} is one failed = absurd is
@@ -131,7 +131,7 @@ loads_stopped {old = old} {new = new} {r = Err e} is one memory = record {
 abbrev pub no_batch : Batch
 no_batch = record { number = 0; ward = 0; size = 0; first_clerk = 0; second_clerk = 0; round = 0 }
 
--- the entries of the first elements, and of the next one
+-- the entries of the first elements and of the next one
 pub entries_more : {A B : Type 0} (entry : A → B) (xs : List A) (k : ℕ) (none : A) → k < length xs → take (k + 1) (map entry xs) ≡ take k (map entry xs) ++ entry (get_or xs k none) ∷ []
 entries_more {B = B} entry xs k none within =
     let x = entry (get_or xs k none) in

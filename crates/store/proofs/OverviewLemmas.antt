@@ -31,7 +31,7 @@ pub mapped_more : {A B C : Type 0} (f : A → C) (g : B → C) (xs : List A) (x 
 mapped_more {C = C} f g xs x ys y before one =
     map-append f xs (x ∷ []) ∙ ap (λ (zs : List C). zs ++ f x ∷ []) before ∙ ap (λ (z : C). map g ys ++ z ∷ []) one ∙ sym (map-append g ys (y ∷ []))
 
--- a property of the entries of all elements holds for the entry of the element at an index
+-- a property that holds for the entries of all elements holds for the entry of the element at a given index
 pub each_there : {A B : Type 0} (P : B → Type 0) (entry : A → B) (xs : List A) (k : ℕ) (x : A) → AllByRecursion P (map entry xs) → k < length xs → x ≡ get_or xs k x → P (entry x)
 each_there P entry xs k x all within is =
     subst P (get_mapped entry xs k (entry x) x within ∙ ap entry (sym is)) (all-get_or P (map entry xs) k (entry x) all (subst (λ n. k < n) (sym (mapped_length entry xs)) within))
@@ -105,13 +105,13 @@ pub papers_told : (s : OfficeState) (b : BatchEntry) (candidates : List Candidat
     → papers_by candidates pile ≡ papers_of s b
 papers_told s b candidates pile here same = ap (λ (cs : List CandidateEntry). papers_by cs pile) here ∙ ap (papers_by (candidates_of s b.ward)) same
 
--- the papers of a ward's batch show the judgements by which they are counted there
+-- the papers of a ward's batch are shown with the judgements by which the ward counts them
 judged_alike : (s : OfficeState) (ward : ℕ) (b : BatchEntry) → b.ward ≡ ward → judgements_told s b ≡ judgements_in (columns_of (candidates_of s ward)) (pile_of s b)
 judged_alike s ward b is =
     mapped_twice (paper_view_of (columns_of (candidates_of s b.ward)) (verdicts_of s b.number)) (λ (p : PaperView). p.judgement) (agreed (keyings_now s b))
     ∙ ap (λ (w : ℕ). judgements_in (columns_of (candidates_of s w)) (pile_of s b)) is
 
--- the papers of all batches of a ward, one batch after another, show those judgements too
+-- the papers of all batches of a ward, one batch after another, are shown with those judgements
 pub told_counted : (s : OfficeState) (ward : ℕ) (bs : List BatchEntry)
     → flat_map (judgements_told s) (filter (λ (b : BatchEntry). b.ward == ward) bs) ≡ judgements (columns_of (candidates_of s ward)) (map (pile_of s) (filter (λ (b : BatchEntry). b.ward == ward) bs))
 told_counted s ward [] = refl

@@ -50,12 +50,12 @@ group_told {A = A} numbers text group found = ap (λ (o : Option (Vec ℕ A)). o
 -- ---- twins
 
 module _ (s : OfficeState) (ward : ℕ) where
-  -- a batch has this pile if it is taken with these papers
+  -- a batch has the given pile if it is taken with the same papers
   has_pile : (text own : List ℕ) (taken : Bool) → is_pile text (cond taken (Some own) None) ≡ (taken && bytes_eq text own)
   has_pile text own true = refl
   has_pile text own false = refl
 
-  -- the first number other than the batch's own with the same pile is that of the first twin
+  -- the first number with the same pile, other than the batch's own, is that of the first twin
   first_twin : (b : BatchEntry) (cs : List BatchEntry)
       → find (λ n. not (n == b.number)) (numbers_with (map (read_view_of s ward) cs) (pile_text_of s b)) ≡ option_map (λ (c : BatchEntry). c.number) (find (is_twin s b) cs)
   first_twin b [] = refl

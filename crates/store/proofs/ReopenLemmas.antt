@@ -40,7 +40,7 @@ pub begins : (c : Contents) (db : Database) → IsOffice c db → IsOfficeSchema
 unfolding IsOffice
 begins c db office = office.begins
 
--- the trees determine the schema, so the database is the one with these tables
+-- the trees determine the schema, so the database is the one with the state's tables
 pub left_holds : (s : OfficeState) (db : Database) → IsLeftAt s db → HoldsState db s
 left_holds s db left =
     let it = left.stores in
@@ -63,7 +63,7 @@ holds_office : (s : OfficeState) (db : Database) → HoldsState db s → (¬ Has
 unfolding IsOffice
 holds_office s db held = this_office db (office_there db.schema held.office.begins) (state_version db s held)
 
--- the only faults that are reported for it are those that may be reported for any database
+-- the only faults reported for it are those that may be reported for any database
 pub left_told : (s : OfficeState) (db : Database) (f : Fault) → IsLeftAt s db → IsFaultOf db f → (f ≡ Memory) ⊎ (f ≡ Store)
 left_told s db f left told = go f told
   where

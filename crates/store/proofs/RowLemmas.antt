@@ -70,7 +70,7 @@ if_entries_told items entry row back returns (Err f) xs P are told = tt
 
 -- ---- the only row with a given key
 
--- two equal tests keep the same elements
+-- equal tests keep the same elements
 pub filter_alike : {X : Type 0} (p q : X → Bool) → ((x : X) → p x ≡ q x) → (xs : List X) → filter p xs ≡ filter q xs
 filter_alike p q alike [] = refl
 filter_alike p q alike (x ∷ xs) = ap (λ b. cond b (x ∷ filter p xs) (filter p xs)) (alike x) ∙ ap (λ l. cond (q x) (x ∷ l) l) (filter_alike p q alike xs)

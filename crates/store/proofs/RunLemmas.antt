@@ -30,7 +30,7 @@ use Rattle.store.proofs.KeyingLemmas.{HasNumbers, has_numbers, there_whole_of}
 
 -- ---- elements that occur once in a state
 
--- two elements of a strictly ascending list that compare as equal are the same
+-- two elements of a strictly ascending list are the same if they compare as equal
 once : {X : Type 0} (cmp : X → X → Ordering) (xs : List X) → IsStrictlySortedBy cmp xs → (a b : X) → Has xs a → Has xs b → cmp a b ≡ Equal → cmp b a ≡ Equal → a ≡ b
 once cmp [] up a b here there one other = absurd here
 once cmp (x ∷ xs) up a b (inl first) (inl also) one other = first ∙ sym also
@@ -117,7 +117,7 @@ all_mapped : {A X : Type 0} (p : X → Bool) (f : A → X) (xs : List A) → lis
 all_mapped p f [] = refl
 all_mapped p f (x ∷ xs) = ap (λ b. p (f x) && b) (all_mapped p f xs)
 
--- papers that are found to be a keying are that keying
+-- papers that are recognized as a keying are that keying
 pub seen_keying : (s : OfficeState) → IsState s → (batch round clerk : ℕ) (b : BatchEntry) → batch_at s batch ≡ Some b → (ks : List KeyedPaper) → AllByRecursion (Has s.keyings) (map keyed_entry ks)
     → is_whole b.size (map keyed_entry ks) && list_all (λ k. is_paper_of batch round clerk (keyed_entry k)) ks ≡ true → map keyed_entry ks ≡ keying_of s batch round clerk
 seen_keying s is batch round clerk b found ks there seen =

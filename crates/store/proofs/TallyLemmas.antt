@@ -105,7 +105,7 @@ open_fewer s (b ∷ bs) =
     go true own each all later = omega (arith, own, each, all, later)
     go false own each all later = omega (arith, own, each, all, later)
 
--- a ward of a state has at most 9999 batches of 500 papers, so its tally is exact
+-- a ward of a state has at most 9999 batches of at most 500 papers, so its tally is exact
 pub countable : (s : OfficeState) → IsState s → (ward : ℕ) (tally : Tally) → IsTally s (batches_of s ward) tally
     → (tally.taken ≡ length (taken_of s ward)) × (tally.differing ≡ length (differing_of s ward)) × (tally.doubtful_open ≡ open_among s (taken_of s ward))
 countable s is ward tally as_far =

@@ -34,7 +34,7 @@ use Rattle.tables.proofs.HoldLemmas.{lists_all, shown_rows, rows_held, held_list
 use Rattle.tables.proofs.ListingLemmas.{begins_to}
 use Rattle.store.proofs.StateLemmas.{tables_rise, maps_rise, equal_maps, tabulated_same}
 
--- ---- the tables that are read when an office is opened
+-- ---- the tables read when an office is opened
 
 -- a table is the office's, or one that contains entries
 pub which_kind : (t : Table) → (t ≡ Office) ⊎ (has_entries t ≡ true)
@@ -95,7 +95,7 @@ strange_told n db OlderSchema told = told
 
 -- ---- the entries of a state
 
--- maps and a tabulation that were listed have the same rows as each state that the database contains
+-- listed maps and a listed tabulation have the same rows as any state that the database contains
 maps_same : (db : Database) (s x : OfficeState) (t : TabulationEntries) → ListsMaps db s t → HoldsState db x → SameContents (tables_of x) (tables_with s t)
 unfolding IsOffice
 maps_same db s x t lists holds u = elim (which_kind u) [
@@ -107,7 +107,7 @@ maps_same db s x t lists holds u = elim (which_kind u) [
 pub lists_rise : (db : Database) (s : OfficeState) (t : TabulationEntries) → ListsMaps db s t → MapsAreSorted s
 lists_rise db s t lists = maps_rise s t (λ u has. (lists u has).rise)
 
--- such a state has exactly these maps, and this tabulation is that of its counts
+-- such a state has exactly the listed maps, and the listed tabulation is that of its counts
 pub maps_are : (db : Database) (s x : OfficeState) (t : TabulationEntries) → ListsMaps db s t → HoldsState db x → IsTabulatedAs s t
 unfolding tables_of
 maps_are db s x t lists holds =
@@ -159,7 +159,7 @@ head_same a b same = ap first same
     first [] = []
     first (x ∷ xs) = x
 
--- the columns of a row that a query of the office table returns
+-- the columns of a row that a query on the office table returns
 pub version_shown : (row : Row) (one version : ℤ) (n : ℕ) → column row 0 ≡ Int one → column row 1 ≡ Int version → one ≡ pos 1 → version ≡ pos n → IsVersion n row
 version_shown row one version n first second is_one is_version = rw (first, second, is_one, is_version) refl
 

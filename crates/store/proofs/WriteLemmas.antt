@@ -222,7 +222,7 @@ bundles_moved s t moved u =
     subst (λ l. IsPermutation l (tables_with s (record t { bundles = after }) u)) (sym (replaced_all_there Bundle rows (tables_with s t) u))
     (filled_changed (state_rows s) Bundle (map row_of_placed t.bundles) (map row_of_placed after) (vote_rows t ∷ third_rows s ∷ []) (λ l. all_replaced Bundle l rows) refl (equal_rows _ _ made) u)
 
--- the rows of new entries, followed by those of others
+-- the rows of new entries, followed by those of existing ones
 rows_before : {V X : Type 0} (entry : V → X) (row : X → Row) (news : List V) (xs : List X) → map (λ v. row (entry v)) news ++ map row xs ≡ map row (map entry news ++ xs)
 rows_before entry row news xs = ap (λ l. l ++ map row xs) (sym (mapped_twice entry row news)) ∙ sym (map-append row (map entry news) xs)
 

@@ -29,7 +29,7 @@ holdings_of s = record {
   receipts = length s.receipts;
 }
 
--- a stop leaves in the copy what it could have left before, or the tables of this state
+-- a stop leaves in the copy either what it could have left before or the tables of the given state
 abbrev pub LeavesNoneOrAll : OfficeState → State → State → Type 0
 LeavesNoneOrAll s old new = (trees : Trees) → new.may_leave trees → old.may_leave trees ⊎ Stores (tables_of s) trees
 
@@ -52,8 +52,8 @@ IsUnbegun (Office fault) = ⊤
 IsUnbegun Taken = ⊤
 IsUnbegun (Copy fault) = ⊥
 
--- The outcome of copying an office that keeps a state. Either the copy keeps that same state, or a fault is reported, and a stop leaves in the copy what it
--- could have left before, or the whole copy.
+-- The outcome of copying an office that keeps a state. Either the copy keeps that same state, or a fault is reported, and a stop leaves in the copy either what
+-- it could have left before or the whole copy.
 pub record CopiesAt (s : OfficeState) (blank full : State) (result : Result OfficeCounts CopyFault) : Type 0 where
   pub same : IfOk result (λ h. (h ≡ holdings_of s) × (HasCleanDisk full → IsBlank blank → IsAt s full))
   pub stops : HasCleanDisk full → IsBlank blank → LeavesNoneOrAll s blank full

@@ -1,4 +1,4 @@
--- A clerk's own keying of a batch in an earlier round.
+-- A clerk's own keying of a batch from an earlier round.
 use Rattle.std.specs.Prelude.{ℕ, zero, suc, ◌-◌, List, map, Option, Some, None, option_and_then, if◌then◌else◌}
 use Rattle.register.specs.Offices.{KeyedEntry, BatchEntry, OfficeState, keyed_entry, batch_at, third_at, keying_of}
 use Rattle.register.specs.Agreement.{is_keyed, is_its_clerk}
@@ -9,13 +9,13 @@ pub record KeyedRoundEntry : Type 0 where
   pub round : ℕ
   pub papers : List KeyedEntry
 
--- the latest of the first rounds of a batch that a clerk keyed, if there is one
+-- the latest of a batch's first rounds that a clerk keyed, if there is one
 abbrev pub last_keyed : OfficeState → ℕ → ℕ → ℕ → Option KeyedRoundEntry
 last_keyed s batch clerk zero = None
 last_keyed s batch clerk (suc n) =
     if is_keyed (keying_of s batch (suc n) clerk) then Some (record { round = suc n; papers = keying_of s batch (suc n) clerk }) else last_keyed s batch clerk n
 
--- a clerk's own keying of a batch in the latest round before the current one that the clerk keyed; nobody else sees it
+-- a clerk's own keying of a batch from the latest round before the current one that the clerk keyed; nobody else sees it
 abbrev pub earlier_for : OfficeState → ℕ → BatchEntry → Option (Option KeyedRoundEntry)
 earlier_for s clerk b = if is_its_clerk clerk b (third_at s b.number) then Some (last_keyed s b.number clerk (b.round - 1)) else None
 

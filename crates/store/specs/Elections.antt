@@ -1,4 +1,4 @@
--- What is read for the count of a ward.
+-- The data read for the count of a ward.
 use Rattle.std.specs.Prelude.{◌≡◌, ◌==◌, map, ℕ, true, false, List, Option, Some, None, ⊤, Bool, ◌&&◌}
 use Rattle.std.specs.List.{filter}
 use Rattle.count.specs.StoredCounts.{StoredCountEntry, IsStoredCountOf}
@@ -24,7 +24,7 @@ abbrev pub is_counted_with : Option WardEntry → List CandidateEntry → Bool
 is_counted_with None candidates = false
 is_counted_with (Some w) candidates = is_counted w.phase && is_contested w candidates
 
--- there is a ward with this number, and it is in count
+-- there is a ward with the given number, and it is in count
 abbrev pub IsInCount : OfficeState → ℕ → Type 0
 IsInCount s ward = (w : WardEntry) × (ward_at s ward ≡ Some w) × (is_in_count (election_of s w) ≡ true)
 
@@ -35,12 +35,12 @@ IsFoundFor (Some e) (Some entry) = IsElection e entry
 IsFoundFor None (Some entry) = ⊥
 IsFoundFor (Some e) None = ⊥
 
--- the input of a command that needs the poll of an election
+-- the input for a command that needs the poll of an election
 abbrev pub polled_part : Option ElectionEntry → CommandInputEntries
 polled_part None = empty_input
 polled_part (Some e) = record empty_input { ward = Some e.ward; poll = Some (poll_of e.ward.seats e.ballots) }
 
--- the input of a command that needs what is due in the count of an election, and the elected candidates
+-- the input for a command that needs what an election's count requires next, and the elected candidates
 abbrev pub counted_part : Option ElectionEntry → CommandInputEntries
 counted_part None = empty_input
 counted_part (Some e) = record empty_input { ward = Some e.ward; due = Some (due_of e); elected = elected_of e }

@@ -9,7 +9,7 @@ use Rattle.register.specs.Offices.{WardEntry, CandidateEntry, BatchEntry, ThirdE
 use Rattle.register.specs.Tabulated.{PlacedEntry, FigureEntry}
 use Rattle.tables.specs.RowValues.{IsNumber, IsAmount, IsText, IsBytes}
 
--- the value is the number of a phase
+-- the value is a phase's number
 abbrev pub IsPhase : Value → Type 0
 IsPhase v = (p : Phase) × (v ≡ Int (pos (phase_number p)))
 

@@ -1,4 +1,4 @@
--- The parts in which the entries of a database are listed when an office is opened.
+-- How the entries of a database are listed, part by part, when an office is opened.
 use Rattle.std.specs.Prelude.{◌≡◌, ◌<◌, ℕ, true, false, map, ⊤, Result, IfOk, IfErr, OnOk, IsTrue}
 use Rattle.std.specs.List.Sorted.{IsStrictlySortedBy}
 use Rattle.sqlite_trees.specs.declared.store.Store.{Ghosts}

@@ -43,7 +43,7 @@ known_view k = record { view = batch_view k.overview; pile = k.pile }
 abbrev pub row_of : CachedBatch → BatchEntry
 row_of k = batch_entry k.overview.batch
 
--- a cache entry is correct in a state: it equals what the state determines for a batch with this row
+-- a cache entry is correct in a state: it equals what the state determines for a batch with the entry's row
 abbrev pub IsKnown : OfficeState → CachedBatch → Type 0
 IsKnown s k = known_view k ≡ known_of s (row_of k)
 
@@ -64,7 +64,7 @@ same_sum None b = false
 abbrev pub may_be_twin : CachedBatch → CachedBatch → Bool
 may_be_twin k c = not (c.overview.batch.number == k.overview.batch.number) && same_sum k.pile c.pile
 
--- the overview of a batch with its twin, if the batch belongs to this ward
+-- the overview of a batch with its twin, if the batch belongs to the given ward
 abbrev pub batch_view_in : OfficeState → ℕ → BatchEntry → Option BatchView
 batch_view_in s ward b = if b.ward == ward then Some (batch_view_of s b) else None
 
@@ -93,7 +93,7 @@ concerns All b = true
 
 -- ---- a store with a cache
 
--- While the connection is open, it keeps some state in which all cache entries are correct.
+-- While the connection is open, it keeps a state in which all cache entries are correct.
 pub record Remembers (st : State) (ks : List CachedBatch) : Type 0 where
   pub state : OfficeState
   pub at : IsAt state st
@@ -109,7 +109,7 @@ IsTied st memory = IfSome memory (λ known. HasCleanDisk st → IsTrue st.is_ope
 
 -- ---- the batches of a ward
 
--- the overviews of these batches, without their twins
+-- the overviews of the given batches, without their twins
 abbrev pub views_of : OfficeState → List BatchEntry → List BatchView
 views_of s bs = map (λ (b : BatchEntry). batch_view_with s b None) bs
 

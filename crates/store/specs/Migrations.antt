@@ -28,12 +28,12 @@ use Rattle.store.specs.Openings.{HasNoOffice, IsNewer, HoldsNoState}
 
 -- ---- an older office
 
--- how many of the tables an older office has, counted from the first
+-- how many of the tables, counted from the first, an older office has
 abbrev pub tables_in : OlderForm → ℕ
 tables_in WithCounts = 10
 tables_in WithoutCounts = 8
 
--- which tables of an office an older office has
+-- which of an office's tables an older office has
 abbrev pub name_of : OlderForm → TablesPresent
 name_of WithCounts = WithoutThird
 name_of WithoutCounts = WithoutCountTables
@@ -57,17 +57,17 @@ pub record IsOlderState (s : OfficeState) : Type 0 where
   pub no_thirds : s.thirds ≡ []
   pub unasked : list_any (λ r. is_about_third r.subject) s.receipts ≡ false
 
--- the database contains exactly the older tables of this state
+-- the database contains exactly the older tables of the given state
 pub record HoldsOlder (form : OlderForm) (db : Database) (s : OfficeState) : Type 0 where
   pub is : IsOlderState s
   pub first : HasFirstTables (tables_in form) (older_tables form s) db
 
--- a connection between two transactions, at the older tables of this state
+-- a connection between two transactions, at the older tables of the given state
 pub record RestsOlder (form : OlderForm) (s : OfficeState) (st : State) : Type 0 where
   pub is : IsOlderState s
   pub rests : RestsFirst (tables_in form) (older_tables form s) st
 
--- a connection inside a transaction that sees the older tables of this state
+-- a connection inside a transaction that sees the older tables of the given state
 abbrev pub SeesOlder : OlderForm → OfficeState → State → Type 0
 SeesOlder form s st = IsOlderState s × SeesMade (tables_in form) (older_tables form s) st
 
@@ -76,11 +76,11 @@ pub record StoresOlder (form : OlderForm) (s : OfficeState) (trees : Trees) : Ty
   pub is : IsOlderState s
   pub stores : StoresFirst (tables_in form) (older_tables form s) trees
 
--- a stop leaves either what it could have left before, namely the older tables of this state, or the tables of this state in this version
+-- a stop leaves either what it could have left before, namely the older tables of the given state, or that state's tables in this version
 abbrev pub LeavesOldOrNew : OlderForm → OfficeState → State → State → Type 0
 LeavesOldOrNew form s old new = (trees : Trees) → new.may_leave trees → (old.may_leave trees × StoresOlder form s trees) ⊎ Stores (tables_of s) trees
 
--- the rows are not the older tables of any state
+-- no state has these rows as its older tables
 abbrev pub HoldsNoOlder : Database → Type 0
 HoldsNoOlder db = (form : OlderForm) (s : OfficeState) → ¬ HoldsOlder form db s
 
@@ -91,7 +91,7 @@ abbrev pub WasAt : Database → Migrated → OfficeState → Type 0
 WasAt db Already s = HoldsState db s
 WasAt db Done s = (form : OlderForm) × HoldsOlder form db s
 
--- an office, not of a later version, whose rows are neither the tables nor the older tables of any state
+-- an office, not of a later version, whose rows no state has as its tables or its older tables
 pub record IsBeyondMigration (db : Database) : Type 0 where
   pub some_office : ¬ HasNoOffice db
   pub not_newer : ¬ IsNewer db
@@ -129,7 +129,7 @@ pub record IsOlderOf (form : OlderForm) (s : OfficeState) (t : TabulationEntries
 abbrev pub IsCompletedBy : OlderForm → OfficeState → AdditionEntries → Type 0
 IsCompletedBy form s a = with_addition a (tabulation_in form s) ≡ tabulation_of s
 
--- an older office was read, and this is what it lacks
+-- an older office was read, and this addition is what it lacks
 abbrev pub FoundOlder : Database → OlderForm → AdditionEntries → Type 0
 FoundOlder db form a = (s : OfficeState) × HoldsOlder form db s × IsCompletedBy form s a
 

@@ -19,7 +19,7 @@ use Rattle.tables.specs.Reading.{ListsEntries}
 use Rattle.store.specs.EntryRows.{this_version, office_row}
 use Rattle.store.specs.StateTables.{tables_of, tables_with, HoldsState}
 
--- there is no office table, or no row in it
+-- there is no office table, or it has no row
 abbrev pub HasNoOffice : Database → Type 0
 HasNoOffice db = (has_table Office db.schema ≡ false) ⊎ (tuples Office db.trees ≡ [])
 
@@ -35,11 +35,11 @@ IsOlder db = tuples Office db.trees ≡ office_row 1 ∷ []
 abbrev pub HasVersion : ℕ → Database → Type 0
 HasVersion version db = HoldsTable Office (office_row version ∷ []) db.trees
 
--- the rows are not the tables of any state
+-- no state has these rows as its tables
 abbrev pub HoldsNoState : Database → Type 0
 HoldsNoState db = (s : OfficeState) → ¬ HoldsState db s
 
--- an office of this version whose rows are not the tables of any state
+-- an office of this version whose rows no state has as its tables
 pub record IsDamaged (db : Database) : Type 0 where
   pub some_office : ¬ HasNoOffice db
   pub not_newer : ¬ IsNewer db
@@ -56,7 +56,7 @@ IsFaultOf db WrongDatabase = HasNoOffice db
 IsFaultOf db NewerSchema = IsNewer db
 IsFaultOf db OlderSchema = (¬ HasNoOffice db) × HasVersion 1 db
 
--- a sound database that contains exactly the tables of this state, as a stop leaves it
+-- a sound database that contains exactly the tables of the given state, as a stop leaves it
 pub record IsLeftAt (s : OfficeState) (db : Database) : Type 0 where
   pub is : IsState s
   pub sound : IsDatabase db
@@ -130,7 +130,7 @@ has_entries Vote = true
 has_entries Third = true
 has_entries Office = false
 
--- all rows of each table of entries are those of these maps and of this tabulation
+-- all rows of each table of entries are those of the given maps and tabulation
 abbrev pub ListsMaps : Database → OfficeState → TabulationEntries → Type 0
 ListsMaps db s t = (u : Table) → has_entries u ≡ true → ListsEntries u db (tables_with s t u)
 

@@ -24,18 +24,18 @@ use Rattle.store.specs.declared.overviews.differences.Differences.{Differences}
 
 -- ---- the wards
 
--- a ward, its status, and, once it is declared, the elected candidates and all candidates
+-- a ward and its status; and, once it has been declared, the elected candidates and all candidates
 pub record WardView : Type 0 where
   pub ward : WardEntry
   pub status : StatusEntry
   pub elected : Option (List ℕ)
   pub candidates : List CandidateEntry
 
--- the elected candidates of a ward, once it is declared
+-- the elected candidates of a ward, once it has been declared
 abbrev pub declared_in : OfficeState → WardEntry → Option (List ℕ)
 declared_in s w = if is_declared w.phase then Some (elected_of (election_of s w)) else None
 
--- the candidates of a ward, once it is declared
+-- the candidates of a ward, once it has been declared
 abbrev pub candidates_told : OfficeState → WardEntry → List CandidateEntry
 candidates_told s w = if is_declared w.phase then candidates_of s w.number else []
 
@@ -55,7 +55,7 @@ standing_by keyings = if are_taken keyings then Taken else if differ keyings the
 abbrev pub standing_of : OfficeState → BatchEntry → BatchStanding
 standing_of s b = standing_by (keyings_now s b)
 
--- a clerk of a batch, and whether the clerk has keyed its current round
+-- a clerk of a batch, and whether that clerk has keyed the batch's current round
 abbrev pub clerk_view_of : OfficeState → BatchEntry → ℕ → ℕ × Bool
 clerk_view_of s b clerk = (clerk, is_keyed (keying_of s b.number b.round clerk))
 
@@ -123,7 +123,7 @@ pub record PaperView : Type 0 where
 abbrev pub paper_view_of : List ℕ → List JudgedEntry → KeyedEntry → PaperView
 paper_view_of columns verdicts k = record { batch = k.batch; paper = k.paper; judgement = judgement_on columns verdicts k }
 
--- the papers on which the keyings agree, each as it is counted; empty if the batch isn't taken
+-- the papers on which the keyings agree, each as counted; empty if the batch isn't taken
 abbrev pub papers_in : List ℕ → Pile → List PaperView
 papers_in columns pile = map (paper_view_of columns pile.verdicts) (agreed pile.keyings)
 

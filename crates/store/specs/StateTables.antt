@@ -51,7 +51,7 @@ pub record ChangesTo (change : ChangeEntry) (addition : AdditionEntries) (before
   pub from : before ≡ tables_of old
   pub to : after ≡ tables_with (with_change change old) (with_addition addition (tabulation_of old))
 
--- the database contains exactly the tables of this state
+-- the database contains exactly the tables of the given state
 pub record HoldsState (db : Database) (s : OfficeState) : Type 0 where
   pub is : IsState s
   pub office : IsOffice (tables_of s) db
@@ -65,13 +65,13 @@ pub record StoresState (s : OfficeState) (trees : Trees) : Type 0 where
 abbrev pub LeavesState : State → (OfficeState → Type 0) → Type 0
 LeavesState st P = (trees : Trees) → st.may_leave trees → (s : OfficeState) × P s × StoresState s trees
 
--- The store keeps this state: while its connection is open, it rests at the state's tables, and a stop leaves exactly those tables.
+-- The store keeps the given state: while its connection is open, it rests at the state's tables, and a stop leaves exactly those tables.
 pub record IsAt (s : OfficeState) (st : State) : Type 0 where
   pub is : IsState s
   pub rests : IsTrue st.is_open → Rests (tables_of s) st
   pub leaves : LeavesState st (λ x. x ≡ s)
 
--- No call sets a limit on the steps of a query or discards a fault of the disk, and only such a fault closes the connection.
+-- No call sets a limit on the steps of a query or discards a disk fault, and only such a fault closes the connection.
 pub record KeepsConnection (old new : State) : Type 0 where
   pub limit : new.step_limit ≡ old.step_limit
   pub counts : old.faults ≤ new.faults

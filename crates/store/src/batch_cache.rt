@@ -22,7 +22,7 @@ const BEGINNING: u64 = 14695981039346656037;
 
 const FACTOR: u64 = 1099511628211;
 
-/// A cached batch: its overview without its twin; and, if the batch is taken, the checksum of its papers.
+/// A cached batch: its overview, without its twin, and, if the batch is taken, the checksum of its papers.
 #[derive(Drop)]
 pub(crate) struct CachedBatch {
     pub(crate) overview: BatchOverview,

@@ -89,7 +89,7 @@ fn new_cache(alloc: Global, remembers: bool) -> Option<Vec<CachedBatch>>
 }
 
 /// Refreshes the cache, if there is one. If a row can't be read, the cache stays as it was: whatever isn't in it is
-/// read when it is needed.
+/// read when needed.
 fn refresh_cache<S: Alter>(store: &mut Store<S>, cache: &mut Option<Vec<CachedBatch>>)
     ensures reads { OnlyReads (state S.Store store.old) (state S.Store store.new) }
     ensures keeps { HasCleanDisk (state S.Store store.new) → (s : OfficeState) → IsAt s (state S.Store store.old) → IsAt s (state S.Store store.new) }

@@ -88,7 +88,7 @@ impl<S: Alter> Store<S> {
         Ok(found)
     }
 
-    /// Returns the text of a batch's ballot papers, for one of its clerks.
+    /// Returns the text on a batch's ballot papers, for one of its clerks.
     fn own_paper(&mut self, batch: &Batch, clerk: u32) -> Result<Option<BallotPaper>, Fault>
         requires { IsOpen S.Store self.old }
         ensures { Loads S.Store self.old self.new result (λ s found. option_map paper_entry found ≡ paper_for s clerk (batch_entry batch.now)) }
@@ -105,7 +105,7 @@ impl<S: Alter> Store<S> {
         Ok(Some(BallotPaper { ward, candidates }))
     }
 
-    /// Returns the text of the ballot papers of the batch with the given number, for one of its clerks: its ward, and
+    /// Returns the text on the ballot papers of the batch with the given number, for one of its clerks: its ward, and
     /// the candidates there. Returns `None` if there is no such batch or it isn't the clerk's. Changes nothing, and
     /// doesn't add to the states that a stop may leave behind. Returns `Memory` or `Store` if a row can't be read.
     pub fn load_paper(&mut self, clerk: u32, batch: u32) -> Result<Option<BallotPaper>, Fault>

@@ -33,7 +33,8 @@ pub struct OfficeCounts {
 pub enum CopyFault {
     /// The fault that opening the office returns, or `Store` if its connection is inside a transaction.
     Office(Fault),
-    /// The database for the copy has a table with the name of one of ours, or is inside a transaction; nothing was written.
+    /// The database for the copy has a table with the name of one of ours, or its connection is inside a transaction;
+    /// nothing was written.
     Taken,
     /// The copy couldn't be completed because an allocation or its store failed; its database contains either nothing
     /// or the whole copy.

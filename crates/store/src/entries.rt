@@ -1,4 +1,4 @@
-//! The entries that the rows of each table represent.
+//! The entries represented by the rows of each table.
 
 ghost use Rattle.std.specs.Prelude.{◌≡◌, pos, IfOk, IfErr};
 ghost use Rattle.sqlite.specs.Value.{owned};

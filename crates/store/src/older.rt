@@ -76,7 +76,7 @@ fn older_rows<S: Alter>(
     }
 }
 
-/// Returns whether a receipt is about a third clerk; no earlier program had that subject.
+/// Returns whether a receipt is about a third clerk, a subject that no earlier program had.
 fn is_about_third(subject: &str) -> bool
     ensures { result ≡ is_about_third subject.now }
 {
@@ -120,8 +120,8 @@ fn missing_tabulation(
     }
 }
 
-/// Returns what an older office lacks, if its rows, which are in key order, are those of a state: they meet every
-/// condition, and no receipt is about a third clerk. The only error is `Memory`.
+/// Returns what an older office lacks, if its rows, which are in key order, are those of a state, that is, if they meet
+/// every condition and no receipt is about a third clerk. The only error is `Memory`.
 fn missing_of(alloc: Global, form: OlderForm, rows: &Rows) -> Result<Option<Addition>, Fault>
     requires rise { MapsAreSorted (state_of rows.now) }
     requires bare { IsBare form (state_of rows.now) (tabulated rows.now) }

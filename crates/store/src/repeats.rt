@@ -1,4 +1,4 @@
-//! Compares a repeated request with the data that is stored for it.
+//! Compares a repeated request with the data stored for it.
 
 ghost use Rattle.std.specs.Prelude.{◌≡◌, not, ◌&&◌, map, IfOk, IfErr, string_bytes};
 ghost use Rattle.std.specs.List.{list_any};
@@ -81,7 +81,7 @@ impl<S: Alter> Store<S> {
         Ok(!is_third_clerk(clerk, &found))
     }
 
-    /// Returns whether a clerk's keying of a batch in a round has different papers.
+    /// Returns whether the stored keying has different papers from the command's.
     fn keying_differs(&mut self, clerk: u32, command: &KeyingCommand) -> Result<bool, Fault>
         ensures { Loads S.Store self.old self.new result (λ s found. found ≡ is_keying_otherwise s clerk command.now) }
     {
@@ -105,9 +105,9 @@ impl<S: Alter> Store<S> {
         Ok(!is_drawn(&lots, stage, candidate))
     }
 
-    /// Returns whether a repeated request differs from the data that is stored for it. Nothing is read if the request's
-    /// subject contains the whole request. Changes nothing, and doesn't add to the states that a stop may leave behind.
-    /// Returns `Memory` or `Store` if a row can't be read.
+    /// Returns whether a repeated request differs from the data stored for it. Nothing is read if the request's subject
+    /// contains the whole request. Changes nothing, and doesn't add to the states that a stop may leave behind. Returns
+    /// `Memory` or `Store` if a row can't be read.
     pub fn load_differs_from_stored(&mut self, request: &Request) -> Result<bool, Fault>
         ensures shows { HasCleanDisk (state S.Store self.new) → (s : OfficeState) → IsAt s (state S.Store self.old) → IfOk result (λ found. found ≡ is_kept_otherwise s request.now) }
         ensures cause { HasCleanDisk (state S.Store self.new) → (s : OfficeState) → IsAt s (state S.Store self.old) → IfErr result (FailsBy (state S.Store self.old) (state S.Store self.new)) }

@@ -27,7 +27,7 @@ use register::{Ballots, Batch, CountedWard, JudgedPaper, NextStep, Phase, Status
 use sqlite::Alter;
 use tables::Fault;
 
-/// A tally of batches: how many are taken, how many differ, and how many doubtful papers of the taken batches have no
+/// A tally of batches: how many are taken, how many differ, and how many doubtful papers in the taken batches have no
 /// verdict.
 #[derive(Clone, Copy)]
 pub(crate) struct Tally {
@@ -69,7 +69,7 @@ fn standing(keyings: &Keyings, verdicts: &[JudgedPaper]) -> Tally
     }
 }
 
-/// Returns what is due in the count of a ward that has been sealed. The count of an uncontested ward is finished.
+/// Returns what the count of a sealed ward requires next. The count of an uncontested ward is finished.
 fn due_in(counted: &CountedWard) -> Due
     ensures { (e : ElectionEntry) → IsCountedWard e counted.now → is_counted e.ward.phase ≡ true → result ≡ due_of e }
 {

@@ -69,7 +69,7 @@ impl<S: Alter> Store<S> {
         }
     }
 
-    /// Returns what the machine sees of the tables for one request. If the request already has a receipt, only the
+    /// Returns what the machine sees of the tables for one request. If the request already has a receipt, only that
     /// receipt is read.
     fn view_of<'a>(&mut self, actor: u32, id: &'a str, command: &Command) -> Result<View<'a>, Fault>
         ensures told { Loads S.Store self.old self.new result (λ s. IsViewOf s command.now) }

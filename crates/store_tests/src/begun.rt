@@ -157,7 +157,7 @@ ward 7 sealed: 9 valid, 0 rejected, quota 4.00000
 /// Ward 7, with nine papers, up to and including its seal.
 pub const SEALED: &[Act] = &[OPENED, PAPERS, SEAL];
 
-/// The first two stages of its count.
+/// The first two stages of that ward's count.
 pub const TWO_STAGES: Act = Act::Typed(
     "$ advance 7 --id n1
 ward 7 stage 1 first preferences

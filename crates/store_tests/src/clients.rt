@@ -71,7 +71,7 @@ impl<'a> TestClient<'a> {
     }
 }
 
-/// Clients in the order in which they connect; `None` is a connection that fails as it is accepted.
+/// Clients in the order in which they connect; `None` is a connection that fails while being accepted.
 pub type TestClients<'a> = &'a [Option<TestClient<'a>>];
 
 /// A server in a test: its clients, and which of them the network reports as ready after each wait, either all that
@@ -102,7 +102,7 @@ impl<'a> Evening<'a> {
     }
 }
 
-/// A client's stream, and the page to which the bytes that the client accepts are written.
+/// A client's stream, and the page to which the bytes it accepts are written.
 #[derive(Drop)]
 pub struct TestStream<'s, 'p> {
     left: &'s [u8],
@@ -303,7 +303,7 @@ pub fn joined(alloc: Global, pages: Vec<RefCell<Vec<u8>>>) -> Result<String, Fai
     Ok(String::from_utf8(all)?)
 }
 
-/// The network on a port of this host, and the number of clients after which serving ends.
+/// The network on a port of the test's host, and the number of clients after which serving ends.
 #[derive(Drop)]
 pub struct Port {
     pub network: RefCell<SocketNetwork<Jumping>>,

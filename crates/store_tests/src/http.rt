@@ -38,7 +38,7 @@ const NINE_TO_KEY: &str =
 const WRONG_PHASE: &str =
     "HTTP/1.1 409 Conflict\r\nContent-Type: application/json\r\nContent-Length: 34\r\nConnection: close\r\n\r\n{\"refusal\":9,\"text\":\"wrong phase\"}";
 
-/// The clients, the response that each must get, and how serving must end.
+/// The clients, the response each must get, and how serving must end.
 #[derive(Clone, Copy)]
 struct Case<'a> {
     evening: Evening<'a>,
@@ -58,7 +58,7 @@ fn taken(alloc: Global, texts: &[&str]) -> Result<String, Fail> {
     Ok(all)
 }
 
-/// Serves clients, and compares the responses that they get.
+/// Serves clients, and checks the responses that they get.
 fn serve<M: TestHost + Drop>(
     rt: &(impl Abort + AllocGlobal),
     host: M,
@@ -69,7 +69,7 @@ fn serve<M: TestHost + Drop>(
     expect(rt, host, &[(Step::Serve(case.evening), told)])
 }
 
-/// Serves an evening; all of its clients connect and are closed.
+/// Serves an evening; all its clients connect and are disconnected.
 fn serve_all<M: TestHost + Drop>(
     rt: &(impl Abort + AllocGlobal),
     host: M,
@@ -183,7 +183,7 @@ fn wanted<'a>(
     }
 }
 
-/// Connections that fail as they are accepted don't count. If the network fails, serving ends, and responses that were already
+/// Connections that fail while being accepted don't count. If the network fails, serving ends, and responses already
 /// sent remain valid.
 fn are_not_let_in<M: TestHost + Drop>(rt: &(impl Abort + AllocGlobal), host: M) -> Result<M, Fail> {
     let work = Some(TestClient::whole(FOUR));
@@ -272,7 +272,7 @@ fn are_too_many<M: TestHost + Drop>(rt: &(impl Abort + AllocGlobal), host: M) ->
     )
 }
 
-/// A file of codes; and requests for clerk 4's work with that clerk's code, with a wrong one, and with none.
+/// A file of codes; and requests for clerk 4's work with that clerk's code, with a wrong code, and with no code.
 const CODES: &str = "4 kf7m-2wxt\n9 w3hd-4psn\n";
 
 const BY_HIS_CODE: &[u8] =

@@ -12,7 +12,7 @@ mod steps;
 // Typed and printed lines, as text.
 #[cfg(test)]
 mod transcripts;
-// An office on a host of any kind.
+// An office on any kind of host.
 #[cfg(test)]
 mod test_host;
 // The only store in these tests.

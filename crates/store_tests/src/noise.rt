@@ -25,7 +25,7 @@ const REQUESTS: [&str; 5] = [
     "PUT /clerks/9/batches/12/keying HTTP/1.1\r\nContent-Length: 2\r\n\r\n{}",
 ];
 
-/// Clerk 9's keying of the batch, with the same papers as clerk 4's.
+/// Clerk 9's keying of the batch, with the same papers as clerk 4's keying.
 const NINE: &str =
     "POST /clerks/9/batches/12/keying HTTP/1.1\r\nContent-Length: 43\r\n\r\n{\"id\":\"h1\",\"round\":1,\"papers\":[\"1,2,\",\"D\"]}";
 

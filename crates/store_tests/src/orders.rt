@@ -21,7 +21,7 @@ const IMPORT: &[&str] = &["DB", "import-keying", "9", "12", "1", "FILE", "--id",
 
 const SCRIPT: &[&str] = &["DB", "replay", "SCRIPT"];
 
-/// A script whose first line names a file, and whose last line is refused.
+/// A script whose first line names a file and whose last line is refused.
 const LINES: &[u8] =
     b"import-keying 9 12 1 FILE --id k1\ncandidate 7 4 Dee --id d1\nseal 7 --id s1\n";
 

@@ -53,7 +53,8 @@ fn has_taken_a_beginning<M: TestHost + Drop>(rt: &(impl Abort + AllocGlobal)) ->
             (3, "", "refused "),
         ),
         (Step::Order(PIER), (1, "", "refused 6: ward exists\n")),
-        // An import is cut off within its first line, so the second candidate isn't added; and within its second line.
+        // An import is cut off within its first line, so that the second candidate isn't added, and then within its
+        // second line.
         (
             Step::BreakingOrder(IMPORT, NAMES, limits(27, every)),
             (3, "candidate 1 of ward 7 added", BROKEN),

@@ -11,7 +11,7 @@ use std::test::Fail;
 
 const MADE: &[Act] = &[Act::Typed("$ init\noffice ready\n")];
 
-/// The requests of the script, as one order each.
+/// The script's requests, as one order each.
 const REQUESTS: &str = "$ ward 7 1 Harbour --id w1
 ward 7 added
 $ import-candidates FILE --id c
@@ -84,7 +84,7 @@ candidate 2 of ward 7 added
     ),
 ];
 
-/// Returns the rows after each prefix of the requests, beginning with the empty one.
+/// Returns the rows after each prefix of the requests, beginning with the empty prefix.
 fn beginnings<M: TestHost + Drop>(
     rt: &(impl Abort + AllocGlobal),
     host: M,

@@ -94,7 +94,7 @@ pub type StepExpected<'a> = (u8, &'a str, &'a str);
 /// A step, and its expected result.
 pub type Case<'a> = (Step<'a>, StepExpected<'a>);
 
-/// The output of an order if the store stopped; it never reports a failed allocation.
+/// The output of an order if the store stopped; this never reports a failed allocation.
 pub const STOPPED: StepExpected<'static> = (3, "", "fault 102: store\n");
 
 /// The response to a client if the store stopped.
@@ -465,7 +465,7 @@ fn done<S: Alter + Drop>(
     }
 }
 
-/// Runs the steps in turn, up to the first that reports a stop.
+/// Runs the steps in turn, up to and including the first one that reports a stop.
 pub fn play<S: Alter + Drop>(
     alloc: Global,
     mut conn: Connection<S>,

@@ -152,7 +152,7 @@ fn stop_each<M: TestHost + Drop>(
     Err(Fail::from("no run was long enough"))
 }
 
-/// The first orders of an office, on new files.
+/// The first orders to an office, on new files.
 const FIRST: &str = "$ init
 office ready
 $ ward 7 2 Harbour --id w1
@@ -197,7 +197,7 @@ $ import-keying 9 12 1 FILE --id k1
 batch 12 round 1 keyed
 ";
 
-/// The batch gets a third clerk, and a new round.
+/// The batch gets a third clerk and a new round.
 const NEW_ROUND: &str = "$ third 12 5 --id t1
 batch 12 third clerk 5
 $ again 12 --id g1

@@ -32,7 +32,7 @@ pub trait TestHost: Sized {
     /// Returns files with the same bytes, of which `file` fails after `calls` calls.
     fn copied(&self, alloc: Global, file: File, calls: u64) -> Result<Self, Fail>;
 
-    /// Restarts the host: bytes that weren't synced are lost, and no call fails from then on.
+    /// Restarts the host: unsynced bytes are lost, and no call fails from then on.
     fn restarted(self) -> Self;
 
     /// Opens the database, and runs the steps on it. Nothing is printed if the store stops while the database is being opened.
@@ -97,7 +97,7 @@ pub fn follow<M: TestHost + Drop>(
     expect(rt, host, &cases)
 }
 
-/// Runs the steps, each of which must have its expected result, and none of which may change a row.
+/// Runs the steps, each of which must have its expected result and none of which may change a row.
 pub fn expect_unchanged<M: TestHost + Drop>(
     rt: &(impl Abort + AllocGlobal),
     host: M,

@@ -19,7 +19,7 @@ fn view_of(alloc: Global, id: &str) -> View<'_> {
     }
 }
 
-/// Returns the number of a refusal and the length of its text in bytes; `None` if the request is accepted or is a repetition.
+/// Returns a refusal's number and the length of its text in bytes; `None` if the request is accepted or is a repetition.
 fn refusal_in(decision: &Decision) -> Option<(u32, usize)> {
     match decision {
         Decision::Accepted(_, _) => None,
@@ -36,7 +36,7 @@ fn request(id: String, command: Command) -> Request {
     }
 }
 
-/// Returns the commands that contain only numbers.
+/// Returns the commands made up only of numbers.
 fn commands() -> [Command; 10] {
     [
         Command::withdraw(7, 1),
@@ -52,7 +52,7 @@ fn commands() -> [Command; 10] {
     ]
 }
 
-/// Returns the commands that contain texts.
+/// Returns the commands that include texts.
 fn texts(alloc: Global) -> Result<[Command; 3], AllocError> {
     Ok([
         Command::add_ward(7, 2, String::from_str(alloc, "Harbour")?),

@@ -277,7 +277,7 @@ accepts_scan t rest others views = refl
 
 -- ---- the queries of a table
 
--- the query for all rows, under a schema that begins with the tables up to this one
+-- the query for all rows, under a schema that begins with the tables up to the given one
 pub all_fails : {X : Type 0} (t : Table) (db : Database) → BeginsTo t db.schema → (old new : State) (r : Result X Fault) → HasCleanDisk new → RestsAt db old
     → IfErr r (TellsQuery (scan_text t) [] old new) → IfErr r (FailsBy old new)
 all_fails t db begins old new r clean rests tells =

@@ -82,7 +82,7 @@ row_replaced t changing row kinds old new r runs c sees =
 
 -- ---- an UPDATE of one column
 
--- every column is unchanged, except the one that is set
+-- every column is unchanged except the one that is set
 shows_set : (place key : ℕ) (params r : Row) (ps : List ℕ) → eval_all (map (λ p. cond (p == place) (col 0 key) (col 1 (suc p))) ps) (params ∷ r ∷ [])
     ≡ map (λ p. cond (p == place) (column params key) (column (drop 1 r) p)) ps
 shows_set place key params r [] = refl
@@ -220,7 +220,7 @@ replaced_all_there t (row ∷ news) c u =
     ∙ elim (place_of u == place_of t) as (λ b. cond b (all_replaced t (cond b (map (λ r. cond (has_key t row r) row r) (c u)) (c u)) news)
     (cond b (map (λ r. cond (has_key t row r) row r) (c u)) (c u)) ≡ cond b (all_replaced t (map (λ r. cond (has_key t row r) row r) (c u)) news) (c u)) [ true ↦ refl | false ↦ refl ]
 
--- Replacing, one after another, the rows with the same keys as entries' rows replaces the entries with the same keys.
+-- Replacing the rows with the same keys as entries' rows, one after another, replaces the entries with the same keys.
 pub replaced_each : {X : Type 0} (t : Table) (row : X → Row) (same : X → X → Bool) → ((y x : X) → has_key t (row y) (row x) ≡ same y x) → (ys xs : List X)
     → all_replaced t (map row xs) (map row ys) ≡ map row (fold (λ zs y. map (λ z. cond (same y z) y z) zs) xs ys)
 replaced_each t row same alike [] xs = refl

@@ -1,4 +1,4 @@
--- The values of a row, by their indices.
+-- The values of a row, by index.
 use Rattle.std.proofs.Common.{◌≡◌, ℕ, zero, suc, ◌<◌, ◌≤◌, List, [], ◌∷◌, length, true, refl, sym, ap, ◌∙◌, arith, true≢false}
 use Rattle.std.proofs.lemmas.Bool.{and_parts}
 use Rattle.sqlite.specs.declared.types.Value.{Value}
@@ -8,7 +8,7 @@ use Rattle.sqlite.specs.Order.{Row, column}
 use Rattle.tables.specs.Schema.{places_from}
 use Rattle.tables.specs.Rows.{at, are_of}
 
--- a row's first `n` values, with NULL for each that the row lacks
+-- a row's first `n` values, with NULL for each one that the row lacks
 abbrev pub padded : ℕ → Row → Row
 padded zero r = []
 padded (suc n) [] = Null ∷ padded n []
@@ -72,6 +72,6 @@ padded_front (suc m) zero r low = absurd (omega (arith, low))
 padded_front (suc m) (suc n) [] low = ap (λ l. Null ∷ l) (padded_front m n [] (omega (arith, low)))
 padded_front (suc m) (suc n) (v ∷ vs) low = ap (λ l. v ∷ l) (padded_front m n vs (omega (arith, low)))
 
--- a prefix of a longer prefix of a row is a prefix of the row
+-- a prefix of a prefix of a row is a prefix of the row
 pub at_front : (m n : ℕ) (r : Row) → m ≤ n → at (places_from 0 m) (at (places_from 0 n) r) ≡ at (places_from 0 m) r
 at_front m n r low = pads m (at (places_from 0 n) r) ∙ ap (padded m) (pads n r) ∙ padded_front m n r low ∙ sym (pads m r)

@@ -33,7 +33,7 @@ holds_changed t f old new set others c h u = elim (which_table t u) [
   | inr other ↦ rw other.0 (table_kept u (c u) old new (others u other.1) (h u))
 ]
 
--- the trees of the office's other tables are unchanged if all other trees are
+-- the trees of the office's other tables are unchanged if all other trees are unchanged
 pub others_of : (rest : List Definition) (others : List Index) (views : List View) (t : Table) (old new : Trees)
     → AllByRecursion (λ d. d.tree ≢ tree_of t → new d.tree ≡ old d.tree) (schema_from 11 rest others views).tables → (u : Table) → tree_of u ≢ tree_of t → new (tree_of u) ≡ old (tree_of u)
 others_of rest others views t old new all u =

@@ -33,7 +33,7 @@ use Rattle.tables.proofs.ListLemmas.{mapped_length, get_mapped, mapped_has, has_
 use Rattle.tables.proofs.ColumnPlaceLemmas.{padded, pads, at_twice, typed_at}
 use Rattle.tables.proofs.OrderLemmas.{row_total, rise_all, one_key}
 
--- ---- rows that obey a schema aren't longer than its columns
+-- ---- rows that obey a schema have no more values than it has columns
 
 width : (key : Option ℕ) (place : ℕ) (cs : List Column) (vs : Row) → are_typed key place cs vs ≡ true → length vs ≤ length cs
 width key place [] [] h = omega arith
@@ -91,7 +91,7 @@ values_of (c ∷ cs) (v ∷ vs) h = and_from _ _ (value_of c.kind v (and_parts _
 pub lists_all : (t : Table) (db : Database) (rows : List Row) → Lists t (begins_with []) db rows → IsPermutation (map (at (column_places t)) (tuples t db.trees)) rows
 lists_all t db rows lists = subst (λ l. IsPermutation (map (at (column_places t)) l) rows) (all_pass (tuples t db.trees)) lists.same
 
--- the rows that a query returns have all columns and no more
+-- the rows that a query returns have exactly the table's columns
 pub shown_rows : (t : Table) (test : Row → Bool) (db : Database) (rows : List Row) → Lists t test db rows → map (at (column_places t)) rows ≡ rows
 shown_rows t test db rows lists =
     mapped_same (at (column_places t)) (λ r. r) rows (λ r h.
@@ -200,7 +200,7 @@ rising_same {X} {cmp} total (x ∷ xs) (y ∷ ys) up above there back =
     ] in
     ap (λ z. z ∷ xs) head ∙ ap (λ l. y ∷ l) (rising_same total xs ys (sorted_tail cmp x xs up) (sorted_tail cmp y ys above) first second)
 
--- rows in key order that are a permutation of a list in ascending key order are that list
+-- if rows in key order are a permutation of a list in ascending key order, they are that list
 pub found_same : (t : Table) (rows held : List Row) → IsSorted (row_cmp t) rows → IsStrictlySortedBy (row_cmp t) held → IsPermutation held rows → held ≡ rows
 found_same t rows held sorted rise same =
     rising_same (row_total t) held rows rise (rise_all t rows each) (λ r h. permuted_has r held rows same h) (λ r h. permuted_has r rows held (IsPermutation-sym _ _ same) h)

@@ -26,7 +26,7 @@ pub none_from : (schema : Schema) (tree : ℕ) (olds news : List Row) (ts : List
 none_from schema tree olds news [] h = refl
 none_from schema tree olds news (t ∷ ts) h = rw h.0 (none_from schema tree olds news ts h.1)
 
--- the parameters with these indices, in order
+-- the parameters with the given indices, in order
 abbrev pub given : List ℕ → List Term
 given = map (col 0)
 

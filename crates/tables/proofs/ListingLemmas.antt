@@ -51,7 +51,7 @@ keys_shown : (m n : ℕ) → m ≤ n → (a b : Row) → keys_cmp m (at (places_
 keys_shown m n low a b = same_keys 0 m (at (places_from 0 m) a) (at (places_from 0 m) b) (at (places_from 0 n) a) (at (places_from 0 n) b)
     (λ j h. column_shown m j a (omega (arith, h)) ∙ sym (column_shown n j a (omega (arith, h, low)))) (λ j h. column_shown m j b (omega (arith, h)) ∙ sym (column_shown n j b (omega (arith, h, low))))
 
--- rows restricted to their columns are in the same order
+-- restricting rows to their columns doesn't change their order
 pub order_shown : (t : Table) (a b : Row) → row_cmp t (at (column_places t) a) (at (column_places t) b) ≡ row_cmp t a b
 order_shown t a b =
     let within = key_within t in
@@ -123,7 +123,7 @@ pub if_scanned : {X F : Type 0} (t : Table) (db : Database) → BeginsTo t db.sc
 if_scanned t db begins old new rows (Ok x) rests shown = scanned t db begins old new (rows x) rests shown
 if_scanned t db begins old new rows (Err e) rests shown = tt
 
--- the same rows in key order are a listing of the table
+-- the same rows, in key order, form a listing of the table
 pub in_order_listed : (t : Table) (db : Database) (rows sorted : List Row) → IsPermutation (map (at (column_places t)) (tuples t db.trees)) rows → IsPermutation rows sorted
     → IsSorted (row_cmp t) sorted → Lists t (begins_with []) db sorted
 in_order_listed t db rows sorted scan same up = record {

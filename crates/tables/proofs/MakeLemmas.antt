@@ -37,7 +37,7 @@ use Rattle.tables.proofs.ListLemmas.{mapped_has, front_has}
 use Rattle.tables.proofs.TableLemmas.{same_place, place_below}
 use Rattle.tables.proofs.WentLemmas.{went, same_value}
 
--- the schema with only the tables before this one
+-- the schema with only the tables before the given one
 abbrev before : Table → Schema
 before t = schema_from (place_of t) [] [] []
 
@@ -81,7 +81,7 @@ empty_table t trees empty = record {
 kept_table : (t : Table) (rows : List Row) (old new : Trees) → new (tree_of t) ≡ old (tree_of t) → HoldsTable t rows old → HoldsTable t rows new
 kept_table t rows old new same h = record { same = subst (λ l. IsPermutation rows (map (drop 1) l)) (sym same) h.same; keyed = λ changes. subst Keyed (sym same) (h.keyed changes); typed = h.typed }
 
--- the tables before this one keep their rows, and this one is empty
+-- the tables before the given one keep their rows, and that one is empty
 one_more : (t : Table) (c : Contents) → c t ≡ [] → (old new : Trees) → ((u : Table) → place_of u < place_of t → new (tree_of u) ≡ old (tree_of u)) → new (tree_of t) ≡ []
     → HoldsFirst (place_of t) c old → HoldsFirst (place_of t + 1) c new
 one_more t c none old new others empty holds u low = elim (cases_lt (place_of u) (place_of t)) [
@@ -157,7 +157,7 @@ split xs (suc k) zero low = absurd (omega (arith, low))
 split [] (suc k) (suc n) low = refl
 split (x ∷ xs) (suc k) (suc n) low = ap (λ l. x ∷ l) (split xs k n (omega (arith, low)))
 
--- the first `n` tables begin with the first `k`, for any smaller `k`
+-- the first `n` tables begin with the first `k`, for any `k` up to `n`
 parted : (k n : ℕ) → k ≤ n → schema_from n [] [] [] ≡ schema_from k (map definition (drop k (take n all_tables)) ++ []) (map key_index (drop k (take n all_tables)) ++ []) []
 parted k n low = go (take n all_tables) (take k all_tables) (drop k (take n all_tables)) (split all_tables k n low)
   where

@@ -28,7 +28,7 @@ use Rattle.tables.proofs.ListLemmas.{get_any}
 
 -- ---- SQL's = on keys
 
--- the truth value that is decoded from its number
+-- the truth value decoded from its number
 told : (b : Bool) → is_true (from_truth (Some b)) ≡ b
 told true = refl
 told false = refl

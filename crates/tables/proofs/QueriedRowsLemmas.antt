@@ -20,7 +20,7 @@ use Rattle.tables.proofs.ListLemmas.{mapped_same, mapped_itself, permuted_has, h
 use Rattle.tables.proofs.ColumnPlaceLemmas.{typed_at}
 use Rattle.tables.proofs.ListingLemmas.{office_of}
 
--- a row of an office has all columns and no more
+-- a row of an office has exactly the table's columns
 pub itself : (t : Table) (c : Contents) (s : State) → Rests c s → (r : Row) → Has (c t) r → at (column_places t) r ≡ r
 itself t c s rests r there = typed_at (columns_of t) r (test_has (is_row_of t) (c t) r ((office_of c s rests).holds t).typed there)
 
@@ -43,7 +43,7 @@ found_cause t test c IsRow rows f finds all (inr wrong) =
 
 -- ---- the row with a given key
 
--- the only row of a query doesn't represent an entry
+-- a query's only row doesn't represent an entry
 pub one_other : (IsRow : Row → Type 0) (o : Option Row) (rows : List Row) → rows ≡ option_to_list o → HasInvalidRow IsRow rows → ¬ IfSome o IsRow
 one_other IsRow None rows is wrong fits = let low = wrong.1 in let none = ap length is in omega (arith, low, none)
 one_other IsRow (Some r) rows is wrong fits =

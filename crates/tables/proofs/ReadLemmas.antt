@@ -1,4 +1,4 @@
--- The state in which a query leaves the connection, under any schema.
+-- The state a query leaves the connection in, under any schema.
 use Rattle.std.proofs.Common.{◌≡◌, ◌⊎◌, inl, inr, ℕ, List, Option, None, Some, Ok, Err, Result, OnOk, IfOk, IfErr, IsTrue, refl, sym, subst, ◌∙◌, arith}
 use Rattle.sqlite.specs.declared.error.Error.{Error}
 use Rattle.sqlite.specs.Order.{Row}

@@ -122,7 +122,7 @@ module _ (t : Table) (low high : ℤ) (c : Contents) (s : State) (rests : Rests 
       subst (Has (c t)) (sym it.2) (permuted_has (drop 1 it.0) (tuples t s.now.trees) (c t) (IsPermutation-sym _ _ ((office_of c s rests).holds t).same)
       (mapped_has (drop 1) (s.now.trees (tree_of t)) it.0 both.0))
 
-  -- a row of a run has all columns and no more
+  -- a row of a run has exactly the table's columns
   run_itself : map (at (column_places t)) (run_of t low high s.now.trees) ≡ run_of t low high s.now.trees
   run_itself = mapped_same (at (column_places t)) (λ r. r) (run_of t low high s.now.trees) (λ r h. itself t c s rests r (in_table r h)) ∙ mapped_itself _
 
@@ -135,7 +135,7 @@ module _ (t : Table) (low high : ℤ) (c : Contents) (s : State) (rests : Rests 
   shown_themselves : map (at (column_places t)) rows ≡ rows
   shown_themselves = mapped_same (at (column_places t)) (λ r. r) rows (λ r h. itself t c s rests r (shown_in_table r h)) ∙ mapped_itself rows
 
-  -- the rows of the entries that were read are those of the run
+  -- the rows of the entries read are those of the run
   pub run_read : (found : List Row) → map (at (column_places t)) rows ≡ found → IsPermutation (run_of t low high s.now.trees) found
   run_read found is = subst (IsPermutation (run_of t low high s.now.trees)) (sym shown_themselves ∙ is) same_run
 

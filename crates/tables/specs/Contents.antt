@@ -15,7 +15,7 @@ use Rattle.tables.specs.Rows.{tuples, is_row_of, has_key, value_set, with_value,
 abbrev pub Contents : Type 0
 Contents = Table → List Row
 
--- the same rows in each table, in some order
+-- the same rows in each table, in any order
 abbrev pub SameContents : Contents → Contents → Type 0
 SameContents c d = (t : Table) → IsPermutation (c t) (d t)
 

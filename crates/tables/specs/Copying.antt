@@ -26,7 +26,7 @@ module _ {S : Type 0} (g : Ghosts S) where
   IsShownAfter sql params old new rows =
       (mid : Held S) × OnlyReads (state g old) (state g mid) × HasCleanDisk (state g mid) × IsTrue (state g mid).is_open × Shown sql params (state g mid) (state g new) rows
 
-  -- after a read, an allocation or the query failed
+  -- an allocation or the query failed after a read
   abbrev pub FailsAfter : List ℕ → Row → Held S → Held S → Fault → Type 0
   FailsAfter sql params old new f =
       (f ≡ Memory) ⊎ ((mid : Held S) × OnlyReads (state g old) (state g mid) × OnlyReads (state g mid) (state g new) × TellsQuery sql params (state g mid) (state g new) f)

@@ -28,12 +28,12 @@ fault_text WrongDatabase = codes "wrong database"
 fault_text NewerSchema = codes "newer schema"
 fault_text OlderSchema = codes "older schema"
 
--- `Memory` for an allocation that failed, `Store` for any other refusal by the store
+-- `Memory` for a failed allocation, `Store` for any other refusal by the store
 abbrev pub fault_of : Error → Fault
 fault_of (SqliteFailure OutOfMemory) = Memory
 fault_of _ = Store
 
--- `Memory` for an allocation that failed, `Damaged` for a value that isn't what its column should contain
+-- `Memory` for a failed allocation, `Damaged` for a value that isn't what its column should contain
 abbrev pub value_fault : Error → Fault
 value_fault (SqliteFailure OutOfMemory) = Memory
 value_fault _ = Damaged

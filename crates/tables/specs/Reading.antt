@@ -63,7 +63,7 @@ FailsBy old new f = (f ≡ Memory) ⊎ ((f ≡ Store) × HasFailed old new)
 abbrev pub SharesRowids : Database → Type 0
 SharesRowids db = (t : Table) × (changes_rows t ≡ true) × (HasWrongRowid (db.trees (tree_of t)) ⊎ RepeatsRowid (db.trees (tree_of t)))
 
--- why all rows of a table can't be listed, if that is reported as a fault of the store: the store failed, or rowids aren't distinct integers
+-- why a table's rows can't all be listed, if that is reported as a fault of the store: the store failed, or rowids aren't distinct integers
 abbrev pub FailsToList : Database → State → State → Fault → Type 0
 FailsToList db old new f = f ≡ Store → HasFailed old new ⊎ SharesRowids db
 
@@ -72,7 +72,7 @@ pub record Lists (t : Table) (test : Row → Bool) (db : Database) (rows : List 
   pub same : IsPermutation (map (at (column_places t)) (filter test (tuples t db.trees))) rows
   pub sorted : IsSorted (row_cmp t) rows
 
--- the rows in these contents that pass a test, in key order
+-- the rows in the given contents that pass a test, in key order
 pub record Finds (t : Table) (test : Row → Bool) (c : Contents) (rows : List Row) : Type 0 where
   pub same : IsPermutation (filter test (c t)) rows
   pub sorted : IsSorted (row_cmp t) rows
@@ -116,7 +116,7 @@ pub record RowidsRise (rows : List Row) : Type 0 where
   pub ints : (k : ℕ) → k < length rows → is_int (rowid (slice_index_or rows k [])) ≡ true
   pub rise : (k : ℕ) → k + 1 < length rows → value_cmp (rowid (slice_index_or rows k [])) (rowid (slice_index_or rows (k + 1) [])) ≡ Less
 
--- some rowid isn't an integer, or is an integer that isn't below the next one
+-- some rowid isn't an integer, or is an integer not below the next one
 abbrev pub RowidsFailToRise : List Row → Type 0
 RowidsFailToRise rows =
     ((k : ℕ) × (k < length rows) × (is_int (rowid (slice_index_or rows k [])) ≡ false))

@@ -44,7 +44,7 @@ is_of Words (Text t) = true
 is_of Bytes (Blob b) = true
 is_of _ _ = false
 
--- whether there is one value for each column, of the column's kind, and none is NULL
+-- whether there is exactly one value for each column, of the column's kind and not NULL
 abbrev pub are_of : List Column → Row → Bool
 are_of [] [] = true
 are_of (c ∷ cs) (v ∷ vs) = is_of c.kind v && are_of cs vs
@@ -116,7 +116,7 @@ pub record Keyed (rows : List Row) : Type 0 where
   pub ints : (r : Row) → Has rows r → is_int (rowid r) ≡ true
   pub once : (a b : Row) → Has rows a → Has rows b → rowid a ≡ rowid b → a ≡ b
 
--- some rowid is not an integer
+-- some rowid isn't an integer
 abbrev pub HasWrongRowid : List Row → Type 0
 HasWrongRowid rows = (r : Row) × Has rows r × (is_int (rowid r) ≡ false)
 

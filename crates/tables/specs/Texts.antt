@@ -22,7 +22,7 @@ comma = codes ", "
 abbrev pub parameter : ℕ → List ℕ
 parameter place = codes "?" ++ ((49 + place) ∷ [])
 
--- each name equated with its parameter; parameters are numbered from `place`
+-- each name, equated with its parameter; parameters are numbered from `place`
 abbrev pub matched : ℕ → List (List ℕ) → List (List ℕ)
 matched place [] = []
 matched place (name ∷ more) = (name ++ codes " = " ++ parameter place) ∷ matched (suc place) more

@@ -17,7 +17,7 @@ pub enum Fault {
     Damaged,
     /// An earlier fault closed the office.
     Closed,
-    /// The database contains no office or, if one is to be created, already has a table with one of its names.
+    /// The database contains no office or, when one is being created, already has a table with one of its names.
     WrongDatabase,
     /// A later program created the tables.
     NewerSchema,
@@ -26,7 +26,7 @@ pub enum Fault {
 }
 
 impl Fault {
-    /// Returns the number of the fault, from 101, and its text.
+    /// Returns the fault's number, starting from 101, and its text.
     fn told(&self) -> (u32, &'static str)
         ensures number { result.0 ≡ fault_number self.now }
         ensures text { result.1.now ≡ fault_text self.now }
@@ -42,14 +42,14 @@ impl Fault {
         }
     }
 
-    /// Returns the number of the fault, from 101.
+    /// Returns the fault's number, starting from 101.
     pub fn number(&self) -> u32
         ensures { result ≡ fault_number self.now }
     {
         self.told().0
     }
 
-    /// Returns the text of the fault.
+    /// Returns the fault's text.
     pub fn text(&self) -> &'static str
         ensures { result.now ≡ fault_text self.now }
     {

@@ -27,7 +27,7 @@ pub fn create_table<S: Alter>(tx: &mut Transaction<'_, S>, table: Table) -> Resu
     execute(tx, create_text(table), &[])
 }
 
-/// Creates all tables of an office, each empty, in an empty database. After a fault, the last commit is unchanged.
+/// Creates all tables of an office, with no rows, in an empty database. After a fault, the last commit is unchanged.
 pub fn create_tables<S: Alter>(tx: &mut Transaction<'_, S>) -> Result<(), Fault>
     ensures { Alters S.Store tx.old.conn tx.new.conn result (λ (x : ⊤). SeesNothing) (λ x. Sees no_contents) }
 {

@@ -66,7 +66,7 @@ pub fn has_table<S: Alter>(conn: &Connection<S>, table: Table) -> bool
     is_named(conn.schema(), table)
 }
 
-/// Returns whether the database has a table with any of an office's table names.
+/// Returns whether the database has a table with the name of any of an office's tables.
 pub fn has_some_table<S: Alter>(conn: &Connection<S>) -> bool
     ensures value { result ≡ has_some_table (state S.Store conn.now).now.schema }
     ensures live { IsLive (state S.Store conn.now) }
@@ -74,7 +74,7 @@ pub fn has_some_table<S: Alter>(conn: &Connection<S>) -> bool
     has_any(conn.schema(), &Table::ALL)
 }
 
-/// Returns whether the database has a table with each of an office's table names.
+/// Returns whether the database has a table with the name of each of an office's tables.
 pub fn has_every_table<S: Alter>(conn: &Connection<S>) -> bool
     ensures value { result ≡ has_every_table (state S.Store conn.now).now.schema }
     ensures live { IsLive (state S.Store conn.now) }

@@ -248,7 +248,8 @@ pub fn update_text(table: Table) -> &'static str
 }
 
 #[tactic(auto, unfolding(crate::specs::Texts::set_text))]
-/// Returns the text that sets one column of the row with a key, with the key and the value as its parameters.
+/// Returns the text that sets one column of the row with a given key; its parameters are the key's values and the new
+/// value.
 pub fn set_text(setting: SettableColumn) -> &'static str
     ensures { result.now ≡ set_text setting }
 {

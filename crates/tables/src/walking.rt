@@ -27,7 +27,7 @@ pub trait Visitor<E: Entries> {
     // The visitor has consumed these entries, in this order, and no others.
     ghost HasVisited: { Self → List E.Entry → Type 0 };
 
-    // The faults with which the visitor may stop.
+    // The faults that the visitor may return.
     ghost Stops: { Fault → Type 0 };
 
     /// Consumes another entry.

@@ -45,7 +45,7 @@ pub fn by_parcels<C: Counting>(
     on_papers(rt, alloc, worked, &papers, counting)
 }
 
-/// Returns a new book. If an allocation fails, creates the book once more.
+/// Returns a new book. If an allocation fails, creates the book again.
 fn begin_again(
     alloc: Global,
     candidates: Columns,

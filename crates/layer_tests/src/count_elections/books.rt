@@ -69,7 +69,7 @@ fn ends_as_worked<B: CountBook>(rt: &impl Abort, book: &mut B, worked: &Worked) 
     Ok(())
 }
 
-/// A count that has the stages of the worked election.
+/// A count with the stages of the worked election.
 #[derive(Drop)]
 struct ComesAsWorked<'a> {
     worked: &'a Worked,

@@ -1,4 +1,4 @@
-//! Counts that are resumed from their stored state.
+//! Counts resumed from their stored state.
 
 use super::worked::{Expected, Worked};
 use super::{bundles_of, first_columns, holds, record_one, with_all};
@@ -125,7 +125,7 @@ fn are_taken_up(alloc: Global, holder: u8, units: u64) -> Result<bool, Fail> {
     Ok(kept.is_some())
 }
 
-/// The holder of the papers, their value in units, and whether the count can be resumed.
+/// The papers' holder, their value in units, and whether the count can be resumed.
 const PLACES: [(u8, u64, bool); 3] = [
     (30, ONE_VOTE, true),
     (31, ONE_VOTE, false),

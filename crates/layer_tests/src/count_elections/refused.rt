@@ -58,7 +58,7 @@ impl Counting for AdvancesAgain {
     }
 }
 
-/// Returns the election in which a surplus contains papers at two values.
+/// Returns the election in which a surplus contains papers at two different values.
 fn with_surpluses() -> Result<&'static Worked, &'static str> {
     elections().get(1).ok_or("no such election")
 }

@@ -1,4 +1,4 @@
-//! Counts that are read back from their tabulation alone.
+//! Counts read back from their tabulation alone.
 
 use super::books::standing;
 use super::worked::Worked;
@@ -24,7 +24,7 @@ fn tabulated(
     Ok(rows)
 }
 
-/// Returns the count that is read back from a tabulation.
+/// Returns the count read back from a tabulation.
 fn read_back(alloc: Global, worked: &Worked, rows: &Tabulation) -> Result<StoredCount, Fail> {
     let (candidates, seats) = (first_columns(worked.candidates), u32::from(worked.seats));
     match count_of(alloc, candidates, seats, &rows.bundles, &rows.figures)? {

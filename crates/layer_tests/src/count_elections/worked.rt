@@ -1,4 +1,4 @@
-//! Small elections counted by hand, stage by stage.
+//! Small elections, counted by hand stage by stage.
 
 use count::Action;
 

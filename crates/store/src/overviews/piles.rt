@@ -53,8 +53,8 @@ fn put_papers(text: &mut String, papers: &[KeyedPaper]) -> Result<(), AllocError
 }
 
 #[tactic(auto, unfolding(crate::specs::Overviews::pile_text))]
-/// Returns the papers of a batch, and the numbers of its ward's candidates, as one text: two such texts are equal if
-/// and only if the candidate numbers and all papers are equal.
+/// Returns the papers of a batch and the numbers of its ward's candidates as one text. Two such texts are equal if and
+/// only if the candidate numbers and all papers are equal.
 pub(crate) fn pile_text(
     alloc: Global,
     columns: &Columns,

@@ -72,7 +72,7 @@ impl<S: Alter> Store<S> {
         Ok(papers)
     }
 
-    /// Returns whether two taken batches have the same papers, and their wards have the same candidate numbers.
+    /// Returns whether two taken batches have the same papers and their wards have the same candidate numbers.
     fn have_same_papers(&mut self, one: &Batch, other: &Batch) -> Result<bool, Fault>
         ensures { Loads S.Store self.old self.new result (λ s found. is_taken s (batch_entry one.now) ≡ true → is_taken s (batch_entry other.now) ≡ true
             → found ≡ bytes_eq (pile_text_of s (batch_entry one.now)) (pile_text_of s (batch_entry other.now))) }

@@ -51,7 +51,7 @@ impl<S: Alter> Store<S> {
         find_entry::<ThirdClerks, S>(&mut self.conn, &[number(batch)])
     }
 
-    /// Returns the input of a command that needs a ward and a batch.
+    /// Returns the input for a command that needs a ward and a batch.
     pub(crate) fn new_batch_part(&mut self, ward: u32, batch: u32) -> Result<CommandInput, Fault>
         ensures { Loads S.Store self.old self.new result (λ s part. input_entries part ≡ record empty_input { ward = ward_at s ward; batch = batch_at s batch }) }
     {
@@ -60,7 +60,7 @@ impl<S: Alter> Store<S> {
         Ok(CommandInput { batch, ..part })
     }
 
-    /// Returns the input of a command that needs a batch, its ward, its third clerk and the keyings of its round.
+    /// Returns the input for a command that needs a batch, its ward, its third clerk and the keyings of its round.
     pub(crate) fn third_part(&mut self, batch: u32) -> Result<CommandInput, Fault>
         ensures { Loads S.Store self.old self.new result
             (λ s part. input_entries part ≡ record empty_input {
@@ -91,7 +91,7 @@ impl<S: Alter> Store<S> {
         })
     }
 
-    /// Returns the input of a command that needs a batch, its ward and the keyings of its round.
+    /// Returns the input for a command that needs a batch, its ward and the keyings of its round.
     pub(crate) fn again_part(&mut self, batch: u32) -> Result<CommandInput, Fault>
         ensures { Loads S.Store self.old self.new result
             (λ s part. input_entries part ≡ record empty_input { ward = ward_for s (batch_at s batch); batch = batch_at s batch; keyings = keyings_for s (batch_at s batch) }) }

@@ -49,7 +49,7 @@ impl<S: Alter> Store<S> {
         }))
     }
 
-    /// Returns the input of a command that needs a ward and its candidates.
+    /// Returns the input for a command that needs a ward and its candidates.
     pub(crate) fn contest_part(&mut self, ward: u32) -> Result<CommandInput, Fault>
         ensures { Loads S.Store self.old self.new result (λ s part. input_entries part ≡ record empty_input { ward = ward_at s ward; candidates = candidates_of s ward }) }
     {
@@ -58,7 +58,7 @@ impl<S: Alter> Store<S> {
         Ok(CommandInput { candidates, ..part })
     }
 
-    /// Returns the input of a command that needs a ward and one of its candidates.
+    /// Returns the input for a command that needs a ward and one of its candidates.
     pub(crate) fn candidate_part(
         &mut self,
         ward: u32,

@@ -1,4 +1,4 @@
-//! The inputs of commands about a ward's count, read for a request.
+//! The inputs for commands about a ward's count, read for a request.
 
 ghost use Rattle.std.specs.Prelude.{◌≡◌, ◌≤◌, true, Option, MatchOption, option_map, IfOk, IfErr, IsOk};
 ghost use Rattle.votes.specs.Units.{max_seats};
@@ -20,8 +20,8 @@ use sqlite::Alter;
 use std::alloc::Global;
 use tables::Fault;
 
-/// Returns the input of a command that needs the poll of an election, if there is one. It fails only if the ward has no
-/// seats or too many, which never happens in an office.
+/// Returns the input for a command that needs the poll of an election, if there is one. It fails only if the ward has
+/// no seats or too many, which never happens in an office.
 fn polled(alloc: Global, found: Option<Election>) -> Result<CommandInput, Fault>
     ensures part { IfOk result (λ part. (entry : Option ElectionEntry) → IsFoundFor found entry → input_entries part ≡ polled_part entry) }
     ensures cause { IfErr result (λ f. f ≡ Fault.Store) }
@@ -55,7 +55,7 @@ fn progress_of(found: &CountedWard) -> Progress
     }
 }
 
-/// Returns the input of a command that needs the count of a ward, if there is one: what is due in it, the elected
+/// Returns the input for a command that needs the count of a ward, if there is one: what it requires next, the elected
 /// candidates, and the count itself.
 fn counted(alloc: Global, found: Option<CountedWard>) -> CommandInput
     ensures part { (entry : Option ElectionEntry) → IsCountedFor entry found → input_entries result ≡ counted_part entry }
@@ -155,8 +155,8 @@ impl<S: Alter> Store<S> {
         Ok(count)
     }
 
-    /// Returns the input of a command that needs the progress of a ward's count: the ward, what is due, the elected
-    /// candidates, and the count itself.
+    /// Returns the input for a command that needs the progress of a ward's count: the ward, what the count requires
+    /// next, the elected candidates, and the count itself.
     pub(crate) fn count_part(&mut self, ward: u32) -> Result<CommandInput, Fault>
         ensures { Loads S.Store self.old self.new result
             (λ s part. (input_entries part ≡ record empty_input { ward = ward_at s ward; due = due_for s (ward_at s ward); elected = elected_for s (ward_at s ward) })

@@ -1,9 +1,9 @@
 //! A clerk's keying of a batch, read for a request.
 //!
 //! The papers of a keying are inserted in one transaction, in order. In most offices their rows are therefore adjacent,
-//! and are read as a run, which takes half the time of finding each by its key. The rows themselves show whether they
-//! are the keying. If they aren't, as in an office whose rows were inserted in a different order, each paper is found
-//! by its key.
+//! and are read as a run, which takes half the time it takes to find each by its key. The rows themselves show whether
+//! they are the keying. If they aren't, for example in an office whose rows were inserted in a different order, each
+//! paper is found by its key.
 
 ghost use Rattle.std.specs.Prelude.{◌≡◌, ◌&&◌, ⊤, map, IfSome};
 ghost use Rattle.std.specs.List.{AllByRecursion, list_all};
@@ -24,7 +24,7 @@ use tables::value_conversion::number;
 use tables::{Fault, Table};
 
 #[tactic(auto, unfolding(register::specs::BatchConditions::are_numbered))]
-/// Returns whether papers are numbered consecutively from 1.
+/// Returns whether the papers are numbered consecutively, starting from 1.
 fn are_numbered(papers: &[KeyedPaper]) -> bool
     ensures { result ≡ are_numbered 1 (map keyed_entry papers.now) }
 {

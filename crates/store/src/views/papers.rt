@@ -126,7 +126,7 @@ impl<S: Alter> Store<S> {
         find_entry::<JudgedPapers, S>(&mut self.conn, &[number(batch), number(paper)])
     }
 
-    /// Returns the verdicts on papers of a batch, ordered by paper.
+    /// Returns the verdicts on a batch's papers, ordered by paper.
     pub(crate) fn list_verdicts(&mut self, batch: u32) -> Result<Vec<JudgedPaper>, Fault>
         ensures { Loads S.Store self.old self.new result (λ s found. map judged_entry found.items ≡ verdicts_of s batch) }
     {
@@ -142,7 +142,7 @@ impl<S: Alter> Store<S> {
         Ok(BatchPapers { keyings, verdicts })
     }
 
-    /// Returns the input of a clerk's command: the batch, its ward with the candidates, its third clerk, and only the
+    /// Returns the input for a clerk's command: the batch, its ward with the candidates, its third clerk, and only the
     /// clerk's own keying.
     pub(crate) fn keying_part(
         &mut self,
@@ -177,7 +177,7 @@ impl<S: Alter> Store<S> {
         })
     }
 
-    /// Returns the input of a command about a doubtful paper: the batch, its ward with the candidates, the keyings of
+    /// Returns the input for a command about a doubtful paper: the batch, its ward with the candidates, the keyings of
     /// its round, and the verdict.
     pub(crate) fn verdict_part(&mut self, batch: u32, paper: u32) -> Result<CommandInput, Fault>
         ensures { Loads S.Store self.old self.new result

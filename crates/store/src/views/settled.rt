@@ -92,8 +92,8 @@ fn add_each<P: KeepsPapers>(
 }
 
 impl<S: Alter> Store<S> {
-    /// Adds the papers of a batch to the ballots, row by row, as they were keyed in its current round by the
-    /// lower-numbered of its two clerks.
+    /// Adds the papers of a batch to the ballots, row by row, as keyed in its current round by the lower-numbered of
+    /// its two clerks.
     fn walk_papers<P: KeepsPapers + Drop, B: Start>(
         &mut self,
         ballots: Ballots<P>,

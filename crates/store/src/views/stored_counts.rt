@@ -28,7 +28,7 @@ impl<S: Alter> Store<S> {
         entries_beginning::<PlacedBundles, S>(self.alloc, &mut self.conn, &[number(ward)])
     }
 
-    /// Returns the figures of the stages of a ward, ordered by stage and candidate.
+    /// Returns the figures for a ward's stages, ordered by stage and candidate.
     fn list_figures(&mut self, ward: u32) -> Result<Vec<StageFigure>, Fault>
         ensures { Loads S.Store self.old self.new result (λ s found. map figure_entry found.items ≡ figures_at s ward) }
     {

@@ -40,12 +40,12 @@ const LOT: &str = "$ lot 7 2 1 --id l2
 lot at ward 7 stage 2: candidate 1
 ";
 
-/// The stage of a surplus that includes papers transferred with an earlier surplus.
+/// The stage that transfers a surplus including papers transferred in an earlier surplus.
 const SECOND_SURPLUS: &str = "$ advance 7 --id n3
 ward 7 stage 3 surplus of 2
 ";
 
-/// States of a count, and the orders that are stopped in each.
+/// States of a count, and the orders stopped in each.
 const COUNTS: [(&[Act], &str); 7] = [
     (&[Act::Typed(POLLING)], TO_SEAL),
     (SEALED, FIRST_STAGE),
