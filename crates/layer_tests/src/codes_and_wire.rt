@@ -29,8 +29,8 @@ const WITH_OFFICE: &str = "4 kf7m-2wxt\noffice abcd-efgh-jkmn-prst\r\n9 w3hd-4ps
 /// The credentials that the office sends with that code.
 const OFFICE: &str = "Basic b2ZmaWNlOmFiY2QtZWZnaC1qa21uLXByc3Q=";
 
-/// Values that may be sent to the office, and whether it accepts them. First its own; then those of two clerks, an
-/// empty value, the office's code under clerk 4's name, and clerk 4's code under the office's name; then the office's
+/// Values that may be sent to the office, and whether it accepts them. First its own. Then those of two clerks, an
+/// empty value, the office's code under clerk 4's name, and clerk 4's code under the office's name. Last, the office's
 /// name with a capital letter, its code cut short, and a different scheme.
 const TO_OFFICE: [(&str, bool); 9] = [
     (OFFICE, true),
@@ -289,7 +289,8 @@ fn faults_are_told(rt: &(impl Abort + AllocGlobal)) -> Result<(), Fail> {
     Ok(())
 }
 
-/// Checks what a request asks with the given value of `Authorization`, or without that header if the value is empty.
+/// Checks what a request with the given value of `Authorization` asks for, or one without that header if the value is
+/// empty.
 fn asks_sent(
     rt: &(impl Abort + AllocGlobal),
     given: HttpSettings<'_>,
@@ -342,7 +343,7 @@ const OF_CONSOLE: [(&str, &str, &str); 13] = [
     ("GET /clerks/4/work", OFFICE, "WrongCode(Clerk(4))"),
 ];
 
-/// The bodies of orders, and what they ask.
+/// The bodies of orders, and what they ask for.
 const ORDERS: [(&str, &str); 12] = [
     (r#"{"files":{},"words":["wards"]}"#, "office: wards"),
     (
@@ -364,7 +365,7 @@ const ORDERS: [(&str, &str); 12] = [
     ("wards", "BadRequest"),
 ];
 
-/// Checks what requests to the console ask if the office has a code.
+/// Checks what requests to the console ask for if the office has a code.
 fn asks_console(rt: &(impl Abort + AllocGlobal), given: HttpSettings<'_>) -> Result<(), Fail> {
     for (line, value, asked) in &OF_CONSOLE {
         asks_sent(rt, given, *line, *value, *asked)?;

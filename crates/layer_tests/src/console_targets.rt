@@ -49,7 +49,7 @@ const NOTHING: [&str; 15] = [
     "/office/wards?actor=0",
 ];
 
-/// Checks what a request for the given target asks, with the given value of `Authorization`.
+/// Checks what a request for the given target, with the given value of `Authorization`, asks for.
 fn asks_target(
     rt: &(impl Abort + AllocGlobal),
     given: HttpSettings<'_>,

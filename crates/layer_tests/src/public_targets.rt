@@ -41,7 +41,7 @@ const ELSEWHERE: [&str; 10] = [
     "/wards//page",
 ];
 
-/// Checks what a request for the given target asks.
+/// Checks what a request for the given target asks for.
 fn asks_target(
     rt: &(impl Abort + AllocGlobal),
     given: HttpSettings<'_>,

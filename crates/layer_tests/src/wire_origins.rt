@@ -69,7 +69,7 @@ const OWN: [&str; 20] = [
     "Host: 127.0.0.1:8080\r\nOrigin: http://127.0.0.1:8080\r\nSec-Fetch-Site: same-origin",
 ];
 
-/// The first line of a request, its length header, and what the request asks.
+/// The first line of a request, its length header, and what the request asks for.
 const CASES: [(&str, &str, &str); 6] = [
     (
         "POST /clerks/4/batches/12/keying",
@@ -114,8 +114,8 @@ fn asks_both(
     asks_of(rt, given, request.as_bytes(), asked)
 }
 
-/// Reads a request with the given additional headers. Either it asks the same thing as without them, or it is rejected
-/// as foreign before anything else is checked, whether it sends a keying or reads.
+/// Reads a request with the given additional headers. Either it asks for the same thing as without them, or it is
+/// rejected as foreign before anything else is checked, whether it sends a keying or reads.
 fn asks_with(
     rt: &(impl Abort + AllocGlobal),
     given: HttpSettings<'_>,

@@ -1,5 +1,5 @@
-//! What HTTP requests ask when read from readers that return everything at once, that return one byte at a time, or that
-//! fail.
+//! What HTTP requests ask for, read from readers that return everything at once, that return one byte at a time, or
+//! that fail.
 
 ghost use Rattle.std.specs.Prelude.{◌-◌, ◌^◌, ◌<◌};
 
@@ -86,7 +86,7 @@ fn order_words(alloc: Global, order: &ConsoleOrder) -> Result<String, AllocError
     Ok(text)
 }
 
-/// Returns what a request asks, or why it couldn't be read, in short form.
+/// Returns what a request asks for, or why it couldn't be read, in short form.
 fn words_of(alloc: Global, came: &Result<HttpRequest, ReadFailure>) -> Result<String, AllocError> {
     match came {
         Ok(HttpRequest::Keying(keying)) => keying_words(alloc, keying),
@@ -110,7 +110,7 @@ pub const NOTHING: HttpSettings<'static> = HttpSettings {
     public: None,
 };
 
-/// Returns what a request asks of an office with the given settings, in short form.
+/// Returns what a request to an office with the given settings asks for, in short form.
 fn asked_text<R: Source>(
     alloc: Global,
     given: HttpSettings<'_>,
@@ -121,7 +121,7 @@ fn asked_text<R: Source>(
     words_of(alloc, &read_request(alloc, given, reader))
 }
 
-/// Checks what a request from the given reader asks.
+/// Checks what a request from the given reader asks for.
 fn asks_in<R: Source>(
     rt: &(impl Abort + AllocGlobal),
     given: HttpSettings<'_>,
@@ -135,7 +135,7 @@ fn asks_in<R: Source>(
     Ok(())
 }
 
-/// Checks what a request asks, both when it is read at once and when it is read one byte at a time.
+/// Checks what a request asks for, both when it is read at once and when it is read one byte at a time.
 pub fn asks_of(
     rt: &(impl Abort + AllocGlobal),
     given: HttpSettings<'_>,
@@ -163,7 +163,7 @@ fn keying(alloc: Global, headers: &str, body: &str) -> Result<String, AllocError
 /// The body of a keying.
 pub const BODY: &str = r#"{"id":"h1","round":1,"papers":["1,2,","D"]}"#;
 
-/// What a keying with the body `BODY` asks.
+/// What a keying with the body `BODY` asks for.
 pub const KEYED: &str = "4 keys 12 round 1 as h1: [1,2,] [D]";
 
 /// First lines of requests, none followed by a valid length.
@@ -289,7 +289,7 @@ fn repeated(alloc: Global, text: &str, more: &str, times: usize) -> Result<Strin
     Ok(long)
 }
 
-/// Checks what a request asks if it consists of a text, the given number of repetitions of another, and an end.
+/// Checks what a request asks for if it consists of a text, the given number of repetitions of another, and an end.
 fn asks_long(
     rt: &(impl Abort + AllocGlobal),
     text: &str,
@@ -302,7 +302,7 @@ fn asks_long(
     asks(rt, request.as_bytes(), asked)
 }
 
-/// Checks what a request asks if its head has the given length, the given end, and a single header.
+/// Checks what a request asks for if its head has the given length, the given end, and a single header.
 fn asks_long_head(
     rt: &(impl Abort + AllocGlobal),
     (length, end, asked): &(usize, &str, &str),
@@ -312,14 +312,14 @@ fn asks_long_head(
     asks_long(rt, begun, ("x", times), *end, *asked)
 }
 
-/// The length of a head, its end, and what the request asks.
+/// The length of a head, its end, and what the request asks for.
 const LONG_HEADS: [(usize, &str, &str); 3] = [
     (MAX_HEAD_BYTES, "\r\n\r\n", "Sheet { ward: 7 }"),
     (MAX_HEAD_BYTES + 1, "\r\n\r\n", "BadRequest"),
     (MAX_HEAD_BYTES + 1, "xxxx", "BadRequest"),
 ];
 
-/// The number of headers, and what a request with them asks.
+/// The number of headers, and what a request with them asks for.
 const MANY_HEADERS: [(usize, &str); 2] = [
     (MAX_HEADERS, "Sheet { ward: 7 }"),
     (MAX_HEADERS + 1, "BadRequest"),
@@ -360,7 +360,7 @@ fn long_heads_and_bodies(rt: HostRuntime) -> Result<(), Fail> {
 }
 
 /// Reads a request when only the given bytes arrive before the reader fails. Unless the request is complete, nothing is
-/// asked, and one failure is counted.
+/// asked for, and one failure is counted.
 fn breaks_off(rt: &(impl Abort + AllocGlobal), left: &[u8], is_whole: bool) -> Result<(), Fail> {
     let mut reader = Counted::new(Slow { left, fails: true });
     let wanted = if is_whole { KEYED } else { "broken" };

@@ -42,7 +42,7 @@ all_added rows c =
     (added_all Candidate (map (λ x. row_of_candidate (candidate_entry x)) rows.candidates.items)
     (added_all Ward (map (λ w. row_of_ward (ward_entry w)) rows.wards.items) c)))))))))
 
--- adding these rows to an empty office yields the office with these rows
+-- adding rows to an empty office yields the office with those rows
 pub whole_put : (rows : Rows) → SameContents (all_added rows (tables_of empty_office)) (tables_with (state_of rows) (tabulated rows))
 unfolding added_all tables_of tables_with tabulation_of
 whole_put rows Office = IsPermutation-refl _
@@ -64,7 +64,7 @@ pub are_tables : (s : OfficeState) (t : TabulationEntries) → IsTabulationOf t 
 unfolding tables_of
 are_tables s t is = ap (tables_with s) is
 
--- a connection to the copy keeps the copied state if it rests at these tables
+-- a connection to the copy keeps the copied state if it rests at the copied tables
 pub copy_is_at : (s : OfficeState) (t : TabulationEntries) (st : State) → IsTabulatedAs s t → ((trees : Trees) → IsTrue st.is_open → st.may_leave trees → trees ≡ st.committed.trees)
     → Rests (tables_with s t) st → IsAt s st
 copy_is_at s t st is settled rests = rests_is_at s st settled is.0 (subst (λ (c : Contents). Rests c st) (are_tables s t is.1) rests)

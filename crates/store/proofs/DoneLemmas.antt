@@ -1,4 +1,4 @@
--- How many stages of a count a state can have done.
+-- A bound on the number of stages done in the counts of a state.
 use Rattle.std.proofs.Common.{◌≡◌, ◌<◌, ◌≤◌, ◌+◌, ◌*◌, ◌^◌, List, [], ◌∷◌, Bool, true, false, cond, length, Some, refl, sym, ap, ◌∙◌, arith, Less, Equal, nat_cmp}
 use Rattle.std.specs.Ordering.{is_eq, ordering_reverse}
 use Rattle.std.specs.Cmp.{nat_cmp_is}

@@ -63,7 +63,7 @@ changed_same : (change : Change) (s : OfficeState) → IsTabulated s change → 
 unfolding tables_of
 changed_same change s tabulated = same_tables (with_change (change_entry change) s) _ _ tabulated
 
--- a connection keeps the state after the change if it rests at these tables
+-- a connection keeps the state after the change if it rests at the changed tables
 pub if_change_is_at : {X E : Type 0} (r : Result X E) (change : Change) (s : OfficeState) (st : State) → ((trees : Trees) → IsTrue st.is_open → st.may_leave trees → trees ≡ st.committed.trees)
     → IsTabulated s change → IsState (with_change (change_entry change) s) → OnOk r (Rests (changed_tables change s) st) → OnOk r (IsAt (with_change (change_entry change) s) st)
 if_change_is_at (Ok x) change s st settled tabulated is rests = rests_is_at (with_change (change_entry change) s) st settled is (rests_same _ _ st (changed_same change s tabulated) rests)

@@ -25,7 +25,7 @@ pub map_alike : {A B : Type 0} (f g : A → B) → ((x : A) → f x ≡ g x) →
 map_alike f g same [] = refl
 map_alike {B = B} f g same (x ∷ xs) = ap (λ (y : B). y ∷ map f xs) (same x) ∙ ap (λ (ys : List B). g x ∷ ys) (map_alike f g same xs)
 
--- two states agree about a batch, except for its row
+-- two states agree on a batch, except for its row
 record HasSameOf (s t : OfficeState) (b : BatchEntry) : Type 0 where
   third : third_at t b.number ≡ third_at s b.number
   keying : (clerk : ℕ) → keying_of t b.number b.round clerk ≡ keying_of s b.number b.round clerk

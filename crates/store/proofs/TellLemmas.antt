@@ -82,7 +82,7 @@ strange_more n m up db WrongDatabase told = told
 strange_more n m up db NewerSchema told = told
 strange_more n m up db OlderSchema told = told
 
--- if one of the first tables has rows that no state has, the rows are not the tables of any state
+-- if one of the first tables has rows that no state has, the rows don't form the tables of any state
 pub strange_told : (n : ℕ) (db : Database) (f : Fault) → TellsStrange n db f → TellsNoState db f
 unfolding IsOffice
 strange_told n db Memory told = tt

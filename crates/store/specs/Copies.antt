@@ -40,7 +40,7 @@ IsToldInCopying db old new (Office fault) = IsFaultOf db fault × FailsToList db
 IsToldInCopying db old new Taken = ⊥
 IsToldInCopying db old new (Copy fault) = ((fault ≡ Memory) ⊎ (fault ≡ StoreFailed)) × ((s : OfficeState) × HoldsState db s)
 
--- the same for an office left by a stop: an allocation or a store failed
+-- why copying an office left by a stop failed: an allocation or a store failed
 abbrev pub StopsInCopying : State → State → CopyFault → Type 0
 StopsInCopying old new (Office fault) = FailsBy old new fault
 StopsInCopying old new Taken = ⊥

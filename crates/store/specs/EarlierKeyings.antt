@@ -19,7 +19,7 @@ last_keyed s batch clerk (suc n) =
 abbrev pub earlier_for : OfficeState → ℕ → BatchEntry → Option (Option KeyedRoundEntry)
 earlier_for s clerk b = if is_its_clerk clerk b (third_at s b.number) then Some (last_keyed s b.number clerk (b.round - 1)) else None
 
--- the same for the batch with the given number, if there is one
+-- a clerk's own earlier keying of the batch with the given number, if there is such a batch
 abbrev pub earlier_at : OfficeState → ℕ → ℕ → Option (Option KeyedRoundEntry)
 earlier_at s clerk batch = option_and_then (earlier_for s clerk) (batch_at s batch)
 

@@ -76,7 +76,7 @@ abbrev pub IsCountIfBegun : ElectionEntry → Option Count → Type 0
 IsCountIfBegun e None = has_stages e ≡ false
 IsCountIfBegun e (Some count) = (has_stages e ≡ true) × IsCountOf e count
 
--- the same, for an election that may not exist
+-- `IsCountIfBegun`, for an election that may not exist
 abbrev pub IsCountIfBegunFor : Option ElectionEntry → Option Count → Type 0
 IsCountIfBegunFor None found = found ≡ None
 IsCountIfBegunFor (Some e) found = IsCountIfBegun e found

@@ -13,6 +13,6 @@ keying_for s batch round (Some clerk) = keying_of s batch round clerk
 abbrev pub is_paper_of : ℕ → ℕ → ℕ → KeyedEntry → Bool
 is_paper_of batch round clerk k = (k.batch == batch) && ((k.round == round) && (k.clerk == clerk))
 
--- the keyings that exist, out of these
+-- the keyings that exist, among the given ones
 abbrev pub keyings_by : Keyings → List (List KeyedEntry)
 keyings_by keyings = of_three (map keyed_entry keyings.first.items) (map keyed_entry keyings.second.items) (map keyed_entry keyings.third.items)

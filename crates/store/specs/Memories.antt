@@ -84,7 +84,7 @@ is_about (paper_judged v) b = b.number == v.batch
 is_about (stage_counted ward done) b = false
 is_about (lot_drawn l) b = false
 
--- whether a batch is in this set, which includes every batch that the effect concerns
+-- whether a batch is in the given set, which includes every batch that the effect concerns
 abbrev pub concerns : AffectedBatches → BatchEntry → Bool
 concerns Nothing b = false
 concerns (Batch number) b = b.number == number

@@ -80,7 +80,7 @@ pub record StoresOlder (form : OlderForm) (s : OfficeState) (trees : Trees) : Ty
 abbrev pub LeavesOldOrNew : OlderForm → OfficeState → State → State → Type 0
 LeavesOldOrNew form s old new = (trees : Trees) → new.may_leave trees → (old.may_leave trees × StoresOlder form s trees) ⊎ Stores (tables_of s) trees
 
--- no state has these rows as its older tables
+-- the rows don't form the older tables of any state
 abbrev pub HoldsNoOlder : Database → Type 0
 HoldsNoOlder db = (form : OlderForm) (s : OfficeState) → ¬ HoldsOlder form db s
 
@@ -91,7 +91,7 @@ abbrev pub WasAt : Database → Migrated → OfficeState → Type 0
 WasAt db Already s = HoldsState db s
 WasAt db Done s = (form : OlderForm) × HoldsOlder form db s
 
--- an office, not of a later version, whose rows no state has as its tables or its older tables
+-- an office, not of a later version, whose rows form neither the tables nor the older tables of any state
 pub record IsBeyondMigration (db : Database) : Type 0 where
   pub some_office : ¬ HasNoOffice db
   pub not_newer : ¬ IsNewer db
@@ -120,7 +120,7 @@ pub record IsBare (form : OlderForm) (s : OfficeState) (t : TabulationEntries) :
   pub no_thirds : s.thirds ≡ []
   pub no_counts : form ≡ WithoutCounts → t ≡ no_tabulation
 
--- these maps form an older state, and this is the tabulation that such an office has
+-- the given maps form an older state, and the given tabulation is the one such an office has
 pub record IsOlderOf (form : OlderForm) (s : OfficeState) (t : TabulationEntries) : Type 0 where
   pub is : IsOlderState s
   pub tabulated : t ≡ tabulation_in form s

@@ -35,11 +35,11 @@ IsOlder db = tuples Office db.trees ≡ office_row 1 ∷ []
 abbrev pub HasVersion : ℕ → Database → Type 0
 HasVersion version db = HoldsTable Office (office_row version ∷ []) db.trees
 
--- no state has these rows as its tables
+-- the rows don't form the tables of any state
 abbrev pub HoldsNoState : Database → Type 0
 HoldsNoState db = (s : OfficeState) → ¬ HoldsState db s
 
--- an office of this version whose rows no state has as its tables
+-- an office of this version whose rows don't form the tables of any state
 pub record IsDamaged (db : Database) : Type 0 where
   pub some_office : ¬ HasNoOffice db
   pub not_newer : ¬ IsNewer db
@@ -134,7 +134,7 @@ has_entries Office = false
 abbrev pub ListsMaps : Database → OfficeState → TabulationEntries → Type 0
 ListsMaps db s t = (u : Table) → has_entries u ≡ true → ListsEntries u db (tables_with s t u)
 
--- these maps form a state, and this is the tabulation of its counts
+-- the given maps form a state, and the given tabulation is that of its counts
 abbrev pub IsTabulatedAs : OfficeState → TabulationEntries → Type 0
 IsTabulatedAs s t = IsState s × IsTabulationOf t s
 

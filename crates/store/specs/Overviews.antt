@@ -108,7 +108,7 @@ batch_view_of s b = batch_view_with s b (twin_of s b)
 abbrev pub batch_views : OfficeState → ℕ → List BatchView
 batch_views s ward = map (batch_view_of s) (batches_of s ward)
 
--- the same for the ward with the given number, if there is one
+-- the batches of the ward with the given number, if there is one, ordered by number
 abbrev pub batch_views_at : OfficeState → ℕ → Option (List BatchView)
 batch_views_at s ward = option_map (λ (w : WardEntry). batch_views s w.number) (ward_at s ward)
 
@@ -143,7 +143,7 @@ papers_of s b = papers_by (candidates_of s b.ward) (pile_of s b)
 abbrev pub judgements_told : OfficeState → BatchEntry → List Judgement
 judgements_told s b = map (λ (p : PaperView). p.judgement) (papers_of s b).papers
 
--- the same for the batch with the given number, if there is one
+-- whether the batch with the given number is taken, the candidates of its ward, and its papers; `None` if there is no such batch
 abbrev pub papers_at : OfficeState → ℕ → Option PapersView
 papers_at s batch = option_map (papers_of s) (batch_at s batch)
 
@@ -181,7 +181,7 @@ pub record DoubtfulPapersView : Type 0 where
 abbrev pub doubtful_papers : OfficeState → ℕ → DoubtfulPapersView
 doubtful_papers s ward = record { candidates = candidates_of s ward; papers = doubtful_views s ward }
 
--- the same for the ward with the given number, if there is one
+-- the candidates and the doubtful papers of the ward with the given number, if there is one
 abbrev pub doubtful_at : OfficeState → ℕ → Option DoubtfulPapersView
 doubtful_at s ward = option_map (λ (w : WardEntry). doubtful_papers s w.number) (ward_at s ward)
 
@@ -216,7 +216,7 @@ differences_by b keyings = record { batch = b; differs = differ keyings; papers 
 abbrev pub differences_of : OfficeState → BatchEntry → DifferencesView
 differences_of s b = differences_by b (keyings_now s b)
 
--- the same for the batch with the given number, if there is one
+-- the batch with the given number, if there is one, and its differences
 abbrev pub differences_at : OfficeState → ℕ → Option DifferencesView
 differences_at s batch = option_map (differences_of s) (batch_at s batch)
 

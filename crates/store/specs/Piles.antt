@@ -11,7 +11,7 @@ use Rattle.store.specs.declared.overviews.piles.ReadBatch.{ReadBatch}
 use Rattle.store.specs.Keyings.{keyings_by}
 use Rattle.store.specs.Overviews.{BatchView, standing_by, batch_view, batch_view_with, pile_in}
 
--- these are the keyings of a batch's current round, and its third clerk
+-- the given keyings are those of a batch's current round, along with its third clerk
 pub record KeyingsAre (s : OfficeState) (b : BatchEntry) (keyings : Keyings) : Type 0 where
   pub third_is : option_map third_entry keyings.third_clerk ≡ third_at s b.number
   pub they_are : keyings_by keyings ≡ keyings_now s b

@@ -109,10 +109,11 @@ fn older_tables_determine_states()
 ///
 /// The rows are first checked as in `Store::open_from`; those of an older office are checked against the conditions
 /// that applied to it. If the office already has this program's version, nothing else is done and nothing is changed.
-/// `WrongDatabase` and `NewerSchema` are returned just as `open_from` returns them. Returns `Damaged` if no state has
-/// these tables, or if there is a table missing or one too many; nothing is changed then. After `Memory` or `Store` an
-/// older office is either unchanged or completely migrated; if there was no older office, nothing is changed. Returns
-/// `Store` if the store failed, if rowids aren't distinct integers, or if the connection is inside a transaction.
+/// `WrongDatabase` and `NewerSchema` are returned just as `open_from` returns them. Returns `Damaged` if the rows don't
+/// form the tables of any state, if a table is missing, or if there is an extra one; in that case nothing is changed.
+/// After `Memory` or `Store` an older office is either unchanged or completely migrated; if there was no older office,
+/// nothing is changed. Returns `Store` if the store failed, if rowids aren't distinct integers, or if the connection is
+/// inside a transaction.
 pub fn migrate<S: Alter>(alloc: Global, conn: &mut Connection<S>) -> Result<Migrated, Fault>
     ensures { Migrates S.Store conn.old conn.new result }
 {

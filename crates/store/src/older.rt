@@ -32,7 +32,7 @@ use tables::presence::{TablesPresent, tables_present};
 pub enum OlderForm {
     /// All tables except the one for third clerks.
     WithCounts,
-    /// As `WithCounts`, but without the two tables for the tabulation of the counts either.
+    /// Like `WithCounts`, but also without the two tables for the tabulation of the counts.
     WithoutCounts,
 }
 

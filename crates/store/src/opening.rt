@@ -88,7 +88,7 @@ fn check_office<S: Alter>(alloc: Global, conn: &mut Connection<S>) -> Result<(),
     Ok(())
 }
 
-/// Returns the tabulation of the counts if these maps, which are in key order, form a state. The only error is
+/// Returns the tabulation of the counts if the given maps, which are in key order, form a state. The only error is
 /// `Memory`.
 pub(crate) fn tabulation_of_state(alloc: Global, rows: &Rows) -> Result<Option<Tabulation>, Fault>
     requires { MapsAreSorted (state_of rows.now) }
@@ -121,8 +121,8 @@ pub(crate) fn tabulation_of_state(alloc: Global, rows: &Rows) -> Result<Option<T
     }
 }
 
-/// Returns whether these maps, which are in key order, form a state with this tabulation of its counts. The only error
-/// is `Memory`.
+/// Returns whether the given maps, which are in key order, form a state with the given tabulation of its counts. The
+/// only error is `Memory`.
 fn are_of_state(alloc: Global, rows: &Rows) -> Result<bool, Fault>
     requires { MapsAreSorted (state_of rows.now) }
     ensures some { IfOk result (λ yes. yes ≡ true → IsTabulatedAs (state_of rows.now) (tabulated rows.now)) }

@@ -101,9 +101,9 @@ fn tables_determine_states()
 impl<S: Alter> Store<S> {
     /// Creates the tables of an empty office in the connection's database.
     ///
-    /// Returns `WrongDatabase` if a table with the name of one of ours already exists; nothing is changed then. Also
-    /// returns `Store` if the connection is inside a transaction. After any other fault, either all the tables exist or
-    /// none do.
+    /// Returns `WrongDatabase` if a table with the name of one of ours already exists; in that case nothing is changed.
+    /// Also returns `Store` if the connection is inside a transaction. After any other fault, either all the tables
+    /// exist or none do.
     pub fn create(alloc: Global, mut conn: Connection<S>) -> Result<Self, (Fault, Connection<S>)>
         ensures made { IfOk result (λ store. HasCleanDisk (state S.Store store) → IsBlank (state S.Store conn) → IsAt empty_office (state S.Store store)) }
         ensures stops { IfErr result (λ e. HasCleanDisk (state S.Store e.1) → IsBlank (state S.Store conn)
@@ -131,9 +131,9 @@ impl<S: Alter> Store<S> {
     /// Opens the office in the connection's database, and changes nothing.
     ///
     /// Returns `WrongDatabase` if there is no office table or no row in it; `OlderSchema` if an earlier program made
-    /// the office, and `NewerSchema` if a later one did. Returns `Damaged` if no state has these tables, and `Store` if
-    /// the store failed, if rowids aren't distinct integers, or if the connection is inside a transaction. The
-    /// connection is returned with the fault, its database unchanged.
+    /// the office, and `NewerSchema` if a later one did. Returns `Damaged` if the rows don't form the tables of any
+    /// state, and `Store` if the store failed, if rowids aren't distinct integers, or if the connection is inside a
+    /// transaction. The connection is returned with the fault, its database unchanged.
     pub fn open_from(alloc: Global, mut conn: Connection<S>) -> Result<Self, (Fault, Connection<S>)>
         ensures opened { IfOk result (λ store. HasCleanDisk (state S.Store store) → (db : Database) → IsOurs db.schema → RestsAt db (state S.Store conn)
             → (s : OfficeState) × HoldsState db s × IsAt s (state S.Store store)) }

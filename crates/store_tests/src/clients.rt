@@ -89,7 +89,7 @@ pub struct Evening<'a> {
 }
 
 impl<'a> Evening<'a> {
-    /// Returns an evening with the given clients, on which all of them are served and no time passes.
+    /// Returns an evening with the given clients, during which all of them are served and no time passes.
     pub fn of(clients: TestClients<'a>) -> Evening<'a> {
         Evening {
             clients,

@@ -23,8 +23,8 @@ const UNAUTHORIZED: &str =
 /// An order that prints the status of ward 7.
 const STATUS: &str = r#"{"files":{},"words":["status","7"]}"#;
 
-/// The bodies of orders, and of the responses to them. They are executed just as orders sent over the order protocol
-/// are: in turn, and with the files that came with them. A copy's name has no folder.
+/// The bodies of orders, and of the responses to them. Such orders are executed just like those sent over the order
+/// protocol: in turn, and with the files that came with them. A copy's name has no folder.
 const ORDERS: [(&str, &str); 9] = [
     (
         STATUS,

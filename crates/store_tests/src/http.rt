@@ -89,7 +89,7 @@ fn serve_all<M: TestHost + Drop>(
 }
 
 /// Clients that connect at the same time send their requests in parts. Each request is processed once it is complete:
-/// one request for clerk 4's work before that clerk's keying is complete, and another one after it.
+/// one request for clerk 4's work before that clerk's keying is complete, and another afterwards.
 fn have_their_turns<M: TestHost + Drop>(
     rt: &(impl Abort + AllocGlobal),
     host: M,

@@ -56,7 +56,7 @@ fn byte(numbers: &mut Pcg32) -> u8 {
     byte
 }
 
-/// Returns a random one of the requests.
+/// Returns one of the requests, chosen at random.
 fn request(numbers: &mut Pcg32) -> &'static [u8] {
     match REQUESTS.get(below(numbers, REQUESTS.len())) {
         Some(request) => request.as_bytes(),

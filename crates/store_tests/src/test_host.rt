@@ -52,7 +52,7 @@ fn sorted(alloc: Global, rows: &str) -> Result<Vec<&str>, Fail> {
     Ok(lines)
 }
 
-/// Returns whether the two lists of rows are the same, in any order.
+/// Returns whether both texts have the same rows, in any order.
 pub fn are_same(alloc: Global, rows: &str, others: &str) -> Result<bool, Fail> {
     Ok(sorted(alloc, rows)?.as_slice() == sorted(alloc, others)?.as_slice())
 }

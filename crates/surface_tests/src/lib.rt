@@ -5,7 +5,7 @@
 //! the modules `plain` of `keyfile`, `wire` and `desk` contain such wrappers. The results of the calls are tested
 //! elsewhere; here each is only returned.
 //!
-//! The calls on a store are generic over the store, and aren't run here: `store_tests` runs them.
+//! The calls on a store are written for any store, and aren't run here: `store_tests` runs them.
 #![tactic(auto)]
 
 #[cfg(test)]

@@ -56,7 +56,7 @@ unfolding understood everything create_text
 makes_table Office = record { is = refl; plain = (refl, refl); whole = refl; defined = refl; uncounted = refl; next = refl; tree = refl }
 makes_table t = record { is = refl; plain = (refl, refl); whole = refl; defined = refl; uncounted = refl; next = refl; tree = refl }
 
--- ---- another table
+-- ---- creating the next table
 
 taken_has : {X : Type 0} (xs : List X) (n k : ℕ) (x : X) → k < n → slice_get xs k ≡ Some x → Has (take n xs) x
 taken_has [] n k x low at = absurd cc

@@ -30,7 +30,7 @@ no_integer (Real x) none = refl
 no_integer (Text t) none = refl
 no_integer (Blob b) none = refl
 
--- ---- another rowid
+-- ---- the next rowid
 
 -- the rowid of the row read at an index
 pub rowid_there : (rows : List Row) (k : ℕ) (r : Row) (n : ℤ) → k < length rows → r ≡ get_or rows k r → rowid r ≡ Int n → rowid (get_or rows k []) ≡ Int n

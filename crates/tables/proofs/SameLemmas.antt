@@ -106,7 +106,7 @@ pub office_holds : (c : Contents) (db : Database) → IsOffice c db → Holds c 
 unfolding IsOffice
 office_holds c db office = office.holds
 
--- ---- another row
+-- ---- adding a row
 
 pub added_there : (t : Table) (row : Row) (c : Contents) → added t row c t ≡ row ∷ c t
 unfolding added
@@ -120,7 +120,7 @@ pub same_added : (t : Table) (row : Row) (c d : Contents) → SameContents c d �
 unfolding added
 same_added t row c d same = same_changed t (λ rows. row ∷ rows) (λ xs ys h. IsPermutation-cons row xs ys h) c d same
 
--- ---- several more rows
+-- ---- adding several rows
 
 pub same_added_all : (t : Table) (news : List Row) (c d : Contents) → SameContents c d → SameContents (added_all t news c) (added_all t news d)
 unfolding added_all

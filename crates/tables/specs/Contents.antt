@@ -30,7 +30,7 @@ filled (one ∷ more) u = if place_of u == place_of one.0 then one.1 else filled
 
 -- ---- effects of statements on the contents; each is opaque, to keep a proof search from computing it
 
--- the contents with another row
+-- the contents with a row added
 unfoldable pub added : Table → Row → Contents → Contents
 added t row = changed t (λ rows. row ∷ rows)
 
@@ -96,7 +96,7 @@ pub record Rests (c : Contents) (s : State) : Type 0 where
   pub settled : s.now ≡ s.committed
   pub office : IsOffice c s.now
 
--- the same, for a connection that may have been closed
+-- `Rests`, for a connection that may have been closed
 abbrev pub RestsIfOpen : Contents → State → Type 0
 RestsIfOpen c s = IsTrue s.is_open → Rests c s
 

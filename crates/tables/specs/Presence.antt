@@ -9,7 +9,7 @@ use Rattle.tables.specs.declared.presence.TablesPresent.{TablesPresent}
 use Rattle.tables.specs.declared.presence.TablesPresent.TheVariants.{Whole, WithoutThird, WithoutCounts, Other}
 use Rattle.tables.specs.Schema.{shape, all_tables, schema_from, BeginsTo, IsOfficeSchema}
 
--- whether any table has the name of this one, ignoring the case of ASCII letters
+-- whether any table has the given table's name, ignoring the case of ASCII letters
 abbrev pub has_table : Table → Schema → Bool
 has_table t s = list_any (λ d. same_name d.name (shape t).name) s.tables
 

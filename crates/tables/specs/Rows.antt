@@ -103,7 +103,7 @@ abbrev pub ascending_keys : ℕ → List Key
 ascending_keys zero = []
 ascending_keys (suc n) = ascending Binary ∷ ascending_keys n
 
--- the order of rows by the given number of their first columns
+-- the order of rows by the given number of leading columns
 abbrev pub keys_cmp : ℕ → Row → Row → Ordering
 keys_cmp n = key_cmp 0 (ascending_keys n)
 

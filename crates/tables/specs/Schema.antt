@@ -160,7 +160,7 @@ all_tables = Office ∷ Ward ∷ Candidate ∷ Batch ∷ Keying ∷ Verdict ∷ 
 
 -- ---- the schema
 
--- the given number of consecutive numbers, starting with the given one
+-- a run of consecutive numbers, with the given start and length
 abbrev pub places_from : ℕ → ℕ → List ℕ
 places_from k zero = []
 places_from k (suc n) = k ∷ places_from (suc k) n

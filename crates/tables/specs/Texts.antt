@@ -49,7 +49,7 @@ kind_text Text = codes " TEXT NOT NULL"
 kind_text Blob = codes " BLOB NOT NULL"
 kind_text _ = codes " INT NOT NULL"
 
--- the digits of a number, at most the given number of them
+-- the digits of a number, up to the given count
 abbrev pub numeral : ℕ → ℕ → List ℕ
 numeral zero n = []
 numeral (suc most) n = if nat_lt n 10 then (48 + n) ∷ [] else numeral most (n / 10) ++ ((48 + n % 10) ∷ [])

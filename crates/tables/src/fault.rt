@@ -13,7 +13,7 @@ pub enum Fault {
     Memory,
     /// The store refused a call for another reason.
     Store,
-    /// No state of an office has these tables.
+    /// The rows don't form the tables of any state of an office.
     Damaged,
     /// An earlier fault closed the office.
     Closed,
@@ -70,7 +70,7 @@ impl fmt::Display for Fault {
 
 impl std::error::Error for Fault {}
 
-/// Returns the fault for a call that `sqlite` refused: `Memory` if it ran out of memory, `Store` for any other reason.
+/// Returns the fault for a call that `sqlite` refused: `Memory` if it was out of memory, `Store` for any other reason.
 pub fn fault_of(e: Error) -> Fault
     ensures value { result ≡ fault_of e }
     ensures memory { (result ≡ Fault.Memory) ↔ (e ≡ Error.SqliteFailure ErrorCode.OutOfMemory) }

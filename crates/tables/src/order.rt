@@ -25,8 +25,7 @@ fn value_at(row: &Row, place: usize) -> ValueRef<'_>
     }
 }
 
-/// Returns the order of two rows by `columns` columns, starting at `place`. Recurses once per key column, so at most
-/// four times.
+/// Compares two rows by `columns` columns, starting at `place`. Recurses once per key column, so at most four times.
 fn order_from(a: &Row, b: &Row, place: usize, columns: usize) -> Ordering
     requires { place + columns < 2 ^ 64 }
     ensures { result ≡ key_cmp place (ascending_keys columns) a.now b.now }
@@ -39,7 +38,7 @@ fn order_from(a: &Row, b: &Row, place: usize, columns: usize) -> Ordering
     here.then(later)
 }
 
-/// Returns the order of two rows by the key of their table.
+/// Compares two rows by the key of their table.
 pub(crate) fn key_order(table: Table, a: &Row, b: &Row) -> Ordering
     ensures { result ≡ row_cmp table a.now b.now }
 {

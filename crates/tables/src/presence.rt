@@ -20,7 +20,7 @@ pub enum TablesPresent {
     Whole,
     /// All except the table of third clerks.
     WithoutThird,
-    /// As `WithoutThird`, but without the two tables from which a count resumes either.
+    /// Like `WithoutThird`, but also without the two tables from which a count resumes.
     WithoutCounts,
     /// Any others, or none.
     Other,

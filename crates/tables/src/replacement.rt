@@ -17,7 +17,7 @@ use crate::texts::{set_text, update_text};
 use sqlite::{Alter, Transaction};
 use sqlite_value::value::ValueRef;
 
-/// Updates the row with the same key to the given values (one value per column, of the column's kind) in a table whose
+/// Updates the row with the same key to the given values, one per column and of the column's kind, in a table whose
 /// rows change. If there is no such row, the table is unchanged. After a fault, the last commit is unchanged.
 pub fn replace<S: Alter>(
     tx: &mut Transaction<'_, S>,

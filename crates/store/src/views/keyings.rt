@@ -45,8 +45,8 @@ fn are_papers_of(batch: u32, round: u32, clerk: u32, papers: &[KeyedPaper]) -> b
     })
 }
 
-/// Returns whether the papers are those of the given clerk's keying of a batch in a round: each paper from 1 to `size`
-/// once, in order.
+/// Returns whether the papers are those of the given clerk's keying of a batch in a round: each paper from 1 to `size`,
+/// exactly once and in order.
 fn is_keying(batch: u32, round: u32, clerk: u32, size: u32, papers: &[KeyedPaper]) -> bool
     ensures { result ≡ (is_whole size (map keyed_entry papers.now) && list_all (λ k. is_paper_of batch round clerk (keyed_entry k)) papers.now) }
 {
@@ -65,7 +65,7 @@ impl<S: Alter> Store<S> {
     }
 
     /// Returns the rowid of the first paper of a keying, if that paper exists. Neither the state nor any clause
-    /// determines the rowid: the rows that are read there show whether they are the keying.
+    /// determines the rowid: the rows read from there show whether they are the keying.
     fn find_first(&mut self, batch: u32, round: u32, clerk: u32) -> Result<Option<i64>, Fault>
         ensures { Loads S.Store self.old self.new result (λ s found. ⊤) }
     {
