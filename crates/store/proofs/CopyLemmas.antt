@@ -59,7 +59,7 @@ whole_put rows Third = rows_alone third_entry row_of_third rows.thirds.items
 
 -- ---- the state of a copy
 
--- the tables of a state with the tabulation of its counts are the tables of the state
+-- a state's tables with the tabulation of its counts are the tables of that state
 pub are_tables : (s : OfficeState) (t : TabulationEntries) → IsTabulationOf t s → tables_with s t ≡ tables_of s
 unfolding tables_of
 are_tables s t is = ap (tables_with s) is

@@ -1,4 +1,4 @@
--- The entries read, table by table.
+-- The entries that are read, table by table.
 use Rattle.std.proofs.Common.{List, [], map, refl, sym, subst, true≢false, ◌≡◌, true, arith, Ordering}
 use Rattle.std.specs.List.Sorted.{IsStrictlySortedBy}
 use Rattle.sqlite.specs.Order.{Row}
@@ -30,7 +30,7 @@ unfolding IsStrictlySortedBy
 none_rises by = tt
 
 module _ (wards : List WardValue) (candidates : List CandidateValue) (papers : Papers) (lots : List DrawnLot) (receipts : List ReceiptValue) where
-  -- the maps of the values read, without third clerks
+  -- the maps of the values that were read, without third clerks
   abbrev maps : OfficeState
   maps = record {
     wards = map ward_entry wards;
@@ -97,7 +97,7 @@ lists_counted db s t bundles figures first placed shown Vote has low = subst (Li
 lists_counted db s t bundles figures first placed shown Third has low = absurd (omega (arith, low))
 lists_counted db s t bundles figures first placed shown Office has low = absurd (true≢false (sym has))
 
--- maps with the third clerks read
+-- those maps with the third clerks that were read
 abbrev with_thirds : List ThirdClerk → OfficeState → OfficeState
 with_thirds thirds s = record s { thirds = map third_entry thirds }
 

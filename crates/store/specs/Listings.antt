@@ -62,7 +62,7 @@ TellsStrange n db OlderSchema = ⊥
 abbrev pub ListsFirst : ℕ → Database → OfficeState → TabulationEntries → Type 0
 ListsFirst n db s t = (u : Table) → has_entries u ≡ true → place_of u < n → ListsEntries u db (tables_with s t u)
 
--- all rows of the batches, of the keyed papers and of the judged papers
+-- all rows for batches, keyed papers and judged papers
 pub record ListsPapers (db : Database) (papers : Papers) : Type 0 where
   pub batches : ListsEntries Batch db (map (λ (b : BatchValue). row_of_batch (batch_entry b)) papers.batches.items)
   pub keyings : ListsEntries Keying db (map (λ (k : KeyedPaper). row_of_keyed (keyed_entry k)) papers.keyings.items)

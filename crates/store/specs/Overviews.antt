@@ -195,7 +195,7 @@ has_alike k keying = list_any (λ (j : KeyedEntry). (j.paper == k.paper) && byte
 abbrev pub differs_in : List (List KeyedEntry) → KeyedEntry → Bool
 differs_in others k = list_any (λ keying. not (has_alike k keying)) others
 
--- the numbers of the papers of a keying that another keying has with different marks
+-- the numbers of the papers in a keying that another keying has with different marks
 abbrev pub differing_among : List (List KeyedEntry) → List KeyedEntry → List ℕ
 differing_among others keying = map (λ (k : KeyedEntry). k.paper) (filter (differs_in others) keying)
 

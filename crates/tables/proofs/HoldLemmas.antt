@@ -134,7 +134,7 @@ no_wrong : (IsRow : Row → Type 0) (rows : List Row) → HasInvalidRow IsRow ro
 no_wrong IsRow rows other held all same =
     other.2 (all_has IsRow held (get_or rows other.0 []) all (permuted_has (get_or rows other.0 []) rows held (IsPermutation-sym _ _ same) (has_at rows other.0 [] other.1)))
 
--- rows with a repeated key aren't, in any order, a list in ascending key order
+-- rows with a repeated key don't form, in any order, a list in ascending key order
 no_repeat : (t : Table) (rows : List Row) → IsSorted (row_cmp t) rows → FailsToRise t rows → (held : List Row) → IsStrictlySortedBy (row_cmp t) held → IsPermutation held rows → ⊥
 no_repeat t rows sorted fails held rise same =
     let apart = IsDistinct-IsPermutation (eq_by_cmp (row_cmp t)) (eq_by_cmp_equiv (row_total t)).symm held rows same (IsDistinct-from_sorted (row_cmp t) held rise) in

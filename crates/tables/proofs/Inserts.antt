@@ -41,7 +41,7 @@ module _ (rest : List Definition) (others : List Index) (views : List View) wher
   abbrev schema : Schema
   schema = schema_from 11 rest others views
 
-  -- the conditions on the INSERT of a table
+  -- the conditions on a table's INSERT
   pub record InsertsRow (t : Table) : Type 0 where
     pub place : slice_get schema.tables (place_of t) ≡ Some (definition t)
     pub is : command_of (understood schema (insert_text t)) ≡ Insert (place_of t) (Values (inserted t) (width_of t))

@@ -41,7 +41,7 @@ use Rattle.tables.proofs.WentLemmas.{went, same_value}
 abbrev before : Table → Schema
 before t = schema_from (place_of t) [] [] []
 
--- the conditions on the CREATE TABLE of a table
+-- the conditions on a table's CREATE TABLE
 record MakesTable (t : Table) : Type 0 where
   is : command_of (understood (before t) (create_text t)) ≡ CreateTable
   plain : IsPlain (understood (before t) (create_text t))

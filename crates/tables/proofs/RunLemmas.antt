@@ -135,7 +135,7 @@ module _ (t : Table) (low high : ℤ) (c : Contents) (s : State) (rests : Rests 
   shown_themselves : map (at (column_places t)) rows ≡ rows
   shown_themselves = mapped_same (at (column_places t)) (λ r. r) rows (λ r h. itself t c s rests r (shown_in_table r h)) ∙ mapped_itself rows
 
-  -- the rows of the entries read are those of the run
+  -- the rows of the entries that were read are those of the run
   pub run_read : (found : List Row) → map (at (column_places t)) rows ≡ found → IsPermutation (run_of t low high s.now.trees) found
   run_read found is = subst (IsPermutation (run_of t low high s.now.trees)) (sym shown_themselves ∙ is) same_run
 

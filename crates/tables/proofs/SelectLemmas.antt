@@ -34,7 +34,7 @@ drop_none : {X : Type 0} (xs : List X) → drop 0 xs ≡ xs
 drop_none [] = refl
 drop_none (x ∷ xs) = refl
 
--- the query that `sqlite` parses from the text
+-- the query that `sqlite` parses from a text
 abbrev pub query : ℕ → List Term → List Term → List (Term × Key) → Query
 query tree tests project order = record {
   from = inner tree end;

@@ -28,7 +28,7 @@ Definition = sqlite_table.Table
 
 -- ---- differences between the tables
 
--- a column as it is defined in the text of its table: whole numbers, texts or bytes, and the range it is restricted to
+-- a column as defined in the text of its table: whole numbers, texts or bytes, and the range it is restricted to
 pub record Field : Type 0 where
   pub name : List ℕ
   pub kind : Kind
