@@ -236,7 +236,7 @@ fn is_reached_after(
     Ok(limit.is_reached(now))
 }
 
-/// A random source that returns given bytes in turn, and then fails.
+/// A random source that returns its bytes in turn, and then fails.
 #[derive(Drop)]
 struct Known<'a> {
     bytes: &'a [u8],

@@ -121,7 +121,7 @@ row_found row key compared alike apart xs up =
     equal Equal is = refl
     equal _ is = absurd cc
 
--- if all rows can be read, so can the row of the entry that was found
+-- if all rows can be read, so can the row of the entry found
 pub found_fits : {X : Type 0} (R : Row → Type 0) (row : X → Row) (q : X → Bool) (xs : List X) → AllByRecursion R (map row xs) → IfSome (option_map row (find q xs)) R
 found_fits R row q [] all = tt
 found_fits {X} R row q (x ∷ xs) all = elim (q x) as (λ b. IfSome (option_map row (cond b (Some x) (find q xs))) R) [ true ↦ all.0 | false ↦ found_fits R row q xs all.1 ]

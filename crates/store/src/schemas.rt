@@ -235,7 +235,7 @@ fn has_office_schema<S: Alter>(alloc: Global, conn: &Connection<S>) -> bool
     }
 }
 
-/// Returns whether a connection is outside a transaction, and its database has the tables of an office and no others.
+/// Returns whether a connection is outside a transaction and its database has the tables of an office and no others.
 pub(crate) fn may_be_remembered<S: Alter>(alloc: Global, conn: &Connection<S>) -> bool
     ensures schema { result ≡ true → IsOfficeSchema (state S.Store conn.now).now.schema }
     ensures rests { result ≡ true → IsTrue (state S.Store conn.now).is_open → RestsAt (state S.Store conn.now).now (state S.Store conn.now) }

@@ -140,8 +140,8 @@ impl<S: Alter> Store<S> {
         }
     }
 
-    /// Returns the next step in a ward that was found with its count. If its papers are still being keyed, they are
-    /// read to find that step.
+    /// Returns the next step in the given ward, which was found with its count. If the ward's papers are still being
+    /// keyed, they are read to find that step.
     pub(crate) fn step_in(&mut self, found: CountedWard) -> Result<NextStep, Fault>
         requires { IsOpen S.Store self.old }
         ensures { Loads S.Store self.old self.new result (λ s step. (w : WardEntry) → IsCountedWard (election_of s w) found → step_entry step ≡ next_of s w) }

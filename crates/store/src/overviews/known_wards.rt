@@ -200,7 +200,7 @@ impl<S: Alter> Store<S> {
         Ok(found)
     }
 
-    /// Returns the next step in a ward that was found with its count, from the cached batches.
+    /// Returns the next step in the given ward, which was found with its count, from the cached batches.
     fn step_by(&mut self, known: &[CachedBatch], found: CountedWard) -> Result<NextStep, Fault>
         requires { IsOpen S.Store self.old }
         ensures { Loads S.Store self.old self.new result (λ s step. (w : WardEntry) → IsCountedWard (election_of s w) found → KnowsAll s known.now → step_entry step ≡ next_of s w) }

@@ -76,7 +76,7 @@ fn counted(alloc: Global, found: Option<CountedWard>) -> CommandInput
 }
 
 impl<S: Alter> Store<S> {
-    /// Returns the input of the command that seals a ward: the ward, and the poll of its papers.
+    /// Returns the input for the command that seals a ward: the ward, and the poll of its papers.
     pub(crate) fn seal_part(&mut self, ward: u32) -> Result<CommandInput, Fault>
         ensures { Loads S.Store self.old self.new result (λ s part. input_entries part ≡ record empty_input { ward = ward_at s ward; poll = poll_for s (ward_at s ward) }) }
     {
@@ -166,7 +166,7 @@ impl<S: Alter> Store<S> {
         Ok(counted(self.allocator(), found))
     }
 
-    /// Returns the input of the command about a lot: the progress of the ward's count, and the candidate.
+    /// Returns the input for the command about a lot: the progress of the ward's count, and the candidate.
     pub(crate) fn lot_part(&mut self, ward: u32, candidate: u32) -> Result<CommandInput, Fault>
         ensures { Loads S.Store self.old self.new result
             (λ s part. input_entries part ≡ record empty_input {

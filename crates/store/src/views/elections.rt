@@ -133,7 +133,7 @@ impl<S: Alter> Store<S> {
         Ok(ballots)
     }
 
-    /// Returns the election in a ward that was found with its candidates.
+    /// Returns the election in the given ward, which was found with its candidates.
     pub(crate) fn ward_election(&mut self, contest: CountedWard) -> Result<Election, Fault>
         ensures { Loads S.Store self.old self.new result (λ s found. WasFound s contest → IsElection found (election_in s contest)) }
     {
