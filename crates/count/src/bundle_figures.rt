@@ -36,7 +36,7 @@ fn worth(bundles: &Bundles, places: &[Placed]) -> u64
     sum
 }
 
-/// Adds the worth of papers at one place to the sum of their holder.
+/// Adds the worth of papers at one place to their holder's sum.
 fn add_worth(sums: &mut [u64; HOLDERS], at: &Placed, papers: u32)
     requires holder { at.now.holder ≤ max_candidates }
     requires fits { slice_index sums.old at.now.holder + papers * at.now.value ≤ max_units }
@@ -64,7 +64,8 @@ fn sums(bundles: &Bundles, places: &[Placed]) -> [u64; HOLDERS]
     sums
 }
 
-/// Returns the votes of a candidate, given the worth of each holder's papers: exactly the quota once the surplus is transferred.
+/// Returns the votes of the given candidate, given the worth of each holder's papers: exactly the quota once the surplus is
+/// transferred.
 fn votes_from(
     quota: Votes,
     stages: &[Stage],

@@ -11,7 +11,7 @@ use crate::bundles::Bundles;
 use paper::{Columns, Prefs, Standing};
 use votes::{MAX_PAPERS, MAX_SEATS};
 
-/// Returns whether all preferences on a paper are for continuing candidates.
+/// Returns whether all preferences on the paper are for continuing candidates.
 fn is_for(standing: &Standing, preferences: &[u8]) -> bool
     ensures { IsTrue result ↔ AllByRecursion (λ c. is_continuing standing.now c ≡ true) preferences.now }
 {
@@ -37,7 +37,7 @@ fn are_for_candidates(candidates: &Columns, papers: &[Prefs]) -> bool
     true
 }
 
-/// Returns whether all preferences on all papers of some bundles are for candidates. Checks each list once.
+/// Returns whether all preferences on all papers of the given bundles are for candidates. Checks each list once.
 fn lists_are_for_candidates(candidates: &Columns, bundles: &Bundles) -> bool
     ensures { IsTrue result ↔ AreForCandidates candidates.now (papers_of bundles.now) }
 {

@@ -102,7 +102,7 @@ fn give<'a>(
     Ok(())
 }
 
-/// Passes papers on to their next available preferences, at a value.
+/// Passes papers on to their next available preferences, at the given value.
 #[tactic(auto, using(crate::proofs::ParcelTotals::known_holders))]
 fn pass_papers<'a>(
     alloc: Global,
@@ -162,7 +162,7 @@ fn pass_parcels<'a>(
     Ok(())
 }
 
-/// Returns the holdings of a candidate's papers after they are passed on.
+/// Returns the holdings of the given candidate's papers after they are passed on.
 pub fn pass_on<'a>(
     alloc: Global,
     holdings: &[Holding<'a>],

@@ -208,7 +208,7 @@ end_finished (Some c) (Lot n kind tied) h = not_finished (list_any (nat_eq c) ti
     not_finished true n h = cc
     not_finished false n h = cc
 
--- the same for a count that ended because it was finished
+-- the same holds for a count that ended because it was finished
 pub finished-filled : (contest : Contest) (handed : History → Stage → Option ℕ) (lots : List (ℕ × ℕ)) (stages : History) → IsContest contest → IsRightBy contest handed stages →
     end_after contest lots stages ≡ Some has_finished → FillsSeats contest stages
 finished-filled contest handed lots stages fair right h = finished-elected contest handed stages fair right (end_finished (lot_for lots (length stages + 1)) (due_after contest stages) h)

@@ -56,7 +56,7 @@ pub not_reached : (contest : Contest) (stages : History) (c : ℕ) (b : Bool) �
 not_reached contest stages c true e h = let k = reached-elected contest stages c e in cc
 not_reached contest stages c false e h = refl
 
--- it removes one candidate from the race
+-- such an exclusion removes one candidate from the race
 last_race : (contest : Contest) (s s' : Stage) (before : History) (d : ℕ) → IsContest contest → In d contest.candidates → is_elected contest (s' ∷ before) d ≡ false →
     is_excluded (s' ∷ before) d ≡ false →
     Tells contest before s' → Tells contest (s' ∷ before) s → s.action ≡ ExcludeLast d → length (in_race contest (s ∷ s' ∷ before)) + 1 ≤ length (in_race contest (s' ∷ before))
@@ -97,7 +97,7 @@ last_after contest handed s s' before d fair right (inr on) is =
     let some = eqb-false _ _ left in
     eq-eqb _ _ (omega (arith, fewer, others, chosen, standing, enough, some, race-parts contest stages, race-parts contest (s ∷ stages), few-reach contest handed stages fair right.0))
 
--- after it no vacancy remains
+-- after the last exclusion no vacancy remains
 pub last-fills : (contest : Contest) (handed : History → Stage → Option ℕ) (s : Stage) (before : History) (d : ℕ) → IsContest contest → IsRightBy contest handed (s ∷ before) →
     s.action ≡ ExcludeLast d → vacancies_after contest (s ∷ before) ≡ 0
 last-fills contest handed s [] d fair right is = let e = sym (step-first contest (handed [] s) s.action right.1.was_due) ∙ is in cc
@@ -148,7 +148,7 @@ either_way : (a b : Bool) → (a || b) ≡ true → (a ≡ true) ⊎ (b ≡ true
 either_way true b h = inl refl
 either_way false b h = inr h
 
--- a surplus is that of a candidate who hasn't been excluded, and an exclusion is that of one whose surplus hasn't been transferred
+-- a surplus belongs to a candidate who hasn't been excluded, and an exclusion to one whose surplus hasn't been transferred
 apart_step : (contest : Contest) (handed : History → Stage → Option ℕ) (s s' : Stage) (before : History) (c : ℕ) → IsContest contest → AreRankings contest.papers →
     IsRightBy contest handed (s ∷ s' ∷ before) → In c contest.candidates →
     IsSurplus contest (s' ∷ before) s.action ⊎ IsExclusion contest (s' ∷ before) s.action → (is_transferred (s' ∷ before) c ≡ true → is_excluded (s' ∷ before) c ≡ true → ⊥) →
@@ -194,7 +194,7 @@ apart_choice true false x l k n apart h = omega (arith, h)
 apart_choice false true x l k n apart h = omega (arith, h)
 apart_choice false false x l k n apart h = omega (arith, h)
 
--- two tests of which no member passes both
+-- two tests such that no member passes both
 pub filter-apart : (p q : ℕ → Bool) (xs : List ℕ) → ((c : ℕ) → In c xs → p c ≡ true → q c ≡ true → ⊥) → length (filter p xs) + length (filter q xs) ≤ length xs
 filter-apart p q [] apart = omega arith
 filter-apart p q (x ∷ xs) apart =

@@ -129,7 +129,7 @@ values-conserved contest handed s (s' ∷ before) fair right =
           (step-is contest s' before (handed (s' ∷ before) s) s.action right.1.was_due),
     )
 
--- the same if the newest stage has only its action
+-- the same holds if the newest stage has only its action
 pub values-conserved-next : (contest : Contest) (handed : History → Stage → Option ℕ) (s : Stage) (before : History) → IsContest contest → IsRightBy contest handed before →
     IsDue contest before s.action →
     all_values contest (s ∷ before) + quotas_left contest (s ∷ before) + lost_after contest (s ∷ before) ≡ one_vote * length contest.papers

@@ -9,11 +9,11 @@ use Rattle.count.specs.declared.stages.Stage.{Stage}
 use Rattle.count.specs.declared.stages.Action.{Action}
 use Rattle.count.specs.declared.stages.Action.TheVariants.{First, Surplus, Exclude, ExcludeLast}
 
--- a number of equal papers
+-- a given number of equal papers
 abbrev times : ℕ → List ℕ → List (List ℕ)
 times n paper = replicate n paper
 
--- a stage whose other numbers have no votes
+-- a stage at which all other numbers have no votes
 abbrev stage : Action → List ℕ → List ℕ → ℕ → ℕ → Stage
 stage action votes elected non_transferable lost =
     record { action = action; votes = votes ++ replicate (30 - length votes) 0; elected = elected; non_transferable = non_transferable; lost = lost }

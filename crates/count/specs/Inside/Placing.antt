@@ -21,7 +21,7 @@ use Rattle.count.specs.declared.stages.Action.TheVariants.{First, Surplus, Exclu
 use Rattle.count.specs.declared.stages.Stage.{Stage}
 use Rattle.count.specs.declared.terms.Terms.{Terms}
 
--- the contest with these terms and the papers that the bundles represent
+-- the contest with the given terms and the papers that the bundles represent
 abbrev pub contest_on : Terms → List Bundle → Contest
 contest_on terms bundles = contest_of terms (papers_of bundles)
 

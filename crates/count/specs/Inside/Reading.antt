@@ -11,7 +11,7 @@ use Rattle.count.specs.declared.stages.Action.TheVariants.{First, Surplus, Exclu
 abbrev pub is_elected_mark : ℕ → Bool
 is_elected_mark mark = mark == elected || mark == surplus_now
 
--- the candidates that are marked as elected
+-- the candidates who are marked as elected
 abbrev pub elected_shown : (ℕ → Figure) → List ℕ → List ℕ
 elected_shown f candidates = filter (λ c. is_elected_mark (f c).mark) candidates
 
