@@ -10,7 +10,7 @@ use Rattle.checker.specs.Ranks.{named_in, without}
 use Rattle.checker.specs.declared.problem.BallotsFlaw.{BallotsFlaw}
 use Rattle.checker.specs.declared.problem.BallotsFlaw.TheVariants.{NoPapers, NoPreference, NoSeat, NotNumber, Size, TooManyPapers}
 
--- the content of these parts: the highest candidate number, the seats, the numbers of withdrawn candidates, and the papers in bundles
+-- the content of the parts of a file: the highest candidate number, the seats, the numbers of withdrawn candidates, and the papers in bundles
 pub record PapersEntry : Type 0 where
   pub highest : ℕ
   pub seats : ℕ

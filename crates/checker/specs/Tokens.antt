@@ -13,7 +13,7 @@ Text = List ℕ
 abbrev pub is_blank : ℕ → Bool
 is_blank byte = byte == 32 || (byte == 9 || byte == 13)
 
--- Whether a byte separates two pieces. A line feed separates lines, and blanks separate words; in our own comments, colons and commas do so too. An
+-- Whether a byte separates two pieces. A line feed separates lines, and blanks separate words; in our own comments, so do colons and commas. An
 -- equals sign separates the candidates who share a rank, and a colon separates the stage of a lot from its candidate.
 abbrev pub parts : Separator → ℕ → Bool
 parts LineFeed byte = byte == 10

@@ -30,7 +30,7 @@ pub enum CountText<'a> {
     Sheet,
     /// The declaration of a finished count; empty until then.
     Declaration,
-    /// The page for a browser, with this title; it shows the ward as declared if its count is finished.
+    /// The page for a browser, with the given title; it shows the ward as declared if its count is finished.
     Page(&'a str),
     /// The table of the stages for a spreadsheet.
     Table,
@@ -50,7 +50,7 @@ pub struct CountedText {
 /// The reason why ballots aren't counted.
 #[derive(Clone, Copy)]
 pub enum CountProblem {
-    /// A second lot is given for this stage.
+    /// A second lot is given for the given stage.
     LotTwice { stage: u8 },
     /// The ballots or their lots have a problem, or an allocation failed.
     Ballots(Problem),

@@ -20,7 +20,7 @@ fn is_lot(due: &Due) -> bool
     }
 }
 
-/// Returns whether a lot is drawn for a stage, given what is due before the first stages.
+/// Returns whether a lot is drawn for the given stage, given what is due before the first stages.
 fn is_drawn_by(dues: &[Due], stage: u8) -> bool
     ensures { result ≡ is_drawn_by dues.now stage }
 {

@@ -38,7 +38,7 @@ impl Model for RankedPaper {
     ghost invariant = { λ a. IsRanking a.preferences.items };
 }
 
-/// Returns whether a field names the candidate with this number and this name.
+/// Returns whether a field names the candidate with the given number and name.
 fn is_of(field: &[u8], c: u8, name: &str) -> bool
     ensures { result ≡ is_of field.now c name.now }
 {
@@ -75,7 +75,7 @@ fn candidate_named(names: &[String], field: &[u8]) -> Result<u8, BallotsFlaw>
     }
 }
 
-/// Returns whether a candidate is in a list.
+/// Returns whether a candidate is in the list.
 fn is_among(c: u8, list: &[u8]) -> bool
     ensures { result ≡ list_any (λ d. d == c) list.now }
 {

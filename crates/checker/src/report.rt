@@ -1,4 +1,4 @@
-//! The outcome of the program's arguments, as text and exit status.
+//! The outcome of running the program, as text and exit status.
 
 ghost use Rattle.std.specs.Prelude.{◌≡◌, IfOk, option_map, string_bytes};
 ghost use Rattle.checker.specs.Pages.{page_told};
@@ -29,7 +29,7 @@ const NOT_CHECKED: u8 = 2;
 /// A file can't be read, an allocation fails, or an output fails.
 pub(crate) const FAILED: u8 = 3;
 
-/// The outcome of the program's arguments.
+/// The outcome of running the program.
 #[derive(Drop)]
 pub enum Report {
     /// Help is requested.
@@ -42,21 +42,21 @@ pub enum Report {
     Misread(WordsFlaw),
     /// An argument isn't UTF-8.
     NotUtf8,
-    /// The file at this path can't be read, for this reason.
+    /// The file at the given path can't be read, for the given reason.
     NotRead {
         path: String,
         why: String,
     },
-    /// The check had this outcome, and the text has this invisible difference, if any.
+    /// The check had the given outcome, and the text has the given invisible difference, if any.
     Checked {
         checked: Checked,
         hint: Option<Hint>,
     },
-    /// The check wasn't possible because of this problem.
+    /// The check wasn't possible because of the given problem.
     Hindered(Problem),
     /// The ballots were counted.
     Counted(CountedText),
-    /// The ballots weren't counted, for this reason.
+    /// The ballots weren't counted, for the given reason.
     NotCounted(CountProblem),
 }
 

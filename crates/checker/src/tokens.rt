@@ -34,14 +34,14 @@ pub(crate) enum LineKind {
     Content,
 }
 
-/// Returns whether a byte is a space, a tab, or a carriage return.
+/// Returns whether the byte is a space, a tab, or a carriage return.
 pub(crate) fn is_blank(byte: u8) -> bool
     ensures { result ≡ is_blank byte }
 {
     byte == b' ' || (byte == b'\t' || byte == b'\r')
 }
 
-/// Returns whether a byte separates two pieces.
+/// Returns whether the byte separates two pieces.
 fn parts(separator: Separator, byte: u8) -> bool
     ensures { result ≡ parts separator byte }
 {
@@ -54,7 +54,7 @@ fn parts(separator: Separator, byte: u8) -> bool
     }
 }
 
-/// Appends one piece; between two blanks there is no word.
+/// Appends one piece; an empty piece between two blanks isn't a word.
 fn with_piece<'a>(
     mut pieces: Vec<&'a [u8]>,
     separator: Separator,
