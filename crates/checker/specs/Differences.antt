@@ -39,8 +39,8 @@ pub record DiffersAt (text should : Text) (line : ℕ) (should_be : Text) : Type
   pub at : line ≡ same_lines text should + 1
   pub is : should_be ≡ first_line (behind_lines (same_lines text should) should)
 
--- the result of comparing a text with a sheet and a declaration: it is one of them; or it is neither, and the given line is the first that differs from the more similar of the
--- two
+-- the result of comparing a text with a sheet and a declaration: the text is one of the two; or it is neither, and the given line is the first that differs from the more
+-- similar one
 abbrev pub IsComparison : Text → Text → Text → Checked → Type 0
 IsComparison text sheet declaration checked.Sheet = text ≡ sheet
 IsComparison text sheet declaration checked.Declaration = text ≡ declaration

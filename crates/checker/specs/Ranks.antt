@@ -42,7 +42,7 @@ with_each highest ranks (word ∷ words) = and_then (with_candidate highest rank
 abbrev pub sharers : Text → List Text
 sharers word = pieces_of Equals [] word
 
--- the number of candidates who haven't withdrawn, given the number before the last candidate
+-- the number of candidates who haven't withdrawn, once c is included
 abbrev pub standing_with : List ℕ → ℕ → ℕ → ℕ
 standing_with withdrawn standing c = if list_any (nat_eq c) withdrawn then standing else standing + 1
 

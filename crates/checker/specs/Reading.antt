@@ -105,7 +105,7 @@ with_line_of Content reading line = with_content_at reading.place reading line
 abbrev pub with_line : ReaderEntry → Text → Result ReaderEntry BallotsFlaw
 with_line reading line = with_line_of (kind_of line) reading line
 
--- the flaw of a file that ends when a line of this kind should follow
+-- the flaw of a file that ends when a line of the given kind should follow
 abbrev pub at_end : NextLine → ReaderEntry → Result ReaderEntry BallotsFlaw
 at_end place.Size reading = Err NoSize
 at_end place.Withdrawn reading = Err NoEnd

@@ -187,7 +187,7 @@ nothing_recorded ward = record {
   rejected = 0 ∷ 0 ∷ 0 ∷ 0 ∷ 0 ∷ [];
 }
 
--- the content that would have resulted if the ward's ballots, with this name, had been read
+-- the content that would have resulted if the ward's ballots, with the given name, had been read
 abbrev pub as_read : Text → RecordsEntry → ReaderEntry
 as_read name entry = record {
   place = End;

@@ -27,7 +27,7 @@ abbrev pub word : Text → List Text
 word [] = []
 word (byte ∷ bytes) = (byte ∷ bytes) ∷ []
 
--- a complete piece: a line, one of the candidates who share a rank, or a part of a lot may be empty, but between two blanks there is no word
+-- a complete piece: a line, one of the candidates who share a rank, or a part of a lot may be empty, but an empty piece between two blanks isn't a word
 abbrev pub piece : Separator → Text → List Text
 piece LineFeed text = text ∷ []
 piece Blank text = word text

@@ -12,8 +12,8 @@ pub enum Checked {
     Sheet,
     /// The text is exactly the declaration that results from the ballots.
     Declaration,
-    /// The text differs: the first line that differs, counted from 1, and what it should be, including its line feed; empty if the
-    /// text should have ended.
+    /// The text differs. The first line that differs is `line`, counted from 1. `should_be` is that line as it should be,
+    /// including its line feed; empty if the text should have ended.
     Differs { line: u64, should_be: String },
 }
 

@@ -144,15 +144,15 @@ impl Error for BallotsFlaw {}
 /// The reason why a text can't be checked against ballots.
 #[derive(Clone, Copy, Debug)]
 pub enum Problem {
-    /// A line of the ballots, counted from 1, has the given flaw.
+    /// Line `line` of the ballots, counted from 1, has the flaw `flaw`.
     Line { line: u64, flaw: BallotsFlaw },
     /// There are papers, or rejected papers, but not more candidates than seats.
     NoContest,
-    /// The given candidates are tied at the given stage, and no lot is recorded.
+    /// The candidates in `among` are tied at stage `stage`, and no lot is recorded.
     LotNeeded { stage: u8, among: Columns },
-    /// The lot recorded for the given stage names none of the tied candidates.
+    /// The lot recorded for stage `stage` names none of the tied candidates.
     LotNotAmong { stage: u8 },
-    /// A lot is recorded for the given stage, but no lot is drawn there.
+    /// A lot is recorded for stage `stage`, but no lot is drawn there.
     LotNotNeeded { stage: u8 },
     /// An allocation failed.
     Memory,

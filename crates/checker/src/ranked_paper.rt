@@ -38,7 +38,7 @@ impl Model for RankedPaper {
     ghost invariant = { λ a. IsRanking a.preferences.items };
 }
 
-/// Returns whether a field names the candidate with the given number and name.
+/// Returns whether the field names the candidate with the given number and name.
 fn is_of(field: &[u8], c: u8, name: &str) -> bool
     ensures { result ≡ is_of field.now c name.now }
 {
@@ -75,7 +75,7 @@ fn candidate_named(names: &[String], field: &[u8]) -> Result<u8, BallotsFlaw>
     }
 }
 
-/// Returns whether a candidate is in the list.
+/// Returns whether the candidate is in the list.
 fn is_among(c: u8, list: &[u8]) -> bool
     ensures { result ≡ list_any (λ d. d == c) list.now }
 {
@@ -162,7 +162,7 @@ impl RankedPaper {
         }
     }
 
-    /// Returns whether a field has been read for each rank column.
+    /// Returns whether the field has been read for each rank column.
     pub(crate) fn is_complete(&self, ranks: u8) -> bool
         ensures { result ≡ (self.now.fields == ranks) }
     {

@@ -42,7 +42,7 @@ fn words_before_comment(
     Ok(Ok(pieces_of(alloc, Separator::Blank, before_comment(line))?))
 }
 
-/// Returns whether a line of numbers is the `0` that ends the papers.
+/// Returns whether the line of numbers is the `0` that ends the papers.
 fn is_end_line(words: &[&[u8]]) -> bool
     ensures { result ≡ is_end_line (map (λ w. w.now) words.now) }
 {
@@ -52,7 +52,7 @@ fn is_end_line(words: &[&[u8]]) -> bool
     }
 }
 
-/// Returns whether a line of numbers begins with a minus.
+/// Returns whether the line of numbers begins with a minus.
 fn is_withdrawn_line(words: &[&[u8]]) -> bool
     ensures { result ≡ is_withdrawn_line (map (λ w. w.now) words.now) }
 {

@@ -280,7 +280,7 @@ impl Records {
         }
     }
 
-    /// Returns the reader that would have resulted if the ward's ballots, with this name, had been read.
+    /// Returns the reader that would have resulted if the ward's ballots, with the given name, had been read.
     fn into_reader(self, alloc: Global, name: String) -> Reader
         ensures { reading_of result ≡ as_read (string_bytes name) (records_told self) }
     {

@@ -130,7 +130,7 @@ fn after_rank(field: &[u8]) -> &[u8]
     }
 }
 
-/// Returns whether a column is for the given rank.
+/// Returns whether the column is for the given rank.
 fn is_rank(rank: u8, field: &[u8]) -> bool
     ensures { result ≡ is_rank rank field.now }
 {

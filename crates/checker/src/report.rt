@@ -42,12 +42,12 @@ pub enum Report {
     Misread(WordsFlaw),
     /// An argument isn't UTF-8.
     NotUtf8,
-    /// The file at the given path can't be read, for the given reason.
+    /// The file at `path` can't be read; `why` is the reason.
     NotRead {
         path: String,
         why: String,
     },
-    /// The check had the given outcome, and the text has the given invisible difference, if any.
+    /// The check had the outcome `checked`, and the text has the invisible difference `hint`, if any.
     Checked {
         checked: Checked,
         hint: Option<Hint>,

@@ -97,7 +97,7 @@ rise-with_papers list n (b ∷ bs) rise = rise_at list n b bs (list_cmp list b.0
 pub bundles-with_papers : (list : List ℕ) (n : ℕ) (bs : List Bundle) → IsBundle (list, n) → AreBundles bs → AreBundles (with_papers bs list n)
 bundles-with_papers list n bs new all = record { rise = rise-with_papers list n bs all.rise; each = each-with_papers list n bs new all.each }
 
--- papers between others can be moved to the front
+-- papers in the middle can be moved to the front
 to_front : (xs ys zs : List (List ℕ)) → IsPermutation (xs ++ (ys ++ zs)) (ys ++ (xs ++ zs))
 to_front xs ys zs =
     subst (λ l. IsPermutation l (ys ++ (xs ++ zs))) (append_assoc xs ys zs)

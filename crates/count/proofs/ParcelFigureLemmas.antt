@@ -29,7 +29,7 @@ use Rattle.count.proofs.Law.QuotaLemmas.{values-conserved, values-conserved-next
 use Rattle.count.proofs.ChoiceLemmas.{eqb_swap, or_false}
 use Rattle.count.proofs.Law.CandidateSums.{one-within}
 
--- whichever holder a paper has, an action that passes on the papers of h leaves h none of the earlier ones
+-- whichever holder a paper has, an action that passes on the papers of h leaves h none of its earlier papers
 kept_value : (action : Action) (k h v : ℕ) (b t : Bool) → passes_on action h ≡ b → eqb k h ≡ t → let zero_ : ℕ = 0 in cond (passes_on action k) zero_ (cond t v 0) ≡ cond b zero_ (cond t v 0)
 kept_value action k h v b true e same = ap (λ c. cond c 0 v) (ap (passes_on action) (eqb-true k h same) ∙ e)
 kept_value action k h v b false e other = nothing (passes_on action k) b

@@ -23,7 +23,7 @@ use std::alloc::{AllocError, Global};
 use std::marker::Model;
 
 /// A count that stores equal papers as one bundle, with one holder and one value. This is sound because the rules depend on nothing
-/// in a paper but its preferences. The cost of a stage therefore depends on the number of bundles, not of papers.
+/// in a paper but its preferences. The cost of a stage therefore depends on the number of bundles, not on the number of papers.
 #[derive(Drop)]
 pub struct BundleBook<'a> {
     alloc: Global,

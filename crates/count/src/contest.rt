@@ -60,8 +60,8 @@ fn is_contested(candidates: &Columns, seats: u8) -> bool
     candidates.len() > usize::from(seats)
 }
 
-/// Returns whether a count can be held: 1 to `MAX_SEATS` seats, more candidates than seats, at most `MAX_PAPERS` papers, and
-/// preferences only for candidates. These limits are the office's own; within them the "Quota" and all votes are exact.
+/// Returns whether a count can be held: 1 to `MAX_SEATS` seats, more candidates than seats, at most `MAX_PAPERS` papers,
+/// and preferences only for candidates. These limits are the office's own; within them the "Quota" and all votes are exact.
 #[tactic(auto, using(crate::proofs::ContestLemmas::contests))]
 pub fn can_be_counted(candidates: &Columns, seats: u8, papers: &[Prefs]) -> bool
     ensures { IsTrue result ↔ IsContest (contest_for candidates.now seats papers.now) }

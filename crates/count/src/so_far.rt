@@ -26,9 +26,10 @@ fn advance_by<B: CountBook>(book: &mut B, lots: &[(u8, u8)]) -> Result<(), Alloc
 
 /// Counts a given number of stages, or as many as there are: a new book then has those stages of the count.
 ///
-/// A lot is a pair of a stage, counted from 1, and the candidate that it names; if two are for the same stage, the first counts.
-/// These stages are correct for the lots, and the only correct ones; the order of the papers makes no difference. `AllocError`
-/// if an allocation fails; the book then has the stages added so far, at most as many as requested, and they are correct.
+/// A lot is a pair of a stage, counted from 1, and the candidate that it names; if two are for the same stage, the first one is
+/// used. These stages are correct for the lots, and the only correct ones; the order of the papers makes no difference.
+/// `AllocError` if an allocation fails; the book then has the stages added so far, at most as many as requested, and they are
+/// correct.
 #[tactic(auto, using(crate::proofs::Law::CountLemmas::stages_counted), unfolding(crate::specs::Law::Count::stages_to))]
 pub fn count_to<B: CountBook>(
     book: &mut B,

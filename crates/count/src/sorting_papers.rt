@@ -44,7 +44,7 @@ fn empty_holdings<'a>(alloc: Global) -> Result<Vec<Holding<'a>>, AllocError>
     Ok(holdings)
 }
 
-/// Starts a parcel with one paper.
+/// Starts a parcel with the given paper.
 fn start_parcel<'a>(
     alloc: Global,
     parcels: &mut Vec<Parcel<'a>>,
@@ -82,7 +82,7 @@ fn add_paper<'a>(
     Ok(())
 }
 
-/// Credits a paper to the candidate of its first preference, or to no one.
+/// Credits a paper to the candidate who is its first preference, or to no one.
 fn give<'a>(
     alloc: Global,
     holdings: &mut Vec<Holding<'a>>,

@@ -34,11 +34,11 @@ pub enum Ending {
     Elected(u64),
     /// The candidate is excluded at this stage.
     Excluded(u64),
-    /// The candidate is neither elected nor excluded up to this stage, the last one.
+    /// The candidate is neither elected nor excluded by this stage, the last one.
     Neither(u64),
 }
 
-/// Returns the maximum of some votes and another value.
+/// Returns the maximum of the given votes and another value.
 fn greatest_of(most: u64, votes: &[Votes]) -> u64
     ensures { result ≡ greatest most votes.now }
 {
@@ -51,7 +51,7 @@ fn greatest_of(most: u64, votes: &[Votes]) -> u64
     top
 }
 
-/// Returns the maximum of the votes at some stages and another value.
+/// Returns the maximum of the votes at the given stages and another value.
 fn greatest_of_stages(most: u64, stages: &[Stage]) -> u64
     ensures { result ≡ greatest_at most stages.now }
 {

@@ -100,7 +100,7 @@ pub fn write_elected_items<W: Sink>(
     }
 }
 
-/// Returns the number of seats that remain after some stages.
+/// Returns the number of seats that remain after the given stages.
 fn seats_left(seats: u8, stages: &[Stage]) -> usize
     ensures { result ≡ left_of seats stages.now }
 {

@@ -32,7 +32,7 @@ fn standing_word(fate: Fate) -> &'static str
 /// The subject of a row of the table.
 #[derive(Clone, Copy)]
 enum Line {
-    /// The votes of the candidate with this number.
+    /// The votes of the candidate with the given number.
     Candidate(u8),
     /// The running total of the non-transferable votes.
     NonTransferable,
@@ -52,7 +52,7 @@ impl Line {
         }
     }
 
-    /// Returns the value of the line at the last of some stages; 0 before the first.
+    /// Returns the value of the line at the last of the given stages; 0 before the first.
     fn value_before(self, earlier: &[Stage]) -> Votes
         ensures { result ≡ value_before_of self earlier.now }
     {
@@ -168,7 +168,7 @@ fn head_row(alloc: Global, stages: &[Stage]) -> Result<Vec<String>, AllocError>
     Ok(row)
 }
 
-/// Returns whether a spreadsheet reads a cell with this first byte as a formula.
+/// Returns whether a spreadsheet reads a cell with the given first byte as a formula.
 fn begins_formula(byte: u8) -> bool
     ensures { result ≡ begins_formula_of byte }
 {

@@ -1,4 +1,4 @@
--- The texts of a small ward, by hand: two papers, a withdrawn number, a name with quotation marks, and a lot.
+-- The texts of a small ward, written by hand: two papers, a withdrawn number, a name with quotation marks, and a lot.
 use Rattle.std.proofs.Common.{◌++◌, [], ◌∷◌, refl}
 use Rattle.std.specs.Fmt.{digits}
 use Rattle.std.specs.List.Sorted.{IsStrictlySortedBy}

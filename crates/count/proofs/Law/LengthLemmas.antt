@@ -1,4 +1,4 @@
--- A count has at most one more stage than candidates.
+-- A count has at most one stage per candidate, plus one.
 use Rattle.std.proofs.Common.{◌≡◌, ℕ, ◌+◌, ◌-◌, ◌≤◌, ◌==◌, ◌||◌, ◌⊎◌, inl, inr, Bool, true, false, not, cond, eqb, nat_eq, nat_le, List, [], ◌∷◌, length, Option, refl, sym, ap, ◌∙◌, arith}
 use Rattle.std.specs.List.{list_any, filter, sum_by}
 use Rattle.std.proofs.lemmas.Bool.{eqb-true, eqb-false, eq-eqb}
@@ -202,7 +202,7 @@ filter-apart p q (x ∷ xs) apart =
     (filter-apart p q xs (λ c k. apart c (or_later (nat_eq c x) (list_any (nat_eq c) xs) k))) in
     omega (arith, one)
 
--- A count has at most as many stages as candidates, plus one.
+-- A count has at most one stage per candidate, plus one.
 pub stages-few : (contest : Contest) (handed : History → Stage → Option ℕ) (stages : History) → IsContest contest → AreRankings contest.papers → IsRightBy contest handed stages →
     length stages ≤ length contest.candidates + 1
 unfolding acted

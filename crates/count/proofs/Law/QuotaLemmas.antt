@@ -77,7 +77,7 @@ left_choice : (a t : Bool) (q : ℕ) → (a ≡ true → t ≡ false) → cond (
 left_choice true t q h = let e = ap (λ b. cond b q 0) (h refl) in omega (arith, e)
 left_choice false t q h = omega arith
 
--- a surplus leaves one more quota
+-- the transfer of a surplus leaves another quota
 pub quotas_more : (contest : Contest) (s : Stage) (before : History) (d : ℕ) → IsContest contest → s.action ≡ Surplus d → In d contest.candidates → is_transferred before d ≡ false →
     quotas_left contest (s ∷ before) ≡ contest.quota + quotas_left contest before
 quotas_more contest s before d fair is is_candidate fresh =

@@ -105,7 +105,7 @@ lost_with quota stages (Surplus c) moved = newest_lost stages + (newest_votes st
 lost_with quota stages (Exclude c) moved = newest_lost stages
 lost_with quota stages (ExcludeLast c) moved = newest_lost stages
 
--- no figure is above one vote for each of the maximum number of papers
+-- no figure exceeds one vote for each of the maximum number of papers
 pub record AreSmall (stages : History) (moved : List Holding) : Type 0 where
   pub votes_small : (c : ℕ) → 1 ≤ c → c ≤ max_candidates → newest_votes stages c ≤ max_units
   pub non_transferable_small : newest_non_transferable stages ≤ max_units

@@ -27,7 +27,7 @@ abbrev pub IsRightBy : Contest → (History → Stage → Option ℕ) → Histor
 IsRightBy contest handed [] = ⊤
 IsRightBy contest handed (s ∷ before) = IsRightBy contest handed before × IsNext contest before (handed before s) s
 
--- a history is correct for recorded lots, pairs of a stage and a candidate
+-- a history is correct for the recorded lots, which are pairs of a stage and a candidate
 abbrev pub IsRight : Contest → List (ℕ × ℕ) → History → Type 0
 IsRight contest lots stages = IsRightBy contest (λ before s. lot_for lots (length before + 1)) stages
 
@@ -70,7 +70,7 @@ abbrev pub EqualsEachCount : Contest → List (ℕ × ℕ) → History → Type 
 EqualsEachCount contest lots whole =
     (papers : List (List ℕ)) (stages : History) → IsPermutation contest.papers papers → IsCount (reordered contest papers) lots stages → stages ≡ whole
 
--- the whole count for recorded lots: it is complete, every correct history is a prefix of it, and it is the only count
+-- the whole count for the recorded lots: it is complete, every correct history is a prefix of it, and it is the only count
 pub record IsWholeCount (contest : Contest) (lots : List (ℕ × ℕ)) (whole : History) : Type 0 where
   pub ended : IsCount contest lots whole
   pub begins_each : BeginsEachRight contest lots whole
