@@ -58,7 +58,7 @@ problem_of end.Finished = None
 problem_of (end.LotNeeded stage among) = Some (problem.LotNeeded stage among)
 problem_of (end.LotNotAmong stage) = Some (problem.LotNotAmong stage)
 
--- the result of comparing a text with the sheet and the declaration of a contested ward: its papers make a contest, and the count is finished
+-- the result of comparing a text with the sheet and the declaration of a contested ward: its papers form a contest, and the count is finished
 pub record IsCountedCheck (ward : SheetEntry) (bundles : List Bundle) (lots : List (ℕ × ℕ)) (text : Text) (checked : Checked) : Type 0 where
   pub contest : IsContest (contest_in ward bundles)
   pub stages : List Stage

@@ -70,7 +70,7 @@ pub record IsCountBy (contest : Contest) (lots : List (ℕ × ℕ)) (count : War
   pub chosen : count.elected ≡ elected_after contest (reverse count.stages.items)
   pub drawn : undrawn_at count.end (dues_of contest lots) lots ≡ None
 
--- the count of a contested ward, whose papers make a contest
+-- the count of a contested ward, whose papers form a contest
 pub record IsContestedCount (ward : SheetEntry) (bundles : List Bundle) (lots : List (ℕ × ℕ)) (count : WardCount) : Type 0 where
   pub contest : IsContest (contest_in ward bundles)
   pub by_lots : IsCountBy (contest_in ward bundles) lots count

@@ -1,4 +1,4 @@
--- The laws of a count hold for every book by bundles, and a book that advances remains a book by bundles.
+-- The laws of a count hold for every bundle book, and a book that advances remains a bundle book.
 use Rattle.std.proofs.Common.{◌≡◌, ℕ, suc, zero, ◌+◌, ◌<◌, ◌≤◌, List, [], ◌∷◌, ◌++◌, length, map, replicate, reverse, Option, sym, ap, ◌∙◌, arith, subst, Some}
 use Rattle.std.specs.List.{AllByRecursion}
 use Rattle.std.proofs.lemmas.List.{length-reverse}
@@ -103,7 +103,7 @@ places-adds contest old new action bundles adds =
     ap (λ (a : Action). places_after contest (begun a [] ∷ old) bundles) (sym adds.of_action)
     ∙ ap (λ (h : History). places_after contest h bundles) (sym adds.one_more)
 
--- a book that advances remains a book by bundles
+-- a book that advances remains a bundle book
 pub adds-bundled : (contest : Contest) (before : History) (lot : Option ℕ) (action : Action) (after : History) (bundles : List Bundle) (old new : List Placed) →
     IsBundled contest before bundles old → drawn contest before lot (due_after contest before) ≡ Some action →
     Adds contest before action after → new ≡ places_after contest after bundles → IsBundled contest after bundles new

@@ -20,7 +20,7 @@ use Rattle.count.specs.Bundles.{Bundle, list_cmp, papers_of, with_papers, IsBund
 abbrev pub number_of : List ℕ → List Bundle → ℕ
 number_of list bs = unwrap_or (lookup (is_at (list_cmp list)) bs) 0
 
--- the number of papers with one list is at most the number of all papers
+-- the number of papers with a given list is at most the total number of papers
 number_at : (b : Bundle) (bs : List Bundle) (found : Option ℕ) (here : Bool) → unwrap_or found 0 ≤ length (papers_of bs) →
     unwrap_or (cond here (Some b.1) found) 0 ≤ length (papers_of (b ∷ bs))
 number_at b bs found true behind = omega (arith, length-append (replicate b.1 b.0) (papers_of bs), length-replicate b.1 b.0)

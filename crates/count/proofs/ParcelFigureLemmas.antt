@@ -210,7 +210,7 @@ votes_small_choice : (b : Bool) (q v n : ℕ) → q ≤ n → v ≤ n → cond b
 votes_small_choice true q v n h k = h
 votes_small_choice false q v n h k = k
 
--- no figure of a correct history is above one vote for each of the maximum number of papers
+-- no figure of a correct history exceeds one vote for each of the maximum number of papers
 pub newest_small : (contest : Contest) (handed : History → Stage → Option ℕ) (before : History) (new : List Holding) → IsContest contest → IsRightBy contest handed before → worth new ≤ max_units →
     AreSmall before new
 newest_small contest handed [] new fair right small = record { votes_small = λ c some few. omega arith; non_transferable_small = omega arith; lost_small = omega arith; moved_small = small }

@@ -31,7 +31,7 @@ standing_elected true gone = refl
 standing_elected false true = refl
 standing_elected false false = refl
 
--- a mark shows who is elected, for any action
+-- for any action, a mark shows who is elected
 elected_by : (a : Action) (c : ℕ) (named gone : Bool) → (transfers a c ≡ true → named ≡ true) → (excludes a c ≡ true → named ≡ false) →
     is_elected_mark (mark_by a c (cond named 1 (cond gone 2 0))) ≡ named
 elected_by First c named gone on out = standing_elected named gone

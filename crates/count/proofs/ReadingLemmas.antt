@@ -23,7 +23,7 @@ or_some : (b : Bool) → (b || true) ≡ true
 or_some true = refl
 or_some false = refl
 
--- the votes of a number, given the first candidates, and given another one
+-- the votes for a number, given the first candidates, and given another one
 units_own : (f : ℕ → Figure) (xs : List ℕ) (i n : ℕ) → i < length xs → n ≡ slice_index xs i → units_shown f (take (i + 1) xs) n ≡ (f n).units
 units_own f xs i n within same =
     ap (λ b. cond b (f n).units 0) (list_any_more (nat_eq n) xs i 0 within ∙ ap (λ b. list_any (nat_eq n) (take i xs) || b) (eq-eqb n (slice_index xs i) same)
@@ -79,7 +79,7 @@ action-some f xs i mark action within is some = action_at f xs i mark within is 
 pub figure-at : (f : ℕ → Figure) (xs : List ℕ) (figures : List Figure) (i : ℕ) (d : Figure) → figures ≡ map f xs → i < length xs → get_or figures i d ≡ f (slice_index xs i)
 figure-at f xs figures i d are within = ap (λ (l : List Figure). get_or l i d) are ∙ get_or-map f xs i 0 d within
 
--- the figures of the candidates are between a stage's first and last
+-- the figures of the candidates are between the first and the last figure of a stage
 pub between : (f : ℕ → Figure) (xs : List ℕ) (first last : Figure) (figures : List Figure) (n : ℕ) → figures ≡ first ∷ (map f xs ++ last ∷ []) → n ≡ length xs →
     take (n + 1 - 1) (drop 1 figures) ≡ map f xs
 between f xs first last figures n are size =

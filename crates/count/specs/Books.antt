@@ -27,6 +27,6 @@ pub record BundledBook : Type 0 where
   pub history : History
   pub bundles : List Bundle
 
--- a place, as a book by bundles accepts and returns it
+-- a place, as a bundle book accepts and returns it
 abbrev pub placed : Place → Placed
 placed at = record { holder = at.holder; value = at.value }

@@ -1,4 +1,4 @@
-//! A count by bundles.
+//! A count in bundles.
 
 ghost use Rattle.std.specs.Prelude.{◌≡◌, ◌<◌, ℕ, List, [], map, reverse, length, slice_index_or, IfOk};
 ghost use Rattle.count.specs.Books.{placed};
@@ -45,7 +45,7 @@ impl<'a> Model for BundleBook<'a> {
     ghost invariant = { λ a. IsBundled (contest_on a.terms a.bundles.now) (reverse a.stages.items) a.bundles.now a.places.items };
 }
 
-/// States the law of counting by bundles, for its callers. The bundles of given papers represent exactly those papers, in
+/// States the law of counting in bundles, for its callers. The bundles of given papers represent exactly those papers, in
 /// another order. If a contest can be held on the papers, it can be held on those of the bundles, with the same stages for any
 /// lots.
 #[tactic(auto, using(crate::proofs::OrderLemmas::bundled_alike))]

@@ -64,7 +64,7 @@ fn sums(bundles: &Bundles, places: &[Placed]) -> [u64; HOLDERS]
     sums
 }
 
-/// Returns the votes of the given candidate, given the worth of each holder's papers: exactly the quota once the surplus is
+/// Returns the votes of a candidate, given the worth of each holder's papers: exactly the quota once the surplus is
 /// transferred.
 fn votes_from(
     quota: Votes,
@@ -82,7 +82,7 @@ fn votes_from(
     Votes::from_units(sums[usize::from(c)])
 }
 
-/// Returns the votes of all numbers, given the worth of each holder's papers.
+/// Returns the votes for all candidate numbers, given the worth of each holder's papers.
 fn all_votes_from(
     quota: Votes,
     stages: &[Stage],

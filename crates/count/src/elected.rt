@@ -152,7 +152,7 @@ fn undecided_fill(terms: &Terms, stages: &[Stage]) -> bool
     with_quota(terms, stages).len() + undecided(terms, stages).len() == usize::from(terms.seats)
 }
 
-/// Returns whether the given candidate is elected, given whether the undecided candidates fill the seats.
+/// Returns whether the candidate is elected, given whether the undecided candidates fill the seats.
 fn is_elected(terms: &Terms, stages: &[Stage], fill: bool, c: u8) -> bool
     requires some { 1 ≤ c }
     requires few { c ≤ max_candidates }
@@ -175,7 +175,7 @@ pub fn elected(terms: &Terms, stages: &[Stage]) -> Columns
     those(&terms.candidates, |c| is_elected(terms, stages, fill, c))
 }
 
-/// Returns whether the given candidate continues, given whether the undecided candidates fill the seats.
+/// Returns whether the candidate continues, given whether the undecided candidates fill the seats.
 fn is_continuing(terms: &Terms, stages: &[Stage], fill: bool, c: u8) -> bool
     requires some { 1 ≤ c }
     requires few { c ≤ max_candidates }

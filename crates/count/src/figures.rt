@@ -144,7 +144,7 @@ fn elected_in(candidates: &Columns, figures: &[Figure]) -> Columns
     chosen
 }
 
-/// Returns the votes of all numbers; 0 for those that aren't candidates.
+/// Returns the votes for all candidate numbers; 0 for those that no candidate has.
 fn votes_in(candidates: &Columns, figures: &[Figure]) -> [Votes; MAX_CANDIDATES]
     requires { length figures.now ≡ length candidates.now }
     ensures { (f : ℕ → Figure) → figures.now ≡ map f candidates.now → result ≡ votes_shown f candidates.now }

@@ -74,7 +74,7 @@ fn votes_with(quota: Votes, stages: &[Stage], action: &Action, moved: &[Holding]
     Votes::from_units(given + newest_votes(stages, c).units())
 }
 
-/// Returns the votes of all candidate numbers after the action has moved papers.
+/// Returns the votes for all candidate numbers after the action has moved papers.
 fn all_votes(
     quota: Votes,
     stages: &[Stage],

@@ -116,7 +116,7 @@ papers_table seats poll = line (
     codes "</td></tr>\n<tr><th scope=\"row\">Papers in all</th><td>" ∷ decimal (poll.valid + rejected_in_all poll.rejected) ∷
     codes "</td></tr>\n</table>\n</div>\n</div>" ∷ [])
 
--- the note that a ward is uncontested
+-- the note saying that a ward is uncontested
 abbrev pub uncontested_text : ℕ → List ℕ
 uncontested_text seats =
     line (codes "<p>Seats: " ∷ decimal seats ∷ codes ". The ward is uncontested: there is no poll, and all its candidates are elected.</p>\n</div>\n</div>" ∷ [])

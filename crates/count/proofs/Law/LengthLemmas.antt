@@ -51,7 +51,7 @@ in_the_race : (r e : Bool) → e ≡ false → (r || not e) ≡ true
 in_the_race true e h = refl
 in_the_race false e h = ap not h
 
--- a candidate who isn't elected has not reached the quota
+-- a candidate who isn't elected hasn't reached the quota
 pub not_reached : (contest : Contest) (stages : History) (c : ℕ) (b : Bool) → has_reached contest stages c ≡ b → is_elected contest stages c ≡ false → b ≡ false
 not_reached contest stages c true e h = let k = reached-elected contest stages c e in cc
 not_reached contest stages c false e h = refl

@@ -190,7 +190,7 @@ equals_each contest lots whole count papers stages order other =
     let above = longest contest lots stages whole here other.1 count.0 in
     right_same contest lots stages whole here count.0 (omega (arith, within, above))
 
--- If a count has ended, it is whole.
+-- If a count has ended, it is the whole count.
 pub whole_count : (contest : Contest) (lots : List (ℕ × ℕ)) (whole : History) (end : CountEnd) → IsRight contest lots whole → end_after contest lots whole ≡ Some end → IsWholeCount contest lots whole
 whole_count contest lots whole end right ended =
     let count : IsCount contest lots whole = (right, ended-next contest whole (lot_for lots (length whole + 1)) (due_after contest whole) end ended) in
