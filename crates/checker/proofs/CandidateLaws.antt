@@ -23,7 +23,7 @@ here_it_is : (b : Bool) (c a : ℕ) (xs : List ℕ) → c ≡ a → list_any (na
 here_it_is true c a xs same none = ap (λ t. t || list_any (nat_eq c) xs) (eq-eqb c a same)
 here_it_is false c a xs same none = none
 
--- a number in a range is among those that pass a test if and only if it passes
+-- a number in a range is among those that pass a test if and only if it passes the test
 pub any_range : (p : ℕ → Bool) (a n c : ℕ) → a ≤ c → c < a + n → list_any (nat_eq c) (filter p (range_with_len a n)) ≡ p c
 any_range p a zero c low high = absurd (omega arith)
 any_range p a (suc n) c low high = by (nat_eq c a) refl (λ differ. any_range p (a + 1) n c (omega (arith, differ)) (omega arith))

@@ -28,7 +28,7 @@ or_both a b h k = rw (h, k) refl
 other : (a b : ℕ) → (a == b) ≡ false → (b == a) ≡ false
 other a b h = ne_eqb b a (λ e. eqb-false a b h (sym e))
 
--- a ranking with another candidate, who isn't in it yet, appended
+-- a ranking, extended by a candidate who isn't in it yet
 pub ranking_more : (xs : List ℕ) (c : ℕ) → IsRanking xs → 1 ≤ c → c ≤ max_candidates → list_any (λ d. d == c) xs ≡ false → IsRanking (xs ++ c ∷ [])
 ranking_more [] c rank some few none = (some, few, refl, tt)
 ranking_more (x ∷ xs) c rank some few none =

@@ -51,7 +51,7 @@ pub number_is : (candidates : List (ℕ × String Global)) (i : ℕ) (candidate 
 number_is candidates i candidate set here is =
     subst IsColumn (sym (ap (λ (c : ℕ × String Global). c.0) is)) (IsColumn-candidate (λ (c : ℕ × String Global). c.0) candidates i candidate here set)
 
--- another of the numbers
+-- another one of the numbers
 pub number_more : (candidates : List (ℕ × String Global)) (i : ℕ) (candidate : ℕ × String Global) (columns more : List ℕ) → IsCandidateSet (numbers_in candidates) → i < length candidates →
     candidate ≡ get_or candidates i candidate
     → columns ≡ take i (numbers_in candidates) → (IsCandidateSet (columns ++ candidate.0 ∷ []) → more ≡ columns ++ candidate.0 ∷ []) → more ≡ take (i + 1) (numbers_in candidates)

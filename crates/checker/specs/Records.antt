@@ -138,7 +138,7 @@ after_comma (byte ∷ bytes) = if byte == 44 then bytes else after_comma bytes
 abbrev pub has_comma : Text → Bool
 has_comma line = list_any (λ byte. byte == 44) line
 
--- `12,2,1,3`: a number of papers and their fields
+-- `12,2,1,3`: the number of papers, followed by their fields
 abbrev pub with_counted : RecordsEntry → Text → Result RecordsEntry BallotsFlaw
 with_counted entry line =
     if has_comma line then and_then (papers_in (before_comma line)) (λ papers. with_papers entry papers (after_comma line)) else Err flaw.FieldCount

@@ -18,7 +18,7 @@ pub(crate) enum FieldPlace {
     Plain,
     /// In a field with quotation marks.
     Quoted,
-    /// In a field with quotation marks, after one that either ends the field or is the first of two.
+    /// In a field with quotation marks, after a quotation mark that either ends the field or is the first of two.
     Closed,
     /// After something that isn't part of a field.
     Astray,

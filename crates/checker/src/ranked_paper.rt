@@ -162,7 +162,7 @@ impl RankedPaper {
         }
     }
 
-    /// Returns whether the field has been read for each rank column.
+    /// Returns whether a field has been read for each rank column.
     pub(crate) fn is_complete(&self, ranks: u8) -> bool
         ensures { result ≡ (self.now.fields == ranks) }
     {

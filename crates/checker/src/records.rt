@@ -60,7 +60,7 @@ fn without_return(line: &[u8]) -> &[u8]
     }
 }
 
-/// Returns the numbers of the given number of candidates.
+/// Returns the set of the candidate numbers 1 to `names`.
 fn columns_of(names: usize) -> Columns
     requires { names ≤ max_candidates }
     ensures { result ≡ range_with_len 1 names }

@@ -5,7 +5,8 @@ ghost use Rattle.checker.specs.Tokens.{behind_byte_order_mark, is_blank, kind_of
 
 use std::alloc::{AllocError, Global};
 
-/// The number of pieces for which room is reserved at the start, enough for the words of a usual line. More need further allocations.
+/// The number of pieces for which space is reserved at the start, enough for the words of a typical line. More pieces need further
+/// allocations.
 const USUAL_PIECES: usize = 16;
 
 /// The separator at which a text is split.

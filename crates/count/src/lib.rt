@@ -4,7 +4,7 @@
 //! stage that is due. [`ParcelBook`] stores the papers in parcels, as a teller does. [`BundleBook`] stores equal papers in
 //! [`Bundles`], each [`Placed`] with one holder, and can resume another count in bundles. [`StoredCount`] resumes a stored count
 //! one stage at a time, wherever it was read from. [`run_count`] counts to the end with the recorded lots, and [`count_to`] counts
-//! to a given number of stages. [`due_by`] and [`dues_to`] return what is due, given those lots.
+//! a given number of stages. [`due_by`] and [`dues_to`] return what is due, given those lots.
 //!
 //! ```text
 //! if can_be_counted(&candidates, seats, &papers) {

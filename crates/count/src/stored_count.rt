@@ -191,8 +191,8 @@ fn are_sound(places: &[Placed]) -> bool
     true
 }
 
-/// Returns whether stored data is in range for a count with these candidates and bundles: its places are sound, there are no more
-/// stages than possible, and the loss is at most one vote per paper.
+/// Returns whether stored data is in range for a count with the given candidates and bundles: its places are sound, there are no
+/// more stages than possible, and the loss is at most one vote per paper.
 fn is_in_range(candidates: &Columns, bundles: &Bundles, places: &[Placed], stages: &[Stage]) -> bool
     ensures sound { IsTrue result → AllByRecursion IsSound places.now }
     ensures few { IsTrue result → length stages.now < 255 }

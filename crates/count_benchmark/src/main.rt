@@ -4,9 +4,9 @@
 //! count_benchmark PAPERS [parcels|bundles [LISTS [STAGES]]]
 //! ```
 //!
-//! Generates the given number of papers, either independently or, if LISTS isn't 0, by drawing each from one of that many lists.
-//! They are counted in parcels, the default, or in bundles, up to the given number of stages or to the end. Equal arguments produce
-//! equal papers: the generator is deterministic, and lower numbers tend to be preferred.
+//! Generates the given number of papers, either independently or, if LISTS isn't 0, by picking one of that many lists for each
+//! paper. They are counted in parcels, the default, or in bundles, up to the given number of stages or to the end. Equal arguments
+//! produce equal papers: the generator is deterministic, and lower numbers tend to be preferred.
 #![tactic(auto)]
 
 ghost use Rattle.std.specs.Prelude.{◌≡◌, []};

@@ -193,7 +193,7 @@ fn write_lot_comment<W: Sink>(sink: &mut W, lot: &(u8, u8)) -> Result<(), Broken
     write_line(sink, &pieces)
 }
 
-/// Writes the candidates drawn by lots, as comments.
+/// Writes the candidates drawn by lot, as comments.
 fn write_lot_comments<W: Sink>(sink: &mut W, lots: &[(u8, u8)]) -> Result<(), Broken>
     requires { W.failed sink.old < 2 ^ 64 - 1 }
     ensures { Writes W.taken W.failed sink.old sink.new (flat_map lot_comment lots.now) result }

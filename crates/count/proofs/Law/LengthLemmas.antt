@@ -56,7 +56,7 @@ pub not_reached : (contest : Contest) (stages : History) (c : ℕ) (b : Bool) �
 not_reached contest stages c true e h = let k = reached-elected contest stages c e in cc
 not_reached contest stages c false e h = refl
 
--- such an exclusion removes one candidate from the race
+-- an exclusion that moves nothing removes one candidate from the race
 last_race : (contest : Contest) (s s' : Stage) (before : History) (d : ℕ) → IsContest contest → In d contest.candidates → is_elected contest (s' ∷ before) d ≡ false →
     is_excluded (s' ∷ before) d ≡ false →
     Tells contest before s' → Tells contest (s' ∷ before) s → s.action ≡ ExcludeLast d → length (in_race contest (s ∷ s' ∷ before)) + 1 ≤ length (in_race contest (s' ∷ before))
