@@ -36,7 +36,7 @@ fn compared(
     comparison(alloc, text, sheet.as_str(), declaration.as_str())
 }
 
-/// Returns the reason why a count isn't finished; `None` if it is.
+/// Returns the reason why the count isn't finished; `None` if it is.
 fn problem_of(end: CountEnd) -> Option<Problem>
     ensures { result ≡ problem_of end }
 {

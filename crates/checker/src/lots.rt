@@ -42,7 +42,7 @@ pub(crate) fn undrawn_by(dues: &[Due], lots: &[(u8, u8)]) -> Option<u8>
     None
 }
 
-/// Returns the position for a stage's lot in a list of lots ordered by stage.
+/// Returns the position for the given stage's lot in a list of lots ordered by stage.
 fn place_in(stage: u8, lots: &[(u8, u8)]) -> usize
     ensures is { result ≡ place_in stage lots.now }
     ensures few { result ≤ length lots.now }

@@ -51,7 +51,7 @@ fn is_of(field: &[u8], c: u8, name: &str) -> bool
     }
 }
 
-/// Returns the only candidate that a field names, by number or by name.
+/// Returns the only candidate that the field names, by number or by name.
 fn candidate_named(names: &[String], field: &[u8]) -> Result<u8, BallotsFlaw>
     requires { length names.now ≤ max_candidates }
     ensures is { result ≡ candidate_named (map string_bytes names.now) field.now }

@@ -60,7 +60,7 @@ fn is_title(word: &[u8]) -> bool
                                         || word.eq_ignore_ascii_case(b"ballots")))))))))
 }
 
-/// Returns whether the name of a column suggests something other than a candidate.
+/// Returns whether the name of the column suggests something other than a candidate.
 fn is_titled(field: &[u8]) -> bool
     ensures { result ≡ is_titled field.now }
 {

@@ -241,7 +241,7 @@ pub(crate) struct Page {
     pub(crate) status: u8,
 }
 
-/// Returns the page for a text and a status. The text goes to the output if the status is 0, otherwise to the error output.
+/// Returns the page for the given text and status. The text goes to the output if the status is 0, otherwise to the error output.
 fn page_with(alloc: Global, status: u8, text: String) -> Page
     ensures { page_told result ≡ page_with status (string_bytes text) }
 {
@@ -260,7 +260,7 @@ fn page_with(alloc: Global, status: u8, text: String) -> Page
     }
 }
 
-/// Returns the page for a fixed text and a status; `AllocError` if an allocation fails.
+/// Returns the page for the given fixed text and status; `AllocError` if an allocation fails.
 fn page_of_text(alloc: Global, status: u8, text: &str) -> Result<Page, AllocError>
     ensures { IfOk result (λ page. page_told page ≡ page_with status text.now) }
 {

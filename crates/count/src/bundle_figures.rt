@@ -98,7 +98,7 @@ fn all_votes_from(
     votes
 }
 
-/// Returns the loss by fractions after an action that moved bundles to new places; a surplus leaves the quota with its candidate.
+/// Returns the loss by fractions after the action, which moved bundles to new places; a surplus leaves the quota with its candidate.
 fn lost_from(
     quota: Votes,
     bundles: &Bundles,
@@ -122,7 +122,7 @@ fn lost_from(
     }
 }
 
-/// Returns the stage of an action that moved bundles to new places: its figures, but not its newly elected candidates.
+/// Returns the stage of the action, which moved bundles to new places: its figures, but not its newly elected candidates.
 pub fn figured(
     terms: &Terms,
     bundles: &Bundles,

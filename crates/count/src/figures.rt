@@ -156,7 +156,7 @@ fn votes_in(candidates: &Columns, figures: &[Figure]) -> [Votes; MAX_CANDIDATES]
     votes
 }
 
-/// Returns the action that a candidate's mark shows, if any.
+/// Returns the action that the candidate's mark shows, if any.
 fn action_by(mark: u32, c: u8) -> Option<Action>
     ensures { result ≡ action_by_mark mark c }
 {

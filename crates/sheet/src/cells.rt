@@ -29,7 +29,7 @@ pub enum Cell<'a> {
     Lost,
 }
 
-/// Returns the votes of a candidate before a stage; for the first stage, the votes at that stage.
+/// Returns the given candidate's votes before the given stage; for the first stage, the votes at that stage.
 fn votes_before(earlier: &[Stage], stage: &Stage, c: u8) -> Votes
     ensures { result ≡ before_of earlier.now stage.now c }
 {
@@ -139,7 +139,7 @@ fn write_sum_cell<W: Sink>(sink: &mut W, sum: Votes) -> Result<(), Broken>
     write_line(sink, &pieces)
 }
 
-/// Writes a cell for a stage, given the stages before it.
+/// Writes the cell for the given stage, given the stages before it.
 fn write_cell<W: Sink>(
     sink: &mut W,
     cell: &Cell,

@@ -42,7 +42,7 @@ impl<'a> OfCandidate for ItemAt<'a> {
     }
 }
 
-/// Writes the candidates elected at a stage, in ascending order of their numbers.
+/// Writes the candidates elected at the given stage, in ascending order of their numbers.
 fn write_elected_at<W: Sink>(
     sink: &mut W,
     ward: &Ward,

@@ -41,7 +41,7 @@ enum Line {
 }
 
 impl Line {
-    /// Returns the value of the line at a stage.
+    /// Returns the value of the line at the given stage.
     fn value_in(self, stage: &Stage) -> Votes
         ensures { result ≡ value_in_of self stage.now }
     {
@@ -62,7 +62,7 @@ impl Line {
         }
     }
 
-    /// Returns the standing after a stage, if the line is a candidate's.
+    /// Returns the standing after the given stage, if the line is a candidate's.
     fn standing(self, earlier: &[Stage], stage: &Stage) -> &'static str
         ensures { result.now ≡ standing_of self earlier.now stage.now }
     {
@@ -96,7 +96,7 @@ fn push_value(alloc: Global, row: &mut Vec<String>, value: Votes) -> Result<(), 
     Ok(())
 }
 
-/// Appends the cells of a line at a stage; `AllocError` if an allocation fails.
+/// Appends the cells of the line at the given stage; `AllocError` if an allocation fails.
 fn push_cells(
     alloc: Global,
     row: &mut Vec<String>,
@@ -114,7 +114,7 @@ fn push_cells(
     push_text(alloc, row, line.standing(earlier, stage))
 }
 
-/// Appends the cells of a line at all stages; `AllocError` if an allocation fails.
+/// Appends the cells of the line at all stages; `AllocError` if an allocation fails.
 fn push_all_cells(
     alloc: Global,
     row: &mut Vec<String>,
@@ -129,7 +129,7 @@ fn push_all_cells(
     Ok(())
 }
 
-/// Appends the column heads of a stage; `AllocError` if an allocation fails.
+/// Appends the column heads of the given stage; `AllocError` if an allocation fails.
 fn push_heads(
     alloc: Global,
     row: &mut Vec<String>,

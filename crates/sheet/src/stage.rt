@@ -57,7 +57,7 @@ pub fn is_excluded_at(stages: &[Stage], c: u8) -> bool
     stages.iter().any(|stage| stage.action.excludes(c))
 }
 
-/// Returns the standing of a candidate at a stage, given the stages before it.
+/// Returns the standing of the candidate at the stage, given the stages before it.
 pub fn fate_at(earlier: &[Stage], stage: &Stage, c: u8) -> Fate
     ensures { result ≡ fate_of earlier.now stage.now c }
 {
@@ -89,7 +89,7 @@ fn letter(fate: Fate) -> &'static str
     }
 }
 
-/// Returns the votes of a candidate at a stage.
+/// Returns the given candidate's votes at the given stage.
 pub fn votes_of(stage: &Stage, c: u8) -> Votes
     ensures { result ≡ votes_at stage.now c }
 {
@@ -147,7 +147,7 @@ fn write_sum_lines<W: Sink>(sink: &mut W, stage: &Stage) -> Result<(), Broken>
     write_sum_line(sink, stage.lost, "lost by fractions")
 }
 
-/// Writes a stage, given the stages before it.
+/// Writes the stage, given the stages before it.
 pub fn write_stage<W: Sink>(
     sink: &mut W,
     ward: &Ward,
