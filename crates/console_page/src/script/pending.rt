@@ -1,6 +1,6 @@
-//! Part of the script: orders that are sent again until the office has replied.
+//! Part of the script: orders that are resent until the office has replied.
 
-/// Declares how an order is sent. It is stored first, and sent again under its id until the office has replied.
+/// Declares how an order is sent. It is stored first, and resent under its id until the office has replied.
 pub(crate) const PENDING: &str = r#"// ---- sending orders
 
 const WAITS = [2, 5, 10, 20, 30];
