@@ -54,7 +54,7 @@ some_papers papers = if papers == 0 then Err NoPapers else Ok papers
 abbrev pub papers_in : Text → Result ℕ BallotsFlaw
 papers_in word = and_then (number_in max_papers word) some_papers
 
--- the papers so far, with one or more papers added that have the same preferences
+-- the papers read so far, with one or more papers added that have the same preferences
 abbrev pub with_list : PapersEntry → ℕ → List ℕ → Result PapersEntry BallotsFlaw
 with_list told papers [] = Err NoPreference
 with_list told papers (c ∷ list) =

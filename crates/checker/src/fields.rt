@@ -14,11 +14,11 @@ use std::mem;
 pub(crate) enum FieldPlace {
     /// At the beginning of a field.
     Start,
-    /// In a field without quotation marks.
+    /// In an unquoted field.
     Plain,
-    /// In a field with quotation marks.
+    /// In a quoted field.
     Quoted,
-    /// In a field with quotation marks, after a quotation mark that either ends the field or is the first of two.
+    /// In a quoted field, after a quotation mark that either ends the field or is the first of two.
     Closed,
     /// After something that isn't part of a field.
     Astray,
@@ -35,7 +35,7 @@ pub(crate) enum FieldStep {
     Moves(FieldPlace),
 }
 
-/// The fields so far, the bytes of the next one, and the position of the next byte.
+/// The fields read so far, the bytes of the next one, and the position of the next byte.
 #[derive(Drop)]
 pub(crate) struct Fields {
     done: Vec<Vec<u8>>,

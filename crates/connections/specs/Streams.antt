@@ -21,7 +21,7 @@ abbrev pub Takes : Option (List ℕ) → Option (List ℕ) → List ℕ → Resu
 Takes old new bytes (Ok n) = (n ≤ length bytes) × Grows old new (take n bytes)
 Takes old new bytes (Err broken) = new ≡ old
 
--- a stream has accepted exactly the given bytes, if it is known what it has accepted
+-- a stream has accepted exactly the given bytes, if what it has accepted is known
 abbrev pub HasTaken : Option (List ℕ) → List ℕ → Type 0
 HasTaken None bytes = ⊤
 HasTaken (Some taken) bytes = taken ≡ bytes

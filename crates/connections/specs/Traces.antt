@@ -134,7 +134,7 @@ responses_at (makes_way removed) = []
 responses_at keeps_out = []
 responses_at fails = []
 
--- the time that the clock returned last, if it has been read
+-- the time that the clock most recently returned, if it has been read
 abbrev pub shown_at_gate : Option ℕ → Option ℕ → Option ℕ
 shown_at_gate None shown = shown
 shown_at_gate (Some now) shown = Some now
@@ -155,7 +155,7 @@ shown_after (makes_way removed) shown = shown
 shown_after keeps_out shown = shown
 shown_after fails shown = shown
 
--- a connection is accepted, and its time limit begins at the time that the clock returned last
+-- a connection is accepted, and its time limit begins at the time that the clock most recently returned
 pub record IsAccepted {L : Type 0} (stream : Stream L) (shown : Option ℕ) (accepted : Accepted L) (clients later : List (Client L)) : Type 0 where
   pub now : ℕ
   pub at : shown ≡ Some now
@@ -169,7 +169,7 @@ pub record ClosesLate {L : Type 0} (now : ℕ) (clients : List (Client L)) (gone
   pub late : FoldsTo (IsClosedByRule (timeout_rule now)) clients gone later
   pub all : All (λ client. now - client.since < timeout) later
 
--- a connection is closed because the table is full at the time that the clock returned last, or because too many bytes are held in memory
+-- a connection is closed because the table is full at the time that the clock most recently returned, or because too many bytes are held in memory
 abbrev pub IsEviction : {L : Type 0} → Option ℕ → List (Client L) → Removed L → List (Client L) → Type 0
 IsEviction shown clients removed later = ((now : ℕ) × (shown ≡ Some now) × IsEvicted now clients removed later) ⊎ IsClosedForBytes clients removed later
 
@@ -186,7 +186,7 @@ Changes gated stream fails shown clients later = later ≡ clients
 
 -- ---- several steps
 
--- a snapshot: the time that the clock returned last, if it has been read, and the open connections
+-- a snapshot: the time that the clock most recently returned, if it has been read, and the open connections
 pub record Scene (L : Type 0) : Type 0 where
   pub shown : Option ℕ
   pub clients : List (Client L)

@@ -49,7 +49,7 @@ pub lists-from : (P : List ℕ → Type 0) (bs : List Bundle) (papers : List (Li
 lists-from P bs [] all some = all
 lists-from P bs (p ∷ ps) all some = lists-from P (with_papers bs p 1) ps (lists-with_papers P p 1 bs some.0 all) some.1
 
--- a contest on papers is also a contest on the papers of their bundles
+-- a contest with papers is also a contest on the papers of their bundles
 pub contest-bundled : (candidates : List ℕ) (seats : ℕ) (papers : List (List ℕ)) → IsContest (contest_for candidates seats papers) →
     IsContest (contest_for candidates seats (papers_of (bundled papers)))
 contest-bundled candidates seats papers fair = record {
@@ -62,7 +62,7 @@ contest-bundled candidates seats papers fair = record {
   quota_is = refl;
 }
 
--- a contest on papers is the contest on the papers of their bundles, in another order
+-- a contest with papers is the contest with the papers of their bundles, in another order
 pub contest-reordered : (candidates : List ℕ) (seats : ℕ) (papers : List (List ℕ)) →
     reordered (contest_for candidates seats papers) (papers_of (bundled papers)) ≡ contest_for candidates seats (papers_of (bundled papers))
 contest-reordered candidates seats papers =

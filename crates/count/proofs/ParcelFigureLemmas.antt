@@ -229,7 +229,7 @@ newest_small contest handed (s ∷ before) new fair right small =
       moved_small = small;
     }
 
--- nor is the worth of what an action moved
+-- the worth of what an action moved is small too
 pub moved-small : (contest : Contest) (before : History) (action : Action) (holdings new : List Holding) → IsBook contest before holdings → IsDue contest before action →
     IsMovedBy contest before action holdings new → AreSmall before new
 moved-small contest before action holdings new book due is_moved =

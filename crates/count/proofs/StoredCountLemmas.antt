@@ -27,7 +27,7 @@ use Rattle.count.proofs.OrderLemmas.{bundled-length, bundled-permutation, contes
 use Rattle.count.proofs.Law.CountLemmas.{next_reordered}
 use Rattle.count.proofs.Law.RightLemmas.{is_told, same_place, right_reordered}
 
--- the contest on the papers of the bundles
+-- the contest with the papers of the bundles
 on_bundles : Contest → List Bundle → Contest
 on_bundles contest bundles = reordered contest (papers_of bundles)
 

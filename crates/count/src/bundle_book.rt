@@ -46,7 +46,7 @@ impl<'a> Model for BundleBook<'a> {
 }
 
 /// States the law of counting in bundles, for its callers. The bundles of given papers represent exactly those papers, in
-/// another order. If a contest can be held on the papers, it can be held on those of the bundles, with the same stages for any
+/// another order. If a contest can be held with the papers, it can be held with those of the bundles, with the same stages for any
 /// lots.
 #[tactic(auto, using(crate::proofs::OrderLemmas::bundled_alike))]
 pub fn bundles_count_alike()

@@ -30,7 +30,7 @@ fn folder_of(file: &str) -> Path<'_>
     Path::new(file).parent().unwrap_or(Path::new(""))
 }
 
-/// Returns the path of a copy. If the folder is empty, as it is for the console, the copy is made next to the database.
+/// Returns the path of a copy. If no folder is given, as with the console, the copy is made next to the database.
 fn path_of_copy(alloc: Global, database: &str, to: Destination<'_>) -> Result<PathBuf, AllocError>
     ensures { IfOk result (λ path. path_buf_bytes path ≡ copy_path database.now to.entry.folder.now to.entry.path.now) }
 {

@@ -38,7 +38,7 @@ all_taken xs i all = ap (λ ys. take i xs ++ ys) (sym (drop_all i xs all)) ∙ t
 
 -- ---- outcomes, and what was written completely before them
 
--- the outcome in which the given number of the requests were answered, and the page was written to the given extent
+-- the outcome in which the given number of the requests were answered, and the page was written up to the given point
 abbrev pub made : List Request → ℕ → Page → Cut → Course
 made requests answered page cut = record { requests = requests; answered = answered; page = page; cut = cut }
 
@@ -251,7 +251,7 @@ done_since a b closed st folder since s job c (inr unsent) = inr (unsent_since a
 
 -- ---- what is printed if nothing is sent
 
--- a page was written to the given extent, and nothing was written after it
+-- a page was written up to the given point, and nothing was written after it
 pub unsent_told : (old : State) (closed : Bool) (st : State) (keep : Bool) (line : Option ℕ) (Tells : Page → Type 0) (s : OfficeState) (page : Page) (cut : Cut)
     → (Tells page × IsOpenAt s closed st) ⊎ IsStopped old closed st s page → IsUnsent old closed st keep line Tells (IsOver closed st s) s (ended line [] 0 page cut)
 unsent_told old closed st keep line Tells s page (cut_behind took) why = inr (page, cut_behind took, refl, (λ goes is. absurd (cc is)), why)

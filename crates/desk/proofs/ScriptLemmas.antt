@@ -55,7 +55,7 @@ module _ {X : Type 0} (f : X → List ℕ) where
       by false e = e
       by true e = absurd (other (IsUtf8-from_is_utf8 (f x) e))
 
--- ---- the lines so far
+-- ---- the lines read so far
 
 module _ {X : Type 0} (f : X → Typed) where
   line_more : (xs : List X) (i : ℕ) (x : X) → i < length xs → x ≡ get_or xs i x → map f (take (i + 1) xs) ≡ map f (take i xs) ++ f x ∷ []
@@ -68,7 +68,7 @@ module _ {X : Type 0} (f : X → Typed) where
   turns_so xs i x turns new turn within is so one more =
       rw more (subst (λ ls. AreTurns ls (turns ++ turn ∷ [])) (sym (line_more xs i x within is)) (turns_more (map f (take i xs)) turns (f x) turn so one))
 
-  -- what is wrong with the line after those so far
+  -- what is wrong with the line after those read so far
   pub fault_behind : (xs : List X) (i : ℕ) (x : X) (turns : List ScriptStep) (fault : ScriptFault) → i < length xs → x ≡ get_or xs i x → AreTurns (map f (take i xs)) turns
       → IsFaultOfLine (f x) fault → IsFaultOfLines (map f xs) fault
   fault_behind xs i x turns script.Memory within is so wrong = tt

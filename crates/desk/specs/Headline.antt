@@ -79,7 +79,7 @@ module _ (old : State) (closed : Bool) (st : State) where
       × (((requests : List Request) × Sends s turn.errand file requests × IsSent keep turn.line (page_answered turn.errand) (λ next. IsPlayed keep folder next turns) s requests course)
       ⊎ IsUnsent keep turn.line (IsTold s turn.errand file) (IsPlayed keep folder s turns) s course)
 
-  -- A job is done in the open office: its steps are run; with `keep_going`, the job continues after refusals. Or the page says why its text isn't a script. Or the
+  -- A job is done in the open office: its steps are run; with `keep_going`, the job continues after refusals. Or the page says why the job's text isn't a script. Or the
   -- page reports a fault.
   abbrev pub IsDone : Folder → OfficeState → Job → Course → Type 0
   IsDone folder s job course = ((turns : List ScriptStep) × HasSteps folder job turns

@@ -316,7 +316,7 @@ pub record IsErrorOutputBroken (old new : Outputs) (page : Page) (status : ℕ) 
   pub err_failed : new.err_failed ≡ old.err_failed + 1
   pub ends : status ≡ 3
 
--- a page was written to the given extent
+-- a page was written up to the given point
 abbrev pub IsShown : Cut → Outputs → Outputs → Page → ℕ → Type 0
 IsShown uncut old new page status = IsWhole old new page status
 IsShown (cut_behind took) old new page status = IsOutputBroken took old new page status

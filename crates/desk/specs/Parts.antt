@@ -23,7 +23,7 @@ use Rattle.desk.specs.declared.orders.ExpectedSeal.{ExpectedSeal}
 use Rattle.desk.specs.declared.orders.KeyingFile.{KeyingFile}
 use Rattle.desk.specs.declared.orders.Question.{Question}
 
--- an outcome with the given page, written to the given extent, satisfies P for some requests and some number of answered ones
+-- an outcome with the given page, written up to the given point, satisfies P for some requests and some number of answered ones
 abbrev pub ComesTo : Cut → Page → (Course → Type 0) → Type 0
 ComesTo cut page P = (requests : List Request) × (answered : ℕ) × P (record { requests = requests; answered = answered; page = page; cut = cut })
 

@@ -105,19 +105,19 @@ office_words = with_orders start_words (map (λ e. e.typed) orders)
 
 -- ---- the order that the matches mean
 
--- the number that was matched under a name, if any
+-- the number that was matched for a name, if any
 abbrev pub number_found : Text → List Row → Option ℕ
 number_found name rows = option_and_then number_in (one_of name rows)
 
--- the number that was matched under a name, or 0
+-- the number that was matched for a name, or 0
 abbrev pub number_at : Text → List Row → ℕ
 number_at name rows = unwrap_or (number_found name rows) 0
 
--- the text that was matched under a name, or the empty text
+-- the text that was matched for a name, or the empty text
 abbrev pub text_at : Text → List Row → Text
 text_at name rows = unwrap_or (first_of name rows) []
 
--- the texts that were matched under a name, or none
+-- the texts that were matched for a name, or none
 abbrev pub texts_at : Text → List Row → List Text
 texts_at name rows = unwrap_or (all_of name rows) []
 
@@ -125,11 +125,11 @@ texts_at name rows = unwrap_or (all_of name rows) []
 abbrev pub flag_at : Text → List Row → Bool
 flag_at name rows = bytes_eq (text_at name rows) (codes "true")
 
--- the origin that was matched under a name, if any; its inner value is None if the text denotes no origin
+-- the origin that was matched for a name, if any; its inner value is None if the text denotes no origin
 abbrev pub origin_at : Text → List Row → Option (Option Text)
 origin_at name rows = option_map origin_in (first_of name rows)
 
--- the digest that was matched under a name, if any; its inner value is None if the text denotes no digest
+-- the digest that was matched for a name, if any; its inner value is None if the text denotes no digest
 abbrev pub digest_at : Text → List Row → Option (Option (List ℕ))
 digest_at name rows = option_map digest_in (first_of name rows)
 

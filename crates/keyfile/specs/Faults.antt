@@ -57,7 +57,7 @@ abbrev pub flaw_clerk : Flaw → List ℕ
 flaw_clerk (OtherKeying batch clerk) = decimal clerk
 flaw_clerk _ = []
 
--- whether a flaw isn't a flaw in the file but the reason why reading stopped
+-- whether a flaw is the reason why reading stopped, rather than something wrong with the file
 abbrev pub is_stop : Flaw → Bool
 is_stop Header = false
 is_stop RecordLength = false

@@ -374,7 +374,7 @@ fn counts_as(
     Ok(())
 }
 
-/// Checks that records are counted as the ballots that result from them.
+/// Checks that records are counted in the same way as the ballots made from them.
 fn counts_records(rt: &(impl Abort + AllocGlobal)) -> Result<(), Fail> {
     counts_as(rt, &[], RECORDS, RECORDED)?;
     counts_as(rt, &CANDIDATES, RANKED, RANKED_BALLOTS)?;

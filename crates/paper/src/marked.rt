@@ -1,4 +1,4 @@
-//! What a clerk keyed from a ballot paper, and its text.
+//! What a clerk keyed from a ballot paper, and how that is written as text.
 
 ghost use Rattle.std.specs.Prelude.{◌≡◌, ℕ, ◌+◌, ◌≤◌, ◌++◌, length, IfOk, OnOk, string_bytes};
 ghost use Rattle.std.specs.List.{zip};

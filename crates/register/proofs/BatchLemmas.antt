@@ -143,7 +143,7 @@ module _ (s : OfficeState) (n : ℕ) (b : BatchEntry) (is : IsState s) (found : 
           let round = eqb-true k.round (suc b.round) next in
           absurd (omega (arith, up, round))
 
-  -- the rounds before the next one are whole, and the keyings in each of them differ
+  -- the rounds before the next one are complete, and the keyings in each of them differ
   module _ (bs : List BatchEntry) where
     earlier_round : (m : ℕ) → is_round_of s b m ≡ true → is_round_of (record s { batches = bs }) (in_round (suc b.round) b) m ≡ true
     earlier_round m holds =

@@ -24,14 +24,14 @@ poll-alike e valid seats quota bundles rejected settled held number were was sat
         (let one : PollEntry = record { valid = v; rejected = r; quota = q; settled = t } in one) ≡ record { valid = w; rejected = s; quota = p; settled = u }
     same v w r s q p t u a b c d = rw (a, b, c, d) refl
 
--- The contest on the papers that an election's bundles contain.
+-- The contest with the papers that an election's bundles contain.
 module _ (e : ElectionEntry) (candidates : List ℕ) (seats : ℕ) (bundles : List Bundle) (columns : candidates ≡ columns_of e.candidates) (sat : seats ≡ e.ward.seats)
     (held : bundles ≡ bundled e.ballots.papers) where
-  -- the contest on these papers
+  -- the contest with these papers
   on_bundles : contest_for candidates seats (papers_of bundles) ≡ contest_for (columns_of e.candidates) e.ward.seats (papers_of (bundled e.ballots.papers))
   on_bundles = rw (columns, sat, held) refl
 
-  -- the contest on the bundles can be held if the contest on the papers can
+  -- the contest with the bundles can be held if the contest with the papers can
   pub fair-alike : IsContest (contest_of e) → IsContest (contest_for candidates seats (papers_of bundles))
   fair-alike fair = subst IsContest (sym on_bundles) (contest-bundled (columns_of e.candidates) e.ward.seats e.ballots.papers fair)
 
@@ -39,7 +39,7 @@ module _ (e : ElectionEntry) (candidates : List ℕ) (seats : ℕ) (bundles : Li
     pub other_order : contest ≡ reordered (contest_of e) (papers_of (bundled e.ballots.papers))
     other_order = on ∙ on_bundles ∙ sym (contest-reordered (columns_of e.candidates) e.ward.seats e.ballots.papers)
 
-    -- the contest on the bundles has the same stages
+    -- the contest with the bundles has the same stages
     pub stages-alike : (k : ℕ) → stages_to contest lots k ≡ stages_to (contest_of e) e.lots k
     stages-alike k =
         ap (λ (c : Contest). stages_to c lots k) (on ∙ on_bundles)

@@ -192,7 +192,7 @@ whole_few size (k ∷ ks) whole = elim (list_any (same_marks k) ks) as (λ b. le
   | false ↦ whole_few size ks (and_parts (is_whole size k) (list_all (is_whole size) ks) whole).1
 ]
 
--- the keyings in a batch's current round are whole
+-- the keyings in a batch's current round are complete
 pub round_now : (s : OfficeState) (b : BatchEntry) → is_batch b ≡ true → are_rounds_to s b b.round ≡ true → is_round_of s b b.round ≡ true
 round_now s b fine rounds = round_at s b b.round (lower 1 99 b.round (batch_parts b fine).round) rounds
 
@@ -280,7 +280,7 @@ seats_and_papers_are_few s w first fourth rise there =
 candidates_are : (s : OfficeState) → all_in_range s ≡ true → list_all is_candidate s.candidates ≡ true
 candidates_are s first = (and_parts _ _ (and_parts _ _ first).1).0
 
--- If numbers are in range, keyings are whole and entries are in key order, every contest is one to which the rules
+-- If numbers are in range, keyings are complete and entries are in key order, every contest is one to which the rules
 -- apply.
 pub contest_is_fair : (s : OfficeState) (w : WardEntry) → all_in_range s ≡ true → all_keyed s ≡ true → MapsAreSorted s → ward_at s w.number ≡ Some w → is_contested w (candidates_of s w.number) ≡ true
     → IsContest (contest_of (election_of s w))

@@ -46,7 +46,7 @@ are_numbered paper (k ∷ ks) = (k.paper == paper) && are_numbered (paper + 1) k
 abbrev pub is_whole : ℕ → List KeyedEntry → Bool
 is_whole size keying = (length keying == size) && are_numbered 1 keying
 
--- a round of a batch is valid: every keying is whole and, if the round is an earlier one, it has at least two keyings, no two
+-- a round of a batch is valid: every keying is complete and, if the round is an earlier one, it has at least two keyings, no two
 -- of which are equal
 abbrev pub is_round_of : OfficeState → BatchEntry → ℕ → Bool
 is_round_of s b round = list_all (is_whole b.size) (keyings_in s b round) && (nat_le b.round round || differ (keyings_in s b round))

@@ -53,7 +53,7 @@ abbrev pub or_reason : Option Reason → Option Reason → Option Reason
 or_reason (Some why) other = Some why
 or_reason None other = other
 
--- the objection to the marks of papers numbered from the given number: the one to the first invalid marks
+-- the objection to the first invalid marks among papers numbered consecutively from the given number
 unfoldable pub first_bad_marks : List ℕ → ℕ → List (List ℕ) → Option Reason
 first_bad_marks columns paper [] = None
 first_bad_marks columns paper (marks ∷ others) = or_reason (marks_objection columns paper marks) (first_bad_marks columns (paper + 1) others)

@@ -67,7 +67,7 @@ pub struct Progress {
     pub elected: Columns,
 }
 
-/// The laws of an office's elections, for use by callers. They hold if numbers are in range, keyings are whole and entries
+/// The laws of an office's elections, for use by callers. They hold if numbers are in range, keyings are complete and entries
 /// are in key order. Then every contested ward has an election that can be counted, and no ward exceeds the limits on seats
 /// and papers. In a state, once every batch of a ward is settled, the ward's valid and rejected papers together make up all
 /// the papers in its batches.

@@ -106,7 +106,7 @@ fn by_marks(marked: &Marked) -> Judgement
     }
 }
 
-/// Judges a paper as keyed; a doubtful paper is open.
+/// Returns the judgement on a paper as it was keyed; a doubtful paper is left open.
 fn by_keyed(keyed: &Keyed) -> Judgement
     ensures { result ≡ by_reading Judgement.Open (Ok keyed.now) }
 {

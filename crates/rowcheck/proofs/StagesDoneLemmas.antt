@@ -79,7 +79,7 @@ module _ (e : ElectionEntry) (ward : WardEntry) (lots : List (ℕ × ℕ)) (cont
   pub count-due : (k : ℕ) → due_after contest (stages_to contest lots k) ≡ due_after (contest_of e) (stages_to (contest_of e) e.lots k)
   count-due = due-alike e (columns_of e.candidates) e.ward.seats (bundled e.ballots.papers) refl refl refl lots of.lots_are contest of.contest_is
 
--- a contest made from the entries of an election is a contest on the election's bundles
+-- a contest made from the entries of an election is a contest with the election's bundles
 pub made-count : (e : ElectionEntry) (ward : WardEntry) (candidates : List CandidateEntry) (ballots : Ballots (List Bundle)) (lots : List (ℕ × ℕ)) (columns : List ℕ) (contest : Contest)
     → IsElectionFrom e ward candidates ballots lots → IsContest (contest_of e) →
     columns ≡ columns_of candidates → contest ≡ contest_for columns ward.seats (papers_of ballots.papers) → IsOnBundlesOf e ward lots contest

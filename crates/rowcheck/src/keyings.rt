@@ -122,7 +122,7 @@ fn are_whole(size: u32, keyings: &RoundKeyings) -> bool
     first & (second & is_whole_if_keyed(size, keyings.third))
 }
 
-/// Returns whether every keying of a round is whole and, if the round is an earlier one, at least two keyings exist and no two are
+/// Returns whether every keying of a round is complete and, if the round is an earlier one, at least two keyings exist and no two are
 /// equal.
 fn is_round_of(rows: &Rows, batch: &Batch, round: u32) -> bool
     requires { MapsAreSorted (state_of rows.now) }
@@ -164,7 +164,7 @@ fn are_rightly_keyed(rows: &Rows, batches: &[Batch]) -> bool
 }
 
 /// Returns whether every keyed paper belongs to an existing batch, one of its rounds and one of its clerks, and has marks that can
-/// be read; whether every keying is whole; and whether the keyings of each earlier round differ. This is the fourth condition on
+/// be read; whether every keying is complete; and whether the keyings of each earlier round differ. This is the fourth condition on
 /// the rows of an office, assuming that its tables are in key order without duplicates.
 pub fn all_keyed(rows: &Rows) -> bool
     requires { MapsAreSorted (state_of rows.now) }

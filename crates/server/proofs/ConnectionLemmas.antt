@@ -23,7 +23,7 @@ use Rattle.connections.specs.Closing.{MayBeClosed}
 use Rattle.server.specs.Servicing.{answer_of}
 use Rattle.server.specs.Exchanges.{Exchange}
 
--- ---- the exchanges under a number
+-- ---- the exchanges with a given number
 
 pub none_under : (number : ℕ) (exchanges : List Exchange) → All (λ (v : Exchange). v.number ≡ number → ⊥) exchanges → exchanges_of number exchanges ≡ []
 none_under number [] others = refl

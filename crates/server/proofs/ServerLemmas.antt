@@ -379,7 +379,7 @@ module _ {L : Type 0} (settings : ServerSettingsEntry) (stream : Stream L) where
     abbrev gated : Bool
     gated = is_some settings.clients.gate
 
-    -- the open connections change this way, whatever time the clock returned last
+    -- the open connections change this way, whatever time the clock most recently returned
     abbrev pub CourseBy : List Exchange → NetworkEntry L → NetworkEntry L → List (Client L) → List (Client L) → Type 0
     CourseBy exchanges before later old new = (from : Option ℕ) → (to : Option ℕ) × Trace gated stream (map response_at exchanges) from to before later old new
 

@@ -70,8 +70,8 @@ impl<A> Clone for OrderContext<'_, A> {
 
 impl<A> Copy for OrderContext<'_, A> {}
 
-/// Prints the response of a closed office. It says that the office is closed, if the order would be carried out otherwise; or
-/// else why the order isn't carried out.
+/// Prints the response of a closed office. It says that the office is closed if the order would otherwise be carried out; if not,
+/// it says why the order isn't carried out.
 fn print_closed<O: Sink, E: Sink>(asked: &ServedOrder<'_>, out: &mut O, err: &mut E) -> u8
     requires out { O.failed out.old < 2 ^ 64 - 1 }
     requires err { E.failed err.old < 2 ^ 64 - 1 }

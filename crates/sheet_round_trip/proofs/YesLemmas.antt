@@ -29,7 +29,7 @@ use Rattle.sheet_round_trip.proofs.FinishedLemmas.{all_drawn, counted, end_alone
 
 -- ---- the sheet and the declaration
 
--- after the ward's line, a sheet continues with the seats,
+-- after the ward's line, a sheet continues with the seats
 below_begins : (ward : SheetEntry) (poll : Option Poll) (stages : List Stage) → get_or (below_ward ward poll stages) 0 0 ≡ 83
 unfolding line
 below_begins ward None stages = refl

@@ -79,7 +79,7 @@ abbrev pub known_at : Pending → Address → Waiting
 known_at pending Ipv4 = pending.ipv4
 known_at pending Ipv6 = pending.ipv6
 
--- what is known after an event has reported the listener with the given token: 0 is the one at 127.0.0.1, 1 the one at [::1], and any other the one for orders
+-- what is known after an event has been reported for the listener with the given token: 0 is the one at 127.0.0.1, 1 the one at [::1], and any other the one for orders
 abbrev pub reported : ℕ → Pending → Pending
 reported token pending =
     if token == 0 then record { ipv4 = waiting.Somebody; ipv6 = pending.ipv6; orders = pending.orders }

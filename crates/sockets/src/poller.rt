@@ -121,7 +121,7 @@ impl Pending {
         }
     }
 
-    /// Records that an event reported the listener with the given token.
+    /// Records that an event was reported for the listener with the given token.
     fn report(&mut self, token: usize)
         ensures { self.new ≡ reported token self.old }
     {

@@ -73,7 +73,7 @@ each_clerk p b third clerk all its = go third all its
           | inr other ↦ elim (or_cases _ _ other) [ inl second ↦ is_second both.1 second | inr third ↦ ap p (eqb-true clerk t.clerk third) ∙ both.0 ]
         ]
 
--- a keying is whole, if it exists
+-- a keying is complete, if it exists
 abbrev whole_if_there : ℕ → List KeyedEntry → Bool
 whole_if_there size keying = not (is_keyed keying) || is_whole size keying
 
@@ -87,7 +87,7 @@ there_whole size f (c ∷ cs) all = go (f c) all (there_whole size f cs)
     go [] all later = later all
     go (k ∷ ks) all later = let both = and_parts _ _ all in and_from _ _ both.0 (later both.1)
 
--- the keying of a round by one of the batch's clerks is whole, if it exists
+-- the keying of a round by one of the batch's clerks is complete, if it exists
 keying_whole : (s : OfficeState) (b : BatchEntry) (round clerk : ℕ) (k : KeyedEntry) (ks : List KeyedEntry) → keying_of s b.number round clerk ≡ k ∷ ks
     → is_its_clerk clerk b (third_at s b.number) ≡ true → is_round_of s b round ≡ true
     → is_whole b.size (k ∷ ks) ≡ true

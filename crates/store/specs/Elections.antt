@@ -15,7 +15,7 @@ use Rattle.register.specs.Tabulated.{PlacedEntry, FigureEntry, tabulation_of, ha
 use Rattle.store.specs.declared.views.papers.BatchPapers.{BatchPapers}
 use Rattle.store.specs.Keyings.{keyings_by}
 
--- the entry of a batch's papers
+-- the entry for a batch's papers
 abbrev pub pile_by : BatchPapers → Pile
 pile_by papers = record { keyings = keyings_by papers.keyings; verdicts = map judged_entry papers.verdicts.items }
 

@@ -15,7 +15,7 @@ use std::time::{Clock, Duration};
 use std::{fmt, io};
 use streams::Broken;
 
-/// A client, or an order: what it sends, and whether it then closes its side. Next, the most bytes available at a time,
+/// A client, or an order: what it sends, and whether it then closes its end of the connection. Next, the most bytes available at a time,
 /// and the most that it accepts at a time. Last, the number of bytes after which reading fails, and the number after
 /// which writing fails.
 #[derive(Clone, Copy, Debug)]
@@ -44,7 +44,7 @@ impl<'a> TestClient<'a> {
         }
     }
 
-    /// Returns an order with the given message; it doesn't close its side.
+    /// Returns an order with the given message; the client doesn't close its end of the connection.
     pub fn order(message: &'a [u8]) -> TestClient<'a> {
         TestClient {
             is_order: true,
@@ -62,7 +62,7 @@ impl<'a> TestClient<'a> {
         }
     }
 
-    /// Returns a client that sends nothing and doesn't close its side.
+    /// Returns a client that sends nothing and doesn't close its end of the connection.
     pub fn silent() -> TestClient<'a> {
         TestClient {
             closes_after_sending: false,

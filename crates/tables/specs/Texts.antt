@@ -58,7 +58,7 @@ abbrev pub range_text : List ℕ → Option (ℕ × ℕ) → List ℕ
 range_text name None = []
 range_text name (Some range) = codes " CHECK (" ++ name ++ codes " BETWEEN " ++ numeral 4 range.0 ++ codes " AND " ++ numeral 4 range.1 ++ codes ")"
 
--- a key of one column is declared next to that column
+-- a single-column key is declared in that column's definition
 abbrev pub key_text : ℕ → List ℕ
 key_text key = if key == 1 then codes " PRIMARY KEY" else []
 

@@ -47,7 +47,7 @@ impl Votes {
         self.0
     }
 
-    /// Writes the whole votes without leading zeros, a decimal point, and five digits.
+    /// Writes the whole votes without leading zeros, then a decimal point and five digits.
     ///
     /// Allocates nothing. Returns `Broken` only if the sink does; the sink has then accepted a prefix of the text, and its count
     /// of failures is one higher.

@@ -10,7 +10,7 @@ use Rattle.wire.specs.Requests.{Asks, HttpRequestEntry, denied, public, public_a
 use Rattle.wire.specs.declared.public_target.PublicTarget.{PublicTarget}
 use Rattle.wire.specs.declared.request_error.RequestError.TheVariants.{NotFound}
 
--- A request whose target names something that is shown in public. If the settings show nothing in public, it is rejected like a request for a target that doesn't
+-- A request whose target names something that is shown publicly. If the settings show nothing publicly, it is rejected like a request for a target that doesn't
 -- exist, whatever its method. Otherwise GET asks for exactly that thing, as the settings define it, with any code or none.
 pub record IsAskedInPublic (settings : HttpSettingsEntry) (method : List ℕ) (what : PublicTarget) (asked : HttpRequestEntry) : Type 0 where
   pub hidden : settings.public ≡ None → asked ≡ denied NotFound

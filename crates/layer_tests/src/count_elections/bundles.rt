@@ -60,7 +60,7 @@ fn add_several(bundles: &mut Bundles, list: Prefs, papers: u32) -> Result<(), Al
     Err(AllocError)
 }
 
-/// Adds equal papers twice, all at once each time.
+/// Adds the given number of equal papers in one call, and then again in another.
 fn add_twice(bundles: &mut Bundles, list: &[u8], papers: u32) -> Result<(), Fail> {
     let list = prefs_of(list)?;
     add_several(bundles, list, papers)?;
