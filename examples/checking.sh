@@ -118,6 +118,24 @@ play_input() {
     play - count tied.txt --lot 2:256
     play - count tied.txt --title Spring
 
+    # cast-vote records, with a candidate in each column
+    printf '%s\n' count,Ann,Bob,Cy 4,1,2, 2,1,,2 1,,1, 2,,,1 1,,2, >"$folder/records.csv"
+    play - count records.csv --seats 2 --name Harbour
+    play - count records.csv --seats 2 --name Harbour --ballots
+    play - count records.csv --seats 2
+    play - count records.csv --seats 16 --name Harbour
+    play - count records.csv
+    printf '%s\n' Ann,Bob 1,2 overvote,1 >"$folder/records.csv"
+    play - count records.csv --seats 1 --name Harbour
+
+    # the same with a rank in each column
+    printf '%s\n' rank1,rank2 Ann,Bob 1,2 Cy, ,Ann Cy,2 >"$folder/records.csv"
+    play - count records.csv --seats 1 --name Harbour
+    play - count records.csv --seats 1 --name Harbour --candidate Ann --candidate Bob --candidate Cy
+    play - count records.csv --seats 1 --name Harbour --candidate Ann --candidate Bob
+    play - count records.csv --candidate Ann
+    play - count records.csv --seats 1 --name Harbour --candidate ''
+
     # an output that fails
     play_full - check ballots.txt sheet.txt
     play_full - check --help

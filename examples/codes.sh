@@ -1,5 +1,5 @@
 #!/usr/bin/env bash
-# Plays clerks' codes, and the office's: a new file of them, files that aren't taken, and who is let in over HTTP, beside wrong codes
+# Plays clerks' codes, and the office's: a new file of them, files that aren't taken, and who is let in over HTTP, along with wrong codes
 # too; and orders of the officer's console.
 # shellcheck source=examples/play.bash
 source "$(dirname "$(readlink -f "${BASH_SOURCE[0]}")")/play.bash"
@@ -110,6 +110,17 @@ at_console() {
     look /office/leave -u office:h4dn-p3cs-kf7m-2wxt
 }
 
+# Each clerk reads an own keying of an earlier round, and no other.
+read_again() {
+    ask /clerks/4/batches/12/keyed -u 4:kf7m-2wxt
+    ask /clerks/4/batches/16/keyed -u 4:kf7m-2wxt
+    play town.db key 9 12 1 1,,2 D --id k1
+    play town.db again 12 --id r1
+    ask /clerks/4/batches/12/keyed -u 4:kf7m-2wxt
+    ask /clerks/9/batches/12/keyed -u 9:w3hd-4psn
+    ask /clerks/9/batches/12/keyed -u 4:kf7m-2wxt
+}
+
 {
     play town.db init
     play town.db ward 7 2 Harbour --id w1
@@ -155,7 +166,7 @@ at_console() {
     play town.db serve "$port" 1 --codes . | sed "s/ $port / PORT /"
 
     (umask 077 && printf '4 kf7m-2wxt\n9 w3hd-4psn\noffice h4dn-p3cs-kf7m-2wxt\n' >"$folder/codes.txt")
-    serve let_in at_console
+    serve let_in at_console read_again
     play evening.db batches 7
     (cd "$folder" && printf '%s\n' ./*.db)
 } >"$folder/played" 2>&1

@@ -8,7 +8,7 @@ ln -s nothing "$folder/link.db"
 printf 'ward,candidate,name\n7,1,Ann\n7,2,Bob\n7,3,Cy\n' >"$folder/names.csv"
 printf 'paper,1,2,3\n1,1,2,\n2,,1,\n' >"$folder/four.csv"
 
-# The office, where no file may grow past 20480 bytes.
+# The office, with a limit of 20480 bytes for each file.
 cramped_office() {
     (ulimit -f 20 && "$launcher" "$@")
 }
@@ -43,7 +43,7 @@ list_files() {
     play town.db copy names.csv/evening.db
     list_files
 
-    # where there is no room, nothing is left
+    # if there is no room, nothing is left
     office=cramped_office play town.db copy evening.db
     list_files
 

@@ -6,7 +6,7 @@ source "$(dirname "$(readlink -f "${BASH_SOURCE[0]}")")/play.bash"
 echo 'Ann, Bob and Cy' >"$folder/names.txt"
 : >"$folder/empty.txt"
 
-# The office, where no file may grow past 1024 bytes.
+# The office, with a limit of 1024 bytes for each file.
 cramped_office() {
     (ulimit -f 1 && "$launcher" "$@")
 }

@@ -1,10 +1,10 @@
 #!/usr/bin/env bash
-# Plays docs/ELECTION.md: types each command line that the guide shows, in its order, over the files that it shows. What is
-# printed is compared with what the guide says, and, with the status of each line, with guide.expected.
+# Plays docs/officer/by-words.md, and putting-right.md after it: types each command line that they show, in its order, over the files
+# that they show. What is printed is compared with what they say, and, with the status of each line, with guide.expected.
 # shellcheck source=examples/play.bash
 source "$(dirname "$(readlink -f "${BASH_SOURCE[0]}")")/play.bash"
 
-guide=$here/../docs/ELECTION.md
+guide=$here/../docs/officer
 # The guide serves on port 8080. Here it is a port that nothing answers on.
 port=8080
 
@@ -65,7 +65,7 @@ play_guide() {
         block=${line:3}
         # A file that is shown again is another one.
         case $block in 'csv '* | 'text '*) : >"${block#* }" ;; esac
-    done 3<"$guide"
+    done 3< <(cat "$guide"/{by-words,putting-right}.md)
 }
 
 cd "$folder"

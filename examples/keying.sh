@@ -17,7 +17,7 @@ file thirteen.csv paper,1,2,3 1,,1, 2,3,2,1 3,1,,
 file unlike.csv paper,1,2,3 1,,1, 2,3,2,1 3,1,2,
 file bad.csv paper,1,2,3 1,,1, 2,3,2,100 3,1,,
 printf 'paper,1,2,3\n1,1,2,\n2,D' >"$folder/cut.csv"
-# what a spreadsheet may have done: semicolons, spaces, UTF-16, and a row of commas behind the last paper
+# what a spreadsheet may have done: semicolons, spaces, UTF-16, and a row of commas after the last paper
 file semicolons.csv 'paper;1;2;3' '1;1;2;' '2;D;;'
 file spaces.csv 'paper, 1, 2, 3' '1, 1, 2,' '2, D,,'
 printf '\377\376p\0a\0p\0e\0r\0,\0001\0\n\0' >"$folder/utf-16.csv"

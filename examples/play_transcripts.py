@@ -4,7 +4,7 @@
 usage: examples/play_transcripts.py [NAME..]        the transcripts of these names, or all; prints a line for each
        COUNT_OFFICE names the program, and CHECK_COUNT the checker, or they are those of `./count-office`
 
-transcript.py says what a transcript is. Where a play left an office that orders made, its journal is then sent to a new file: it makes
+transcript.py says what a transcript is. If a play left an office that orders made, its journal is then sent to a new file: it makes
 the same rows there. Ends with status 1 where the program prints anything else.
 """
 import contextlib
@@ -75,7 +75,7 @@ def change(folder, statements):
 
 
 def files(folder):
-    """The files that an order may not leave where it fails; a log beside a file that is there is no such one."""
+    """The files that an order may not leave if it fails; a log next to a file that exists is no such one."""
     names = {path.name for path in folder.iterdir()}
     return {name for name in names if name.removesuffix("-wal") not in names or not name.endswith("-wal")}
 
@@ -127,7 +127,7 @@ def received(line, sends):
 
 
 def ask(folder, sends):
-    """Serves one client, who sends these bytes: what he is answered."""
+    """Serves one client, which sends these bytes, and returns the response."""
     for _ in range(10):
         with socket.socket() as listener:
             listener.bind(("127.0.0.1", 0))
@@ -286,7 +286,7 @@ def journalled(folder):
 
 
 def play(root, one, made_otherwise):
-    """Plays a play in its folder: what is wrong in it, if anything is. Some were made otherwise than by orders, which it may go on with."""
+    """Plays a play in its folder: what is wrong in it, if anything is. Some were made otherwise than by orders, and it may continue with those."""
     folder = root / one.name
     try:
         if one.begins_with:

@@ -7,7 +7,7 @@ source "$(dirname "$(readlink -f "${BASH_SOURCE[0]}")")/play.bash"
 port=$((20000 + RANDOM % 20000))
 server=
 
-# Whoever serves ends with the example.
+# A program that serves ends with the example.
 stop() {
     if [[ -n $server ]]; then
         kill -KILL "$server" 2>/dev/null || true
@@ -130,7 +130,7 @@ CSV
     play town.db journal
     play town.db declare 7 --id d1
     ask /wards/7/result
-    # it is killed: its socket stays, and orders go on without it
+    # it is killed: its socket stays, and orders continue without it
     stop
     look
     play town.db status 7

@@ -2,19 +2,19 @@
 
 A transcript has plays, each over a new file, in a folder of its own:
 
-    == play NAME[, from OTHER]     it goes on with the office as the play OTHER of this file left it
+    == play NAME[, from OTHER]     it continues with the office as the play OTHER of this file left it
     == part NAME                   what is asked and printed in several plays: `== may change, part NAME`
     == changes nothing             of what follows: no row of any table is another then
     == may change
     == damage: WORDS               each change that follows is made alone, in a copy, and the words then print what stands
                                    below; after a status that isn't 0 all rows are as they were
-    == copied                      of the two orders that follow, both copies to copy.db: the same rows are in both, and it goes on
+    == copied                      of the two orders that follow, both copies to copy.db: the same rows are in both, and it continues
                                    with that file
     == older office                the file of an office that an earlier program made
 
-    $ import-keying 4 12 1 FILE --id k1    words behind DB, each parted from the next by one space; `$$ ..` as a shell parts them
-    < paper,1,2,3                          a line of the file that the words name (behind `<<` without the line's end, `~` for a byte
-    < 1,1,2,                               that is no UTF-8; behind `<\\ ` without it too, with \\r, \\t, \\n and \\xff; behind
+    $ import-keying 4 12 1 FILE --id k1    words after DB, each parted from the next by one space; `$$ ..` as a shell parts them
+    < paper,1,2,3                          a line of the file that the words name (after `<<` without the line's end, `~` for a byte
+    < 1,1,2,                               that is no UTF-8; after `<\\ ` without it too, with \\r, \\t, \\n and \\xff; after
                                            `<* 100 ` so many times)
     batch 12 round 1 keyed                 what goes to the output
     = names.csv                            lines of a file that stays there for the play
@@ -33,7 +33,7 @@ A transcript has plays, each over a new file, in a folder of its own:
     {"refusal":3,"text":"number out of range"}
     -- a note
 
-Behind a status that isn't 0 there is no file that wasn't there before.
+After a status that isn't 0 there is no file that wasn't there before.
 """
 import re
 import shlex

@@ -46,7 +46,7 @@ begin() {
     { rm -rf "$out/new" && mkdir -p "$out/new"; } || fail "cannot write to $out: make the first call as a user who can"
 }
 
-# Puts the programs of out/new in their place. BUILT-FROM is removed first and put last, so it is never beside programs of other sources.
+# Puts the programs of out/new in their place. BUILT-FROM is removed first and put last, so it is never next to programs of other sources.
 put() {
     "$out/new/count-office" --version >/dev/null || fail "this machine can't run $out/new/count-office, which is for Linux on x86-64"
     { sync "$out"/new/* && rm -f "$out/BUILT-FROM" "$out/listing" && mv -f "$out/new/count-office" "$out/new/check-count" "$out" &&

@@ -76,5 +76,5 @@ class Browser:
         ActionChains(self.driver).send_keys(*(key if len(key) == 1 else getattr(Keys, key.upper()) for key in keys)).perform()
 
     def said(self):
-        """Returns what its console was told since the last call."""
+        """Returns what its console logged since the last call."""
         return [entry["message"] for entry in self.driver.get_log("browser")]

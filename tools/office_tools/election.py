@@ -1,8 +1,6 @@
 """Small elections: one, order by order, for tools that make its orders fail; one ward, as others begin it; and an evening with codes."""
-import contextlib
 import os
 import shlex
-import sqlite3
 from dataclasses import dataclass
 
 from office_tools.office import NO_OFFICE, SCRIPT, TOWN, Office, ended
@@ -19,6 +17,16 @@ def ward_orders(*batches, candidates=("Ann", "Bob", "Cy"), seats=2, ward=7, name
     nominated = [f"candidate --id c{ward}-{number} -- {ward} {number} {shlex.quote(name)}" for number, name in enumerate(candidates, 1)]
     given_out = [f"batch {batch} {ward} {size} {first} {second} --id b{batch}" for batch, size, first, second in batches]
     return [f"ward {ward} {seats} {shlex.quote(name)} --id w{ward}", *nominated, f"close {ward} --id n{ward}", *given_out]
+
+
+def marks_of(order, columns):
+    """Returns the marks of a paper on which the candidates of these columns are ranked in this order."""
+    return ",".join(str(order.index(column) + 1) if column in order else "" for column in range(columns))
+
+
+def keyed(batch, papers, clerks=(4, 9)):
+    """Returns the orders by which clerks key the same papers in a batch's first round."""
+    return [f"key {clerk} {batch} 1 {' '.join(papers)} --id k{batch}" for clerk in clerks]
 
 
 def keying(papers, columns):
@@ -70,8 +78,9 @@ class Order:
 def election(copies=1):
     """Returns the orders of an election of two seats, with nine valid papers, or so many copies of them, and a doubtful one.
 
-    The first candidate has the quota, the fourth is excluded, and a lot is drawn between the two others. The second clerk errs once; a
-    third one is set, and all three may key again.
+    The batch is given out once more by a file, under the id that it has, which does nothing. The first candidate has the quota, the
+    fourth is excluded, and a lot is drawn between the two others. The second clerk errs once; a third one is set, and all three may
+    key again.
     """
     papers = (["1,,,"] * 4 + [",1,,", ",1,,2", ",,1,", ",,1,", ",,,1"]) * copies + ["D"]
     right, wrong, size = keying(papers, range(1, 5)), keying(["1,2,,", *papers[1:]], range(1, 5)), len(papers)
@@ -79,12 +88,14 @@ def election(copies=1):
     lot = 3 if copies == 1 else 4
     lines = [
         "init", "ward 7 2 Harbour --id w1", f"import-candidates {FILE} --id c", "withdraw 7 4 --id x1", "candidate 7 4 Dee --id c4",
-        "close 7 --id n1", f"batch 12 7 {size} 4 9 --id b1", f"import-keying 4 12 1 {FILE} --id k1", f"import-keying 9 12 1 {FILE} --id k1",
+        "close 7 --id n1", f"batch 12 7 {size} 4 9 --id b-1", f"import-keying 4 12 1 {FILE} --id k1",
+        f"import-keying 9 12 1 {FILE} --id k1", f"import-batches {FILE} --id b",
         "third 12 5 --id t1", "again 12 --id g1", f"import-keying 4 12 2 {FILE} --id k2", f"key 9 12 2 {' '.join(papers)} --id k2",
         f"judge 12 {size} reject:5 --id j1", "seal 7 --id s1", *(f"advance 7 --id a{stage}" for stage in range(1, lot)),
         f"lot 7 {lot} 2 --id l{lot}", "count 7 --id a", "declare 7 --id d1",
     ]
-    files = {2: ["ward,candidate,name", *(f"7,{c},Candidate {c}" for c in range(1, 5))], 7: right, 8: wrong, 11: right}
+    batches = ["batch,ward,size,first clerk,second clerk", f"12,7,{size},4,9"]
+    files = {2: ["ward,candidate,name", *(f"7,{c},Candidate {c}" for c in range(1, 5))], 7: right, 8: wrong, 9: batches, 12: right}
     return [Order(line.split(), files.get(number)) for number, line in enumerate(lines)]
 
 
@@ -96,8 +107,8 @@ REPLAY = Order(["replay", SCRIPT], ["# the last candidate, a batch, and the firs
 COPYING = Order(["copy", COPY])
 # Orders that change nothing, each with the number of the order before which it is tried.
 READS = [(number, Order(line.split())) for number, line in (
-    (END, "status 7"), (END, "sheet 7"), (END, "result 7"), (17, "advance 7 --id a3"), (17, "next 7"), (0, "status 7"), (END, "wards"),
-    (END, "receipts"), (END, "journal"), (13, "batches 7"), (13, "doubtful 7"), (9, "differences 12"), (13, "papers 12"))]
+    (END, "status 7"), (END, "sheet 7"), (END, "result 7"), (18, "advance 7 --id a3"), (18, "next 7"), (0, "status 7"), (END, "wards"),
+    (END, "receipts"), (END, "journal"), (14, "batches 7"), (14, "doubtful 7"), (9, "differences 12"), (14, "papers 12"))]
 # The same of requests; the keying is that of the order 8.
 KEYING = '{"id":"k1","round":1,"papers":["1,2,,",%s"D"]}' % "".join(f'"{line.split(",", 1)[1]}",' for line in ELECTION[8].lines[2:-1])
 REQUESTS = [(number, Order([f"{'POST' if body else 'GET'} {target}"], sends=request(target, body=body))) for number, target, body in (
@@ -121,17 +132,13 @@ def earlier_office(folder):
     return office
 
 
-def execute(path, *statements):
-    """Executes statements on a database."""
-    with contextlib.closing(sqlite3.connect(path)) as base, base:
-        for statement in statements:
-            base.execute(statement)
-
-
+TITLE = "Election of 6 May 2027, Harbour Council"
 CODES = {4: "kf7m-2wxt-h4dn", 9: "w3hd-4psn-7kfr"}
 OFFICE_CODE = "kf7m-2wxt-h4dn-p3cs"
 SMALL = ["Ann", "Bob", "Cy", "Dee", "Maximiliane Oberhuber-Featherstonehaugh of the Old Harbour Road"]
 LARGE = [*(f"Candidate {c}" for c in range(1, 29)), "<img src=x onerror=document.title='marked'>", "\u202eesrever\u2066 in"]
+# Names that look like markup, change the direction of writing, or are as long as they may be.
+HOSTILE = [*LARGE[-2:], "A" * 120, "\u05d0" * 60, "Maximiliane " * 9 + "Oberhuber-F.", "=1+1", "\u0627\u062d\u0645\u062f, 2 Bob", "\u0085x"]
 
 
 def evening_office(folder, codes=None):

@@ -18,7 +18,7 @@ from office_tools.web import HERE, answer
 ROOT = Path(__file__).resolve().parents[2]
 TOWN, LOG, SCRIPT = "town.db", "town.db-wal", "orders.txt"
 SECONDS = 60
-# As many connections as `serve` may be told. Without this word there is no limit; programs up to 1.6.0 want it.
+# The largest number of connections that `serve` accepts. Without this word there is no limit; programs up to 1.6.0 want it.
 CONNECTIONS = 1000000
 STORE, NO_OFFICE = "fault 102: store\n", "fault 105: wrong database\n"
 PORTS = itertools.count()
@@ -41,6 +41,12 @@ def program(variable="COUNT_OFFICE"):
         return os.path.realpath(named)
     subprocess.run([ROOT / "count-office", "--help"], stdout=subprocess.DEVNULL, check=True)
     return str(ROOT / "out" / variable.lower().replace("_", "-"))
+
+
+def checker(*words, **how):
+    """Runs the program that needs no office, and returns its status and both outputs, as bytes."""
+    ran = subprocess.run([program("CHECK_COUNT"), *words], capture_output=True, timeout=SECONDS, check=False, **how)
+    return ran.returncode, ran.stdout, ran.stderr
 
 
 def needs(*commands):

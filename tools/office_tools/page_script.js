@@ -3,78 +3,18 @@
 'use strict';
 
 const assert = require('node:assert/strict');
-const {readFileSync} = require('node:fs');
-const {JSDOM, VirtualConsole} = require('jsdom');
+const {Window: PlainWindow, all, main, opened: ready, settled} = require('./script_plays.js');
 
-// What broke on a page outside a play.
-let broken = null;
-process.on('unhandledRejection', (error) => { broken = error; });
-const noting = new VirtualConsole();
-noting.on('jsdomError', (error) => { broken = error; });
-
-// Lets everything run that waits for nothing but its turn.
-const settled = async () => { for (let turn = 0; turn < 12; turn += 1) await new Promise(setImmediate); };
-const all = (element, selector) => [...element.querySelectorAll(selector)];
-
-// A window that shows a page. `office` responds to its requests: with a status and what it says, or null if the line breaks. Its clock
-// is its own, and it may have the storage of another window.
-class Window {
+// A window that shows the page on which a clerk keys.
+class Window extends PlainWindow {
   constructor(page, office, {clerk = 4, batch = '', storage} = {}) {
-    Object.assign(this, {office, timers: new Map(), now: 0, asked: []});
-    const beforeParse = (window) => this.prepare(window, storage);
-    const words = {url: `http://127.0.0.1:8080/clerks/${clerk}/${batch}`, runScripts: 'dangerously', virtualConsole: noting, beforeParse};
-    const {window} = new JSDOM(page.replace(/<style>[^]*<\/style>/, ''), words);
-    Object.assign(this, {window, document: window.document, storage: window.localStorage});
+    super(page, office, {url: `http://127.0.0.1:8080/clerks/${clerk}/${batch}`, storage});
   }
 
-  prepare(window, storage) {
-    window.HTMLElement.prototype.scrollIntoView = () => {};
-    if (storage) Object.defineProperty(window, 'localStorage', {value: storage});
-    window.fetch = (address, options) => this.fetched(address.replace(window.location.origin, ''), options);
-    window.setTimeout = (act, wait) => (wait ? this.timers.set(act, this.now + wait) && act : setImmediate(act));
-    window.clearTimeout = (timer) => this.timers.delete(timer);
-  }
-
-  async fetched(target, {method = 'GET', body, ...rest}) {
-    this.asked.push({method, target, body, ...rest});
-    const answer = await this.office({method, target});
-    if (!answer) throw new TypeError('the line broke');
-    return {status: answer.status, json: async () => JSON.parse(JSON.stringify(answer.says))};
-  }
-
-  // Lets some seconds pass.
-  async pass(seconds) {
-    this.now += 1000 * seconds;
-    for (const [act, at] of [...this.timers]) if (at <= this.now && this.timers.delete(act)) act();
-    await settled();
-  }
-
-  at(id) {
-    return this.document.getElementById(id) ?? assert.fail(`the page has no ${id}`);
-  }
-
-  // Presses keys at whatever has the focus, with what a browser does by itself then. `more` is what else their events say.
-  async press(keys, more = {}) {
-    for (const key of keys) {
-      const target = this.document.activeElement;
-      const event = new this.window.KeyboardEvent('keydown', {key, bubbles: true, cancelable: true, ...more});
-      const isOwn = target.dispatchEvent(event);
-      if (isOwn && target.tagName === 'BUTTON' && key === 'Enter') target.click();
-      if (isOwn && target.tagName === 'INPUT' && key.length === 1) target.value += key;
-      await settled();
-    }
-  }
-
-  async click(id) {
-    assert.equal(this.at(id).closest('[hidden]'), null, `${id} isn\u2019t shown`);
-    this.at(id).click();
-    await settled();
-  }
-
-  text(id) { return this.at(id).textContent; }
   listed() { return all(this.at('list'), 'li').map(({textContent}) => textContent); }
   drafts() { return Object.values(this.storage).map((text) => JSON.parse(text)); }
   papers() { return this.drafts().map(({rows}) => rows.map(({text}) => text)); }
+  marks() { return all(this.at('read-marks'), 'li').map(({textContent}) => textContent); }
   sent() { return this.asked.filter(({method}) => method === 'POST').map(({target, body}) => ({target, ...JSON.parse(body)})); }
 }
 
@@ -89,27 +29,29 @@ const DENIED = {status: 401, says: {error: 'unauthorized'}};
 const TOO_MANY = {status: 429, says: {error: 'too many wrong codes'}};
 const PAPERS = ['1,2,', ',,12', 'D'];
 const KEYS = [['1', '2', 'Enter'], ['0', '0', '.', '1', '2', 'Enter'], ['d', 'Enter']];
-const SENT = 'Batch 13: ward 7, round 1, 2 papers. The office has your keying.';
+const NAMED = 'ward 7 Old Town <i>&, round 1';
+const SENT = `Batch 13: ${NAMED}, 2 papers. The office has your keying.`;
 
-// An office that responds to keyings as it is told, one after another, and to the rest as it should.
-const officeOf = (...answers) => async ({method, target}) => {
+// An office that responds to keyings with the given answers, one after another, and to the rest as it should. `says` is the clerk's
+// work, and the clerk's keying of an earlier round.
+const officeWith = (says, ...answers) => async ({method, target}) => {
   if (method === 'POST') return answers.shift();
-  if (target === '/clerks/4/work') return {status: 200, says: {clerk: 4, work: WORK}};
+  if (target === '/clerks/4/work') return {status: 200, says: {clerk: 4, work: says.work}};
+  if (target === '/clerks/4/batches/12/keyed') return {status: says.keyed ? 200 : 404, says: says.keyed ?? {error: 'not found'}};
   if (target === '/clerks/4/batches/12/candidates') return {status: 200, says: CANDIDATES};
   return {status: 200, says: {left: true}};
 };
+const officeOf = (...answers) => officeWith({work: WORK}, ...answers);
+// An office in whose second round the clerk of batch 12 is.
+const secondRound = (keyed, ...answers) => officeWith({work: [{...OPEN, round: 2}], keyed}, ...answers);
 
-const opened = async (page, office, how) => {
-  const window = new Window(page, office, how);
-  await settled();
-  return window;
-};
+const opened = (page, office, how) => ready(new Window(page, office, how));
 
 // A window in which batch 12 is open, at its first paper.
 const begun = async (page, ...answers) => {
   const window = await opened(page, officeOf(...answers));
   await window.press(['Enter', 'Enter']);
-  assert.equal(window.text('paper'), 'Paper 1 of 3');
+  window.sees({paper: 'Paper 1 of 3'});
   return window;
 };
 
@@ -117,17 +59,14 @@ const begun = async (page, ...answers) => {
 const finished = async (page, ...answers) => {
   const window = await begun(page, ...answers);
   await window.press(KEYS.flat());
-  assert.equal(window.at('end').hidden, false, 'the batch is at its end');
-  assert.deepEqual(window.sent(), [], 'nothing is sent before the clerk says so');
+  window.sees({'end hidden': false, sent: []});
   return window;
 };
 
-// Nothing was kept, and the clerk sees that: his draft is there, and he may send it again.
+// Nothing was kept, and the clerk sees that: the draft is there, and can be sent again.
 const assertNotKept = (window, words) => {
   assert.doesNotMatch(window.text('said'), /has kept it|is kept\b/, 'a keying that the office didn\u2019t keep is shown as kept');
-  assert.match(window.text('said'), words);
-  assert.deepEqual(window.papers(), [PAPERS], 'the draft stays');
-  assert.equal(window.at('send').disabled, false, 'the draft can be sent again');
+  window.sees({said: words, papers: [PAPERS], 'send disabled': false});
 };
 
 const PLAYS = {
@@ -136,12 +75,11 @@ const PLAYS = {
     const office = officeOf();
     const window = await opened(page, async (asked) => answers.shift() ?? office(asked));
     for (const words of [/code is wrong, or none was sent/, /code is wrong, and very many wrong codes/]) {
-      assert.match(window.text('asked'), words);
-      assert.deepEqual(window.listed(), []);
+      window.sees({asked: words, listed: []});
       await window.click('look');
     }
-    assert.deepEqual(window.listed(), ['Batch 12 ward 7, round 1, 3 papers.', SENT]);
-    assert.deepEqual([window.text('who'), window.document.title], ['clerk 4', 'Clerk 4: keying']);
+    window.sees({listed: [`Batch 12 ${NAMED}, 3 papers.`, SENT], who: 'clerk 4'});
+    assert.equal(window.document.title, 'Clerk 4: keying');
   },
   'papers are keyed, sent once as they were keyed, and shown as kept; nothing else is asked but what is its clerk\u2019s': async (page) => {
     const window = await finished(page, KEPT);
@@ -150,8 +88,7 @@ const PLAYS = {
     const [{id, ...keying}, ...more] = window.sent();
     assert.deepEqual([keying, more], [{target: '/clerks/4/batches/12/keying', round: 1, papers: PAPERS}, []]);
     assert.match(id, /^page-12-1-[a-z0-9]{16}$/);
-    assert.match(window.text('said'), /^The office has kept it: batch 12 round 1 keyed/);
-    assert.deepEqual(window.drafts(), [], 'no draft stays of what was kept');
+    window.sees({said: /^The office has kept it: batch 12 round 1 keyed/, drafts: []});
     await window.click('leave');
     await window.click('go-away');
     assert.match(window.document.body.textContent, /Clerk 4 has left/);
@@ -164,19 +101,19 @@ const PLAYS = {
     for (const words of [/refused it: wrong number of papers \(refused 17\)/, /code is wrong, or none was sent/, /very many wrong codes/]) {
       await window.press('s');
       assertNotKept(window, words);
-      assert.equal(window.at('back').disabled, false, 'what was refused can be changed');
+      window.sees({'back disabled': false});
       await window.pass(120);
     }
     assert.equal(window.sent().length, 3, 'nothing of it is sent again by itself');
     await window.press('s');
-    assert.match(window.text('said'), /has kept it/);
+    window.sees({said: /has kept it/});
   },
   'a keying without an answer is sent again, the same, until there is one': async (page) => {
     const window = await finished(page, FAILED, null, {status: 200, says: {reply: 'batch 13 round 1 keyed'}}, REFUSED);
     await window.press('s');
     for (const seconds of [5, 10, 20]) {
       assertNotKept(window, new RegExp(`sent again as it is every ${seconds} seconds`));
-      assert.equal(window.at('back').disabled, true, 'what may have been kept can\u2019t be changed');
+      window.sees({'back disabled': true});
       await window.pass(seconds);
     }
     const [first, ...others] = window.sent();
@@ -186,19 +123,15 @@ const PLAYS = {
     await later.press('s');
     await later.pass(5);
     assert.deepEqual(later.sent().at(-1), first);
-    assert.match(later.text('said'), /has kept it/);
-    assert.deepEqual(later.drafts(), []);
+    later.sees({said: /has kept it/, drafts: []});
   },
   'names are shown as they are, and none is markup': async (page) => {
     const window = await begun(page);
-    const names = all(window.at('heads'), 'bdi');
-    assert.deepEqual(names.map(({textContent}) => textContent), NAMES);
-    assert.ok(names.every(({children}) => children.length === 0));
+    assert.deepEqual(all(window.at('heads'), 'bdi').map(({textContent, children}) => [textContent, ...children]), NAMES.map((it) => [it]));
     const labels = NAMES.map((name, place) => `Paper 1, candidate ${place + 1} \u2068${name}\u2069`);
     assert.deepEqual(all(window.at('rows'), 'input').map(({ariaLabel}) => ariaLabel), labels, 'what a screen reader gets');
-    assert.equal(window.text('which'), 'Batch 12, round 1, ward 7 Old Town <i>&');
     await window.press('1');
-    assert.equal(window.text('cursor'), `2 ${NAMES[1]}`);
+    window.sees({which: 'Batch 12, round 1, ward 7 Old Town <i>&', cursor: `2 ${NAMES[1]}`});
   },
   'the paper that is asked for is shown, and it is the one that is keyed': async (page) => {
     const window = await begun(page);
@@ -211,10 +144,9 @@ const PLAYS = {
     ]) {
       await window.press(keys);
       const now = window.at('rows').querySelector('.now');
-      const shown = [window.text('paper'), now.querySelector('th').textContent, ...all(now, 'input').map(({value}) => value)];
-      assert.deepEqual(shown, [`Paper ${paper} of 3`, String(paper), ...marks]);
+      assert.deepEqual([now.querySelector('th').textContent, ...all(now, 'input').map(({value}) => value)], [String(paper), ...marks]);
       assert.equal([...window.at('rows').rows].indexOf(now), 3, 'the current row is at the same height as ever');
-      assert.deepEqual(window.papers(), [papers]);
+      window.sees({paper: `Paper ${paper} of 3`, papers: [papers]});
     }
   },
   'a key that isn\u2019t taken says why, and changes nothing': async (page) => {
@@ -223,11 +155,10 @@ const PLAYS = {
       [['Enter'], /Nothing is keyed for paper 1/, ',,'], [['x'], /The key x means nothing here/, ',,'],
       [['ArrowLeft'], /Num Lock is off/, ',,', {code: 'Numpad4'}], [['1', 'Enter'], /Num Lock is off/, ',,', {repeat: true}],
       [['1', 'Tab', '2', 'End'], /isn\u2019t ended. Enter ends it/, '1,2,'], [['0', '4'], /at its end, and another key came/, '1,2,'],
-      [['Enter'], /at its end, and another key came/, '1,2,'], [['Backspace', 'Backspace', '.', '0'], /No mark begins with 0/, '1,2,'],
+      [['Enter'], /at its end, and another key came/, '1,2,'], [['Backspace', 'Backspace', '.', '0'], /A mark never begins with 0/, '1,2,'],
     ]) {
       await window.press(keys, more);
-      assert.match(window.text('notice'), words);
-      assert.deepEqual([window.text('paper'), window.papers()], ['Paper 1 of 3', [[text]]]);
+      window.sees({notice: words, paper: 'Paper 1 of 3', papers: [[text]]});
     }
   },
   'a clerk goes on where he was in a page that is loaded again, and another one in that browser sees nothing of it': async (page) => {
@@ -235,21 +166,87 @@ const PLAYS = {
     await before.press([...KEYS[0], '0']);
     const {storage} = before;
     const own = await opened(page, officeOf(), {storage});
-    assert.match(own.text('list'), /1 keyed here/);
-    const other = await opened(page, async () => ({status: 200, says: {clerk: 9, work: WORK.slice(1)}}), {clerk: 9, storage});
-    assert.deepEqual(other.listed(), [SENT]);
-    assert.deepEqual(other.asked.map(({target}) => target), ['/clerks/9/work']);
+    own.sees({list: /1 keyed here/});
+    const says = {clerk: 9, work: WORK.slice(1), ...CANDIDATES};
+    const other = await opened(page, async () => ({status: 200, says}), {clerk: 9, storage});
+    other.sees({listed: [SENT]});
+    assert.deepEqual(other.asked.map(({target}) => target), ['/clerks/9/work', '/clerks/9/batches/13/candidates']);
     const window = await opened(page, officeOf(), {batch: '#12', storage});
     before.window.dispatchEvent(new before.window.StorageEvent('storage', {key: 'keying 4 12 1'}));
     await settled();
-    assert.match(before.text('asked'), /Batch 12 was opened in another window/);
-    assert.equal(window.text('paper'), 'Paper 2 of 3');
+    before.sees({asked: /Batch 12 was opened in another window/});
+    window.sees({paper: 'Paper 2 of 3'});
     await window.press([...KEYS[1].slice(1), ...KEYS[2]]);
-    assert.deepEqual(window.papers(), [PAPERS]);
+    window.sees({papers: [PAPERS]});
+  },
+  'an earlier keying is gone through paper by paper, mended, and sent as the keying of the new round': async (page) => {
+    const office = secondRound({batch: 12, round: 1, papers: PAPERS}, {status: 200, says: {reply: 'batch 12 round 2 keyed'}});
+    const before = await opened(page, office);
+    await before.press(['Enter', 'Enter', '3', 'Enter', 'Enter'], {repeat: true});
+    await before.press(['5']);
+    before.sees({'start-title': /round 2/, notice: /as you keyed it in round 1/});
+    for (const [keys, paper, lines, more] of [
+      [['Enter'], 2, ['12 <img src=x onerror=alert(1)>']], [['Enter', 'Enter'], 2, ['12 <img src=x onerror=alert(1)>'], {repeat: true}],
+      [['Backspace'], 1, ['1 Ann', `2 ${NAMES[1]}`]], [['Delete', '0', '1', 'ArrowDown'], 2, ['12 <img src=x onerror=alert(1)>']],
+    ]) {
+      await before.press(keys, more);
+      before.sees({paper: `Paper ${paper} of 3`, marks: lines});
+    }
+    const window = await opened(page, office, {batch: '#12', storage: before.storage});
+    await window.press(['ArrowDown', 'Enter']);
+    // Each paper must be looked at.
+    window.sees({paper: 'Paper 1 of 3', done: /^1 of 3 looked at/});
+    await window.press(['Enter', 'Enter', 'Enter', 's']);
+    const [{id, ...sent}] = window.sent();
+    assert.deepEqual(sent, {target: '/clerks/4/batches/12/keying', round: 2, papers: [',1,', ...PAPERS.slice(1)]});
+    assert.match(id, /^page-12-2-[a-z0-9]{16}$/);
+    window.sees({summary: /Corrected: 1 paper, by number 1$/});
+    assert.deepEqual(new Set([...before.asked, ...window.asked].map(({target}) => target.replace('/clerks/4/', ''))),
+      new Set(['work', 'batches/12/candidates', 'batches/12/keyed', 'batches/12/keying']));
+  },
+  'who has no earlier keying keys from the papers, and whoever can\u2019t have it is told so': async (page) => {
+    for (const keyed of [undefined, {batch: 12, round: 2, papers: PAPERS}, {batch: 12, round: 1, papers: ['1,2,']}]) {
+      const window = await opened(page, secondRound(keyed));
+      await window.press(['Enter']);
+      assert.ok(window.at('through').closest('[hidden]'), 'nothing can be gone through');
+      window.sees(keyed ? {asked: /can\u2019t be opened/} : {anew: /Key every paper again/});
+    }
+  },
+  'a draft goes on after the number of papers was put right': async (page) => {
+    const before = await begun(page);
+    await before.press([...KEYS[0], ...KEYS[1]]);
+    for (const [size, first, keys, then] of [
+      [4, {notice: /The batch has 4 paper/}, ['Enter'], {notice: /Nothing is keyed for paper 3/}],
+      [1, {notice: /The batch has 1 paper/}, ['End'], {notice: /2 papers are keyed here, and the batch has 1/}],
+      [2, {'end hidden': false}, ['ArrowUp', 'End'], {'end-title': /2 papers keyed/}],
+    ]) {
+      const window = await opened(page, officeWith({work: [{...OPEN, size}]}), {batch: '#12', storage: before.storage});
+      window.sees(first);
+      await window.press(keys);
+      window.sees(then);
+      assert.deepEqual(window.papers()[0].slice(0, 2), PAPERS.slice(0, 2));
+    }
+  },
+  'the list follows the office by itself, and leaves the cursor where it is': async (page) => {
+    const says = {work: WORK};
+    let isThere = true;
+    const window = await opened(page, async (asked) => (isThere ? officeWith(says)(asked) : null));
+    says.work = [{...OPEN, batch: 11}, ...WORK];
+    await window.pass(30);
+    assert.deepEqual([window.listed().length, window.document.activeElement.value], [3, '12']);
+    for (isThere of [false, true]) {
+      await window.pass(30);
+      assert.equal(/office is not responding/.test(window.text('asked')), !isThere);
+      assert.equal(window.listed().length, 3);
+    }
+    await window.press(['Enter']);
+    const {length} = window.asked;
+    await window.pass(120);
+    assert.equal(window.asked.length, length, 'nothing is asked while a batch is open');
   },
 };
 
-// What somebody tired or hostile might write in the page: a text that stands there once, and what is written in its place.
+// What somebody tired or hostile might write in the page: a text that is there once, and what is written in its place.
 const PLANTED = {
   'a refused keying is shown as kept': ['if (kept) return showKept(kept);', 'if (kept || refusal) return showKept(kept);'],
   'whatever is answered by 200 is kept': [' && answer.says?.reply === `batch ${batch} round ${round} keyed`', ''],
@@ -269,31 +266,15 @@ const PLANTED = {
   'the name of another candidate is shown': ['name: shownName(names.get(number))', 'name: shownName(names.get(1))'],
   'the keying of another batch is sent': ['ask(`batches/${sent.batch}/keying`', 'ask(`batches/13/keying`'],
   'the office is asked for another clerk\u2019s work': ['await ask(\'work\')', 'await ask(\'../9/work\')'],
+  'an earlier keying is sent without a look at its papers': ['state: EARLIER, column', 'state: KEYED, column'],
+  'what is mended isn\u2019t sent': ['papers: rows.map((it) => it.text)', 'papers: rows.map((it) => it.was ?? it.text)'],
+  'an earlier keying is shown beside other names': ['isolated(candidates[column].name))]', 'isolated(candidates[0].name))]'],
+  'the keying of another clerk is gone through': ['ask(`batches/${work.batch}/keyed`)', 'ask(`../9/batches/${work.batch}/keyed`)'],
+  'a keying of this round is gone through': ['says.round < round', 'says.round <= round'],
+  'a draft of too many papers is sent': ['rows.length === size && rows.every', 'rows.every'],
+  'the list stays as it was': ['timer = setTimeout(refresh, 1000 * REFRESH);', ''],
+  'the list is asked for while a batch is open': ['clearTimeout(timer);\n  turns += 1;\n  const turn', 'turns += 1;\n  const turn'],
   'the script ends in an error': ['at(\'who\').textContent', 'at(\'whom\').textContent'],
 };
 
-// Yields why plays don't end well on a page.
-async function* faults(page) {
-  for (const [what, play] of Object.entries(PLAYS)) {
-    broken = null;
-    await play(page).then(settled).catch((error) => { broken = error; });
-    if (broken) yield `${what}: ${broken.message}`;
-  }
-}
-
-const main = async () => {
-  process.exitCode = 1;
-  const page = readFileSync(0, 'utf8');
-  const wrong = [];
-  for await (const fault of faults(page)) wrong.push(fault);
-  for (const [what, [found, put]] of wrong.length ? [] : Object.entries(PLANTED)) {
-    const parts = page.split(found);
-    if (parts.length !== 2) wrong.push(`a planted fault needs a text that stands once in the page: ${found}`);
-    else if ((await faults(parts.join(put)).next()).done) wrong.push(`not noticed: ${what}`);
-  }
-  wrong.forEach((line) => console.error(`script: ${line}`));
-  if (!wrong.length) console.log(`script: ${Object.keys(PLAYS).length} plays, ${Object.keys(PLANTED).length} planted faults noticed`);
-  process.exitCode = wrong.length ? 1 : 0;
-};
-
-main().catch((error) => console.error(`script: ${error.message}`));
+main('script', PLAYS, PLANTED);

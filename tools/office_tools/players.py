@@ -16,15 +16,21 @@ FOCUSED = """(({id, dataset, tagName, parentElement}) => [dataset?.key, id, tagN
     document.activeElement ?? {})"""
 
 
-def chained(step):
-    """Makes a step of a play return whoever took it, so that a play is read as a row of steps."""
-    @functools.wraps(step)
-    def taken(self, *words, **how):
-        step(self, *words, **how)
-        return self
-    return taken
+def chained(kind):
+    """Makes each step of a class that returns nothing return its object, so that a play is read as a row of steps."""
+    def returning(step):
+        @functools.wraps(step)
+        def taken(self, *words, **how):
+            found = step(self, *words, **how)
+            return self if found is None else found
+        return taken
+    for name, step in list(vars(kind).items()):
+        if not name.startswith("_") and callable(step):
+            setattr(kind, name, returning(step))
+    return kind
 
 
+@chained
 class Player(Browser):
     """Somebody at a browser of their own, in an evening."""
 
@@ -34,19 +40,16 @@ class Player(Browser):
         self.resize(*self.SIZES[0])
 
     def complaints(self):
-        """Returns what the browser's console was told, but for what was done on purpose: connections that broke, and denials."""
+        """Returns what the browser's console logged, but for what was done on purpose: connections that broke, and denials."""
         return [line for line in self.said() if not re.search(self.EXPECTED, line)]
 
-    @chained
     def shows(self, words, part="result"):
         """Waits until an element of the page shows these words."""
         self.until(f"document.getElementById('{part}')?.innerText.includes({json.dumps(words)})")
 
-    @chained
     def keys(self, *keys):
         self.press(*keys)
 
-    @chained
     def pictured(self, name):
         """Writes pictures of the whole page, if they are asked for. Nothing is wider than the window."""
         for width, height in self.SIZES if self.evening.pictures else ():
@@ -60,6 +63,7 @@ class Player(Browser):
         self.resize(*self.SIZES[0])
 
 
+@chained
 class Officer(Player):
     """The returning officer at the console."""
 
@@ -68,19 +72,16 @@ class Officer(Player):
     ASKED = re.compile(r"(GET /office/(|leave|wards(/\d+(/batches|/doubtful)?)?|batches/\d+/(differences|papers)|receipts(\?actor=\d+)?)"
                        r"|POST /office/orders) HTTP/1.1")
 
-    @chained
     def log_in(self, part=""):
         """Opens the console. The browser has the login from then on, as if it had been typed when the browser asked for it."""
         self.open(self.evening.address("office/", f"office:{OFFICE_CODE}@"))
         self.load(part)
 
-    @chained
     def load(self, part=""):
         self.open("about:blank")
         self.open(self.evening.address(f"office/{part}"))
         self.shows("Updated at", "health")
 
-    @chained
     def go(self, part, ward=0):
         """Opens a section by its number, and chooses a ward from the list. The first Escape leaves a field, the next one the section."""
         self.press("Escape", "Escape", str(1 + SECTIONS.index(part)))
@@ -95,16 +96,13 @@ class Officer(Player):
     def found(self, key):
         return f"[...document.querySelectorAll('[data-key]')].find((it) => it.dataset.key === {json.dumps(key)} && it.offsetParent)"
 
-    @chained
     def has(self, key):
         self.until(f"Boolean({self.found(key)}) && !{self.found(key)}.disabled")
 
-    @chained
     def click(self, key):
         """Reaches a button with the Tab key, and presses it."""
         self.has(key).tab_to(key).press("Enter")
 
-    @chained
     def tab_to(self, name):
         """Reaches an element with the Tab key alone: by its key, its id, or that of the list that it opens."""
         for _ in range(150):
@@ -113,18 +111,21 @@ class Officer(Player):
             self.press("Tab")
         raise Wrong(f"Tab doesn't reach {name}")
 
-    @chained
     def type(self, name, text):
         """Types into a field. The Tab key selects what it held before."""
         self.tab_to(name).press(*str(text))
 
-    @chained
     def fill(self, form, **fields):
         """Types into the fields of a form."""
         for field, text in fields.items():
             self.type(f"{form}-{field}", text)
 
-    @chained
+    def send(self):
+        """Leaves a form's last field by Enter, which sends nothing, and presses the button that this reaches."""
+        self.press("Enter")
+        self.until("document.activeElement.type === 'submit' && !document.getElementById('ask').open")
+        self.press("Enter")
+
     def drop(self, place, **files):
         """Drops files on an element."""
         given = json.dumps([[name.replace("_", "-") + ".csv", "".join(f"{line}\n" for line in lines)] for name, lines in files.items()])
@@ -133,7 +134,6 @@ class Officer(Player):
             const event = new DragEvent('drop', {{dataTransfer: data, bubbles: true, cancelable: true}});
             document.getElementById('{place}').dispatchEvent(event);""")
 
-    @chained
     def asked(self, *words):
         """Waits for a confirmation dialog, and checks that it has all of these words."""
         self.until("document.getElementById('ask').open")
@@ -141,39 +141,35 @@ class Officer(Player):
         if missing := [word for word in words if word not in text]:
             raise Wrong(f"the dialog lacks {missing}: {text!r}")
 
-    @chained
     def yes(self, *words, said="Done"):
         """Confirms a dialog, and waits for the reply."""
         self.asked(*words).forget().keys("y").shows(said).until("!document.body.classList.contains('busy')")
 
-    @chained
     def forget(self):
         self.value("document.getElementById('result').hidden = true")
 
-    @chained
     def leave_field(self):
         """Takes the focus from where it is, so that keys are the section's."""
         self.value("document.activeElement.blur()")
 
 
+@chained
 class Teller(Player):
     """A clerk at the page to key on."""
 
     SIZES, EXPECTED = ((1024, 768), (400, 800)), "ERR_"
-    ASKED = re.compile(r"(GET /clerks/\d+/(work|leave|batches/\d+/candidates)?|POST /clerks/\d+/batches/\d+/keying) HTTP/1.1")
+    ASKED = re.compile(r"(GET /clerks/\d+/(work|leave|batches/\d+/(candidates|keyed))?|POST /clerks/\d+/batches/\d+/keying) HTTP/1.1")
 
     def __init__(self, evening, clerk):
         super().__init__(evening)
         self.clerk, self.count, self.page = clerk, 0, f"clerks/{clerk}/"
 
-    @chained
     def log_in(self):
         """Opens the clerk's page. The browser has the login from then on, as if it had been typed when the browser asked for it."""
         for login in (f"{self.clerk}:{CODES[self.clerk]}@", ""):
             self.open(self.evening.address(self.page, login))
         self.until("!document.getElementById('batches').hidden && document.activeElement.tagName === 'BUTTON'")
 
-    @chained
     def keys(self, *keys, at=0):
         """Presses keys, and counts them. Then the cursor must be at this paper."""
         self.press(*keys)
@@ -181,7 +177,6 @@ class Teller(Player):
         if at and not self.shown("paper").startswith(f"Paper {at} of "):
             raise Wrong(f"clerk {self.clerk} is at {self.shown('paper')!r}, and not at paper {at}: {self.shown('notice')!r}")
 
-    @chained
     def views(self, part):
         self.until(f"!document.getElementById('{part}').hidden")
 

@@ -3,9 +3,14 @@ import re
 
 HEAD = """# Every public function and its clauses
 
-`tools/check proofs --write` makes this page from the sources; it isn't committed. docs/engineering/proofs.md has the promises that these clauses carry, docs/engineering/limits.md their premises.
+`tools/check proofs --write` makes this page from the sources; it isn't committed. docs/engineering/proofs.md has the promises that these \
+clauses carry, docs/engineering/limits.md their premises.
 
-Each function is proved safe, to return, and to meet its clauses, which are above its body in the sources, with its documentation, of which the first sentence is shown. A clause without a name mostly says what the result is; a dash means that the type or the trait says all. A *wrong body* is an edit in `must-fail/` or `wrong-bodies/` of the crate that turns the meaning of the function in its row, and that the contract of its own crate refuses. Functions that aren't public, and definitions, are listed only if an edit changes them. All crates together have {public} public functions with {clauses} clauses, and {edits} wrong bodies.
+Each function is proved safe, to return, and to meet its clauses, which are above its body in the sources, with its documentation, of \
+which the first sentence is shown. A clause without a name mostly says what the result is; a dash means that the type or the trait says \
+all. A *wrong body* is an edit in `must-fail/` or `wrong-bodies/` of the crate that turns the meaning of the function in its row, and that \
+the contract of its own crate refuses. Functions that aren't public, and definitions, are listed only if an edit changes them. All crates \
+together have {public} public functions with {clauses} clauses, and {edits} wrong bodies.
 """
 
 

@@ -10,7 +10,7 @@ from office_tools.office import LOG, NO_OFFICE, SCRIPT, TOWN, Wrong, remove
 
 NOT_WRITTEN = "fault 110: copy not written"
 # What `serve` prints besides, if it can't make its socket. Clients are served all the same.
-NO_SOCKET = "no socket for orders beside the database: it can't be made\n"
+NO_SOCKET = "no socket for orders next to the database: it can't be made\n"
 RESULTS = ("rows before it found", "rows after it", "some records")
 ON_FILES = ("openat", "statx", "readlink", "pread64", "read", "pwrite64", "write", "fsync", "fdatasync", "ftruncate", "fcntl", "lseek",
             "flock", "unlink", "fchmod", "fchown")
@@ -45,7 +45,7 @@ class Trial:
 
     def between(self):
         """Yields what an order of several records leaves after each but the last."""
-        if self.is_script or self.order.words[0] == "import-candidates":
+        if self.is_script or self.order.words[0] in ("import-candidates", "import-batches"):
             for count in range(2, len(self.order.lines)):
                 part = self.office.copied(self.folder / "part")
                 Order(self.order.words, self.order.lines[:count]).done(part)

@@ -10,7 +10,6 @@ import threading
 
 HERE = "127.0.0.1"
 PATIENCE = 60
-BROKEN = (BrokenPipeError, ConnectionResetError)
 PAGE = b"HTTP/1.1 200 OK\r\nContent-Type: text/html\r\nConnection: close\r\n\r\n<!DOCTYPE html><title>elsewhere</title><body>"
 
 
@@ -62,7 +61,7 @@ def is_whole(text):
 
 
 class Crowd(threading.Thread):
-    """Clients who say nothing, or what they are told to, during a `with`. One that is disconnected, or goes, connects again."""
+    """Clients who say nothing, or what they are given to send, during a `with`. One that is disconnected, or goes, connects again."""
 
     def __init__(self, port, count, sends=b"", *, host=HERE, goes=False, reads=True):
         super().__init__(daemon=True)

@@ -1,12 +1,12 @@
-//! The program `check-count`: it checks a stage sheet or a declaration against the ballots of its ward, and counts ballots. It needs
-//! nothing from an office but the texts, as printed by `ballots` and by `sheet` or `result`.
+//! The program `check-count`, which checks a stage sheet or a declaration against the ballots of its ward, and counts ballots. It
+//! needs nothing from an office but the texts, as printed by `ballots` and by `sheet` or `result`.
 //!
 //! ```text
 //! check-count ballots.txt sheet.txt
 //! check-count --count ballots.txt --lot 3:4
 //! ```
 //!
-//! Its output and exit status are those of [`run`] in `checker`; this crate adds only this machine's arguments, files and outputs.
+//! Its output and exit status are those of [`run`] in `checker`; this crate only supplies this machine's arguments, files and outputs.
 #![tactic(auto)]
 
 use checker::{ArgumentsFault, InputFiles, NotRead, run};
@@ -18,14 +18,14 @@ use streams::Counted;
 /// The path that names standard input.
 const STANDARD_INPUT: &str = "-";
 
-/// The files of this machine, and its standard input.
+/// The files of this machine, including its standard input.
 #[derive(Clone, Copy)]
 struct LocalFiles<'a> {
     rt: &'a HostRuntime,
 }
 
 impl LocalFiles<'_> {
-    /// Returns the bytes of standard input, up to its end.
+    /// Returns the bytes of standard input, read to its end.
     fn standard_input(&self) -> Result<Vec<u8>, Error> {
         let mut bytes = Vec::new(self.rt.alloc());
         let mut input = self.rt.stdin();

@@ -1,4 +1,4 @@
--- Our own comments are read back.
+-- Our own comments, read back.
 use Rattle.std.proofs.Common.{◌≡◌, ◌∙◌, ℕ, ◌^◌, ◌<◌, ◌≤◌, List, [], ◌∷◌, ◌++◌, true, false, length, refl, sym, ap, subst, arith, append_assoc, append-nil, Ok, Some, None}
 use Rattle.std.specs.Prelude.{◌==◌, codes, Option}
 use Rattle.std.specs.Fmt.{decimal}
@@ -82,7 +82,7 @@ abbrev rejected_words : ℕ → ℕ → ℕ → ℕ → ℕ → List Text
 rejected_words a b c d e =
     codes "1" ∷ decimal a ∷ codes "2" ∷ decimal b ∷ codes "3" ∷ decimal c ∷ codes "4" ∷ decimal d ∷ codes "5" ∷ decimal e ∷ []
 
--- how many papers each code can have
+-- the number of papers for each code fits in four bytes
 pub record AreCounts (a b c d e : ℕ) : Type 0 where
   pub first : a ≤ 4294967295
   pub second : b ≤ 4294967295

@@ -21,7 +21,7 @@ ends_at contest lots stages history why is whole ended = record {
   ended = ap (end_after contest lots) is ∙ ended;
 }
 
--- a lot that isn't drawn in a count that has ended
+-- a lot that isn't drawn, in a count that has ended
 pub undrawn_so : (why : CountEnd) (dues : List Due) (lots : List (ℕ × ℕ)) (stage : ℕ) → Some stage ≡ undrawn_at why dues lots → undrawn_by dues lots ≡ Some stage
 undrawn_so end.Finished dues lots stage is = sym is
 undrawn_so (end.LotNeeded k among) dues lots stage is = absurd (cc is)

@@ -1,4 +1,4 @@
--- Everything before the names is read back: the sizes, the withdrawn candidates, and the papers.
+-- Everything before the names reads back: the sizes, the withdrawn candidates, and the papers.
 use Rattle.std.proofs.Common.{◌≡◌, ◌∙◌, ℕ, ◌+◌, ◌≤◌, List, [], ◌∷◌, ◌++◌, Bool, false, length, map, refl, sym, ap, subst, arith, append_assoc, append-nil, length-append, Ok}
 use Rattle.std.specs.Prelude.{codes, replicate}
 use Rattle.std.specs.Fmt.{decimal}
@@ -98,7 +98,7 @@ size_reads h s bound some few =
     (decimal_figures h (omega arith)) (decimal_figures s (omega (arith, few)), tt)
     (ap (λ told. and_then told (with_size_line nothing_told)) words ∙ rw read refl)
 
--- ---- the withdrawn
+-- ---- the withdrawn candidates
 
 abbrev minus_word : ℕ → Text
 minus_word c = 45 ∷ decimal c

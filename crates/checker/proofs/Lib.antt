@@ -1,10 +1,11 @@
--- What the proofs of the readers share.
+-- Lemmas shared by the proofs about the readers.
 pub mod TokenLemmas
 pub mod RankLemmas
 pub mod NameLemmas
 pub mod DifferenceLemmas
 pub mod WardLemmas
 pub mod CountLemmas
+pub mod RecordLemmas
 pub mod LineLaws
 pub mod NumberLaws
 pub mod PaperLaws

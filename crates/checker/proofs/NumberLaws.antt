@@ -1,4 +1,4 @@
--- A number is read back from its digits.
+-- A number reads back from its digits.
 use Rattle.std.proofs.Common.{◌≡◌, ◌∙◌, ℕ, ◌+◌, ◌-◌, ◌*◌, ◌/◌, ◌%◌, ◌^◌, ◌<◌, ◌≤◌, Bool, true, false, [], ◌∷◌, ◌++◌, length, refl, sym, ap, arith, length-append, Ok, Err}
 use Rattle.std.specs.Prelude.{nat_eq, Result, codes}
 use Rattle.std.specs.Fmt.{decimal}
@@ -21,7 +21,7 @@ digit_figure d small = and_both _ _ (le-leb 45 (48 + d) (omega arith)) (le-leb (
 digit_is : (d : ℕ) → d < 10 → is_ascii_digit (48 + d) ≡ true
 digit_is d small = and_both _ _ (le-leb 48 (48 + d) (omega arith)) (le-leb (48 + d) 57 (omega arith))
 
--- the digits of a number are figures
+-- the decimal text of a number satisfies `IsFigures`
 pub decimal_figures : (n : ℕ) → n < 2 ^ 64 → IsFigures (decimal n)
 decimal_figures n small = decimal_by_steps (λ n ds. IsFigures ds) one more n small
   where
@@ -67,11 +67,11 @@ some_digits : (most : ℕ) (ds : Text) → 0 < length ds → number_in most ds �
 some_digits most [] some = absurd (omega arith)
 some_digits most (d ∷ ds) some = refl
 
--- a number is read back
+-- a number reads back
 pub number_back : (most n : ℕ) → n < 2 ^ 64 → n ≤ most → number_in most (decimal n) ≡ Ok n
 number_back most n small few = some_digits most (decimal n) (decimal_figures n small).some ∙ read_from_digits n small most few
 
--- and so is a candidate
+-- a candidate number reads back
 pub candidate_back : (highest c : ℕ) → 1 ≤ c → c ≤ highest → highest ≤ 30 → candidate_in highest (decimal c) ≡ Ok c
 candidate_back highest c some few bound =
     rw (number_back 255 c (omega arith) (omega arith), ne_eqb c 0 (λ e. omega (arith, e)), le-ltb highest c few) refl
@@ -100,6 +100,6 @@ decimal_nonzero n some small = by (is_zero (decimal n)) refl
             let none : n ≡ 0 = cc (same ∙ zero) in
             omega (arith, none)
 
--- no number is written as a shared rank
+-- no number is written like a shared rank
 pub decimal_alone : (n : ℕ) → n < 2 ^ 64 → pieces_of Equals [] (decimal n) ≡ decimal n ∷ []
 decimal_alone n small = last_piece Equals [] (decimal n) (none_of is_figure (parts Equals) (λ b h. figure_other b 61 h (λ l m. omega arith)) (decimal n) (decimal_figures n small).all)

@@ -1,4 +1,4 @@
--- The result of checking a text against the ballots of a ward is that of comparing it with that ward.
+-- Checking a text against the ballots of a ward has the same result as comparing it with that ward.
 use Rattle.std.proofs.Common.{◌≡◌, ◌∙◌, ℕ, List, refl, sym, subst, Ok}
 use Rattle.std.specs.Prelude.{Option, Some, None}
 use Rattle.count.specs.Bundles.{Bundle}
@@ -14,7 +14,7 @@ use Rattle.checker.specs.declared.problem.Problem.{Problem}
 use Rattle.checker.specs.declared.problem.Problem.TheVariants as problem
 use Rattle.checker.proofs.ReadBackLaws.{ballots_back}
 
--- a fact about the ward in a file is one about the ward whose ballots it contains
+-- a fact about the ward in a file is a fact about the ward whose ballots the file contains
 told_of_own : (P : SheetEntry → List Bundle → List (ℕ × ℕ) → Type 0) (ward : SheetEntry) (bundles : List Bundle) (lots : List (ℕ × ℕ)) (back : IsReadBack ward bundles lots) (reading : ReaderEntry) →
     read (ballots ward bundles lots) ≡ Ok reading
     → P (ward_told reading) reading.papers.bundles reading.remarks.lots → P ward bundles lots
@@ -24,7 +24,7 @@ told_of_own P ward bundles lots back reading understood told =
     subst (λ w. P w bundles lots) back.ward_is (subst (λ bs. P (ward_told back.reading) bs lots) back.bundles_are
     (subst (λ ls. P (ward_told back.reading) back.reading.papers.bundles ls) back.lots_are own))
 
--- so the result for a text is the same
+-- so the result of checking a text is the same
 pub own_check : (ward : SheetEntry) (bundles : List Bundle) (lots : List (ℕ × ℕ)) → CanBeReadBack ward bundles lots → (text : List ℕ) (checked : Checked) →
     IsChecked (ballots ward bundles lots) text checked → IsWardCheck ward.poll ward bundles lots text checked
 own_check ward bundles lots can text checked is =
@@ -39,7 +39,7 @@ memory_so : (poll : Option Poll) (ward : SheetEntry) (bundles : List Bundle) (lo
 memory_so None ward bundles lots = refl
 memory_so (Some poll) ward bundles lots = tt
 
--- and a problem is one of the count
+-- and a problem is a problem of the count
 pub own_problem : (ward : SheetEntry) (bundles : List Bundle) (lots : List (ℕ × ℕ)) → CanBeReadBack ward bundles lots → (why : Problem) → IsProblem (ballots ward bundles lots) why →
     IsWardProblem ward.poll ward bundles lots why
 own_problem ward bundles lots can (problem.Line line flaw) is = absurd (cc (sym is ∙ (ballots_back ward bundles lots can).understood))

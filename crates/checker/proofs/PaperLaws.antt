@@ -1,4 +1,4 @@
--- The lines of papers are read back.
+-- The lines of papers read back.
 use Rattle.std.proofs.Common.{◌≡◌, ◌∙◌, ℕ, ◌+◌, ◌%◌, ◌^◌, ◌<◌, ◌≤◌, nat_eq, Bool, true, false, List, [], ◌∷◌, ◌++◌, length, map, refl, sym, ap, subst, arith, append_assoc, append-nil, Ok}
 use Rattle.std.specs.Prelude.{◌==◌, codes}
 use Rattle.std.specs.Fmt.{decimal}
@@ -57,7 +57,7 @@ apart_more before x (c ∷ list) apart none = (
     differ : c ≡ x → ⊥
     differ e = absurd (false≢true (sym parts.0 ∙ eq-eqb c x e))
 
--- the words of some preferences, followed by 0
+-- the words for the given preferences, followed by 0
 abbrev pub rank_words : List ℕ → List Text
 rank_words list = map decimal list ++ codes "0" ∷ []
 
@@ -104,7 +104,7 @@ unminus n small = (decimal_by_steps (λ n ds. (begins_with_minus ds ≡ false) �
     more : (n : ℕ) (ds : Text) → 10 ≤ n → (begins_with_minus ds ≡ false) × (0 < length ds) → (begins_with_minus (ds ++ (48 + n % 10) ∷ []) ≡ false) × (0 < length (ds ++ (48 + n % 10) ∷ []))
     more n ds high is = longer ds (48 + n % 10) is.0 is.1
 
--- before all papers, or among them
+-- before all papers, or among the papers
 abbrev pub papers_at : Bool → NextLine
 papers_at true = place.Withdrawn
 papers_at false = place.PaperTotals
@@ -114,7 +114,7 @@ pub among_papers : (first : Bool) (here : ReaderEntry) (text : Text) (words : Li
 among_papers true here text words are none = rw (are, none) refl
 among_papers false here text words are none = rw are refl
 
--- papers of one list that a file can contain
+-- papers with the same list of preferences, as a file may contain them
 pub record CanStand (highest : ℕ) (withdrawn : List ℕ) (list : List ℕ) (n : ℕ) : Type 0 where
   pub some : 1 ≤ n
   pub few : n ≤ max_papers

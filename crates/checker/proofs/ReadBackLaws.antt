@@ -1,4 +1,4 @@
--- The ballots of a ward are read back.
+-- The ballots of a ward, read back.
 use Rattle.std.proofs.Common.{◌≡◌, ◌∙◌, ℕ, zero, suc, ◌+◌, ◌-◌, ◌<◌, ◌≤◌, ◌||◌, nat_eq, Bool, true, false, List, [], ◌∷◌, ◌++◌, length, map, refl, sym, ap, subst, arith, append_assoc}
 use Rattle.std.proofs.Common.{append-nil, length-append, Ok, Some, None, is_none}
 use Rattle.std.specs.Prelude.{◌==◌, codes, if◌then◌else◌, Option, option_map, replicate, slice_get}
@@ -103,7 +103,7 @@ within : (b : Bool) (c h : ℕ) (x : ℕ × Text) → nat_eq c x.0 ≡ b → (1 
 within true c h x e here rest = subst (λ n. (1 ≤ n) × (n ≤ h)) (sym (eqb-true c x.0 e)) here
 within false c h x e here rest = rest refl
 
--- and a number up to the highest
+-- a candidate has a number up to the highest one
 has_number : (low h c : ℕ) (candidates : List (ℕ × Text)) → Ascends low (map (λ (candidate : ℕ × Text). candidate.0) candidates) → AllByRecursion (λ (x : ℕ × Text). x.0 ≤ h) candidates
     → list_any (nat_eq c) (map (λ (candidate : ℕ × Text). candidate.0) candidates) ≡ true → (1 ≤ c) × (c ≤ h)
 has_number low h c [] up all found = absurd (false≢true found)
@@ -137,7 +137,7 @@ module _ (ward : SheetEntry) where
         bundles_stand bundles most set each.1 fors.1 (omega (arith, few, sum)),
       )
 
-  -- the content of its names
+  -- the content of the lines with names
   abbrev all_names : List Text
   all_names = map (name_of ward.candidates) (range_with_len 1 highest)
 
@@ -176,7 +176,7 @@ five_of (a ∷ b ∷ c ∷ d ∷ e ∷ []) five fit = record {
 }
 five_of (a ∷ b ∷ c ∷ d ∷ e ∷ f ∷ others) five fit = absurd (omega arith)
 
--- the rejected papers in a ward's file
+-- the rejected papers in the file of a ward
 abbrev rejected_told : Option Poll → Option (List ℕ)
 rejected_told None = None
 rejected_told (Some poll) = Some poll.rejected
@@ -207,7 +207,7 @@ unmarked (a ∷ []) none = refl
 unmarked (a ∷ b ∷ []) none = refl
 unmarked (a ∷ b ∷ c ∷ text) none = rw none refl
 
--- the front of a text decides
+-- only the beginning of a text matters
 front_marks : (front text : Text) → 0 < length front → first_is_mark front ≡ false → (0 < length (front ++ text)) × (first_is_mark (front ++ text) ≡ false)
 front_marks [] text some none = absurd (omega arith)
 front_marks (b ∷ front) text some none = (omega arith, none)
@@ -232,7 +232,7 @@ ballots_unmarked ward bundles lots few =
     let e = front_marks (papers_text ward bundles) (name_lines ward) d.0 d.1 in
     (front_marks (papers_text ward bundles ++ name_lines ward) (comments ward lots) e.0 e.1).1
 
--- ---- the whole
+-- ---- the whole file
 
 module _ (ward : SheetEntry) (bundles : List Bundle) (lots : List (ℕ × ℕ)) where
   abbrev number : ℕ
@@ -312,7 +312,7 @@ module _ (ward : SheetEntry) (bundles : List Bundle) (lots : List (ℕ × ℕ)) 
       ap (λ (cs : List (ℕ × Text)). record { number = ward.number; name = ward.name; seats = ward.seats; candidates = cs; poll = poll_told whole }) candidates
       ∙ ap (λ (p : Option Poll). record { number = ward.number; name = ward.name; seats = ward.seats; candidates = ward.candidates; poll = p }) poll
 
--- the ballots of a ward are read back
+-- the ballots of a ward read back
 pub ballots_back : (ward : SheetEntry) (bundles : List Bundle) (lots : List (ℕ × ℕ)) → CanBeReadBack ward bundles lots → IsReadBack ward bundles lots
 ballots_back ward bundles lots can = record {
   reading = whole ward bundles lots;

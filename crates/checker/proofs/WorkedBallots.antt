@@ -1,4 +1,4 @@
--- The definitions of reading, computed for example lines and an example file.
+-- The definitions of reading, evaluated on example lines and an example file.
 use Rattle.std.proofs.Common.{◌≡◌, ℕ, List, [], ◌∷◌, ◌++◌, refl, Ok, Err, Some, None}
 use Rattle.std.specs.Prelude.{codes, Result}
 use Rattle.checker.specs.BallotsComments.{Remarks, with_comment}
@@ -128,7 +128,7 @@ ours_behind_name = refl
 open_name : name_in (codes "\"Ann\\\"") ≡ Err flaw.OpenQuote
 open_name = refl
 
--- the content of some lines
+-- the content of the given lines
 abbrev told_by : ReaderEntry → List (List ℕ) → Result ReaderEntry BallotsFlaw
 told_by reading [] = Ok reading
 told_by reading (line ∷ lines) = and_then (with_line reading line) (λ more. told_by more lines)

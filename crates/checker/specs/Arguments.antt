@@ -1,23 +1,25 @@
 -- The request in the program's arguments, and its outcome.
-use Rattle.std.specs.Prelude.{◌≡◌, ◌⊎◌, ◌||◌, if◌then◌else◌, nat_eq, Bool, false, List, [], ◌∷◌, Result, Ok, Err, codes, string_bytes}
+use Rattle.std.specs.Prelude.{◌≡◌, ◌⊎◌, ℕ, ◌||◌, if◌then◌else◌, nat_eq, Bool, false, List, [], ◌∷◌, Result, Ok, Err, codes, string_bytes}
 use Rattle.std.specs.Cmp.Lexicographic.{pointwise}
 use Rattle.checker.specs.Checks.{IsChecked, IsProblem}
 use Rattle.checker.specs.Counts.{IsCountedText, IsUncounted}
 use Rattle.checker.specs.Reports.{ReportEntry, hint_of, memory_page, page_of}
-use Rattle.checker.specs.Requests.{CountEntry, count_request}
+use Rattle.checker.specs.Reading.{ReaderEntry, read}
+use Rattle.checker.specs.Records.{read_records}
+use Rattle.checker.specs.Requests.{CountEntry, FormEntry, blt, count_request, records}
 use Rattle.checker.specs.Tokens.{Text}
 use Rattle.checker.specs.declared.arguments.ArgumentsFault.{ArgumentsFault}
 use Rattle.checker.specs.declared.arguments.ArgumentsFault.TheVariants as words
 use Rattle.checker.specs.declared.requests.WordsFlaw.{WordsFlaw}
 use Rattle.checker.specs.declared.report.Report.{Report}
 use Rattle.checker.specs.declared.report.Report.TheVariants as report
+use Rattle.checker.specs.declared.problem.BallotsFlaw.{BallotsFlaw}
 use Rattle.checker.specs.declared.problem.Problem.TheVariants as problem
 use Rattle.checker.specs.InputFiles.{InputFiles, Holds, Withholds}
 
 -- ---- the request
 
--- help about checking; the check of a text against ballots, each by its path; help about counting; a count of ballots; or arguments that aren't
--- understood
+-- a request: for help on checking; to check a text against ballots, each given by its path; for help on counting; to count ballots; or one that isn't understood
 pub data Request : Type 0 where
   help : Request
   check : Text → Text → Request
@@ -26,7 +28,7 @@ pub data Request : Type 0 where
   count : CountEntry → Request
   misread : WordsFlaw → Request
 
--- an argument that requests help
+-- whether an argument requests help
 abbrev pub is_help : Text → Bool
 is_help word = pointwise nat_eq word (codes "--help") || pointwise nat_eq word (codes "-h")
 
@@ -37,7 +39,7 @@ check_asked (word ∷ []) = if is_help word then help else nothing
 check_asked (ballots ∷ text ∷ []) = check ballots text
 check_asked (ballots ∷ text ∷ other ∷ words) = nothing
 
--- a request to count
+-- a request to count, or for help on counting
 abbrev pub is_help_alone : List Text → Bool
 is_help_alone [] = false
 is_help_alone (word ∷ []) = is_help word
@@ -50,7 +52,7 @@ count_told (Err flaw) = misread flaw
 abbrev pub count_asked : List Text → Request
 count_asked words = if is_help_alone words then count_help else count_told (count_request words)
 
--- an argument that requests a count
+-- whether an argument requests a count
 abbrev pub is_count : Text → Bool
 is_count word = pointwise nat_eq word (codes "--count")
 
@@ -58,7 +60,7 @@ abbrev pub asked : List Text → Request
 asked [] = nothing
 asked (word ∷ words) = if is_count word then count_asked words else check_asked (word ∷ words)
 
--- the program's arguments, or the reason why they can't be read
+-- the outcome of reading the program's arguments: the arguments, or the reason why they can't be read
 abbrev pub words_told : {V : Type 0} → (V → List Text) → Result V ArgumentsFault → Result (List Text) ArgumentsFault
 words_told texts (Ok words) = Ok (texts words)
 words_told texts (Err fault) = Err fault
@@ -77,18 +79,23 @@ IsCheckOutcome ballots text (report.Checked checked hint) = IsChecked ballots te
 IsCheckOutcome ballots text (report.Hindered why) = IsProblem ballots why
 IsCheckOutcome ballots text other = ⊥
 
--- the outcome of checking the file of a text against ballots
+-- the outcome of checking a file's text against ballots
 abbrev pub IsTextOutcome : InputFiles → Text → Text → Report → Type 0
 IsTextOutcome held ballots path told = IsUnreadFile held path told ⊎ ((text : Text) × Holds held path text × IsCheckOutcome ballots text told)
 
--- the outcome for the files of ballots and of a text
+-- the outcome of checking one file against the ballots in another
 abbrev pub IsFilesOutcome : InputFiles → Text → Text → Report → Type 0
 IsFilesOutcome held path text_path told = IsUnreadFile held path told ⊎ ((ballots : Text) × Holds held path ballots × IsTextOutcome held ballots text_path told)
 
+-- the content of a file of ballots in a given form
+abbrev pub read_in : FormEntry → Text → Result ReaderEntry (ℕ × BallotsFlaw)
+read_in blt bytes = read bytes
+read_in (records ward) bytes = read_records ward bytes
+
 -- the outcome of counting ballots
 abbrev pub IsCountOutcome : Text → CountEntry → Report → Type 0
-IsCountOutcome ballots asked (report.Counted counted) = IsCountedText ballots asked.lots asked.text counted
-IsCountOutcome ballots asked (report.NotCounted why) = IsUncounted ballots asked.lots why
+IsCountOutcome ballots asked (report.Counted counted) = IsCountedText (read_in asked.form ballots) asked.lots asked.text counted
+IsCountOutcome ballots asked (report.NotCounted why) = IsUncounted (read_in asked.form ballots) asked.lots why
 IsCountOutcome ballots asked other = ⊥
 
 -- the outcome of counting a file of ballots
@@ -105,7 +112,7 @@ IsAnswer held count_help told = told ≡ report.CountHelp
 IsAnswer held (count asked) told = IsCountFileOutcome held asked told
 IsAnswer held (misread flaw) told = (told ≡ report.Misread flaw) ⊎ (told ≡ report.Hindered problem.Memory)
 
--- the outcome of the program's arguments, or of the failure to read them
+-- the outcome for the program's arguments, or for the failure to read them
 abbrev pub IsOutcome : InputFiles → Result (List Text) ArgumentsFault → Report → Type 0
 IsOutcome held (Ok words) told = IsAnswer held (asked words) told
 IsOutcome held (Err words.NotUtf8) told = told ≡ report.NotUtf8

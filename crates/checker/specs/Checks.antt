@@ -25,7 +25,7 @@ use Rattle.checker.specs.declared.differences.Checked.{Checked}
 use Rattle.checker.specs.declared.problem.Problem.{Problem}
 use Rattle.checker.specs.declared.problem.Problem.TheVariants as problem
 
--- the whole count of a contest by the recorded lots, the only one, and the reason why it ends
+-- the whole count of a contest with the recorded lots, which is the only count, and the reason why it ends
 pub record EndsAt (contest : Contest) (lots : List (ℕ × ℕ)) (stages : List Stage) (why : CountEnd) : Type 0 where
   pub whole : IsWholeCount contest lots (reverse stages)
   pub ended : end_after contest lots (reverse stages) ≡ Some why
@@ -40,11 +40,11 @@ is_lot due.Finished = false
 abbrev pub is_drawn_by : List Due → ℕ → Bool
 is_drawn_by dues stage = is_lot (slice_index_or dues (stage - 1) due.Finished)
 
--- the stage of the first of some lots that isn't drawn
+-- the stage of the first of the given lots that isn't drawn
 abbrev pub undrawn_by : List Due → List (ℕ × ℕ) → Option ℕ
 undrawn_by dues lots = option_map (λ lot. lot.0) (find (λ lot. not (is_drawn_by dues lot.0)) lots)
 
--- what is due before each of the first 256 stages of a count, which is finished by then
+-- what is due before each of the first 256 stages of a count; a count is finished by then
 unfoldable pub dues_of : Contest → List (ℕ × ℕ) → List Due
 dues_of contest lots = map (λ k. due_after contest (stages_to contest lots k)) (range_with_len 0 256)
 
@@ -52,13 +52,13 @@ dues_of contest lots = map (λ k. due_after contest (stages_to contest lots k)) 
 abbrev pub undrawn : Contest → List (ℕ × ℕ) → Option ℕ
 undrawn contest lots = undrawn_by (dues_of contest lots) lots
 
--- the reason why a count isn't finished, if it isn't
+-- the reason why a count isn't finished; none if it is
 abbrev pub problem_of : CountEnd → Option Problem
 problem_of end.Finished = None
 problem_of (end.LotNeeded stage among) = Some (problem.LotNeeded stage among)
 problem_of (end.LotNotAmong stage) = Some (problem.LotNotAmong stage)
 
--- the result of comparing a text with the sheet and the declaration of a contested ward: it has a contest, whose count is finished
+-- the result of comparing a text with the sheet and the declaration of a contested ward: its papers form a contest, and the count is finished
 pub record IsCountedCheck (ward : SheetEntry) (bundles : List Bundle) (lots : List (ℕ × ℕ)) (text : Text) (checked : Checked) : Type 0 where
   pub contest : IsContest (contest_in ward bundles)
   pub stages : List Stage
@@ -66,7 +66,7 @@ pub record IsCountedCheck (ward : SheetEntry) (bundles : List Bundle) (lots : Li
   pub drawn : undrawn (contest_in ward bundles) lots ≡ None
   pub compared : IsComparison text (sheet ward stages) (declaration ward (elected_after (contest_in ward bundles) (reverse stages))) checked
 
--- the same for any ward, by its poll: in an uncontested one no stage is done, and all candidates are elected
+-- the same result for any ward, given its poll: an uncontested ward has no stages, and all its candidates are elected
 abbrev pub IsWardCheck : Option Poll → SheetEntry → List Bundle → List (ℕ × ℕ) → Text → Checked → Type 0
 IsWardCheck None ward bundles lots text checked = IsComparison text (sheet ward []) (declaration ward (numbers_of ward)) checked
 IsWardCheck (Some poll) ward bundles lots text checked = IsCountedCheck ward bundles lots text checked
@@ -77,8 +77,8 @@ pub record IsChecked (bytes text : Text) (checked : Checked) : Type 0 where
   pub understood : read bytes ≡ Ok reading
   pub compared : IsWardCheck (ward_told reading).poll (ward_told reading) reading.papers.bundles reading.remarks.lots text checked
 
--- the reason why the count of a ward can't be finished with its lots: there is no contest; a lot is missing, is for none of the tied, or is recorded
--- but not drawn; or an allocation failed
+-- the reason why the count of a ward can't be finished with its lots: there is no contest; a lot is missing, names none of the tied candidates, or is
+-- recorded but not drawn; or an allocation failed
 abbrev pub IsCountProblem : Contest → List (ℕ × ℕ) → Problem → Type 0
 IsCountProblem contest lots (problem.Line line flaw) = ⊥
 IsCountProblem contest lots problem.NoContest = ¬ (IsContest contest)
@@ -87,19 +87,19 @@ IsCountProblem contest lots (problem.LotNotAmong stage) = (stages : List Stage) 
 IsCountProblem contest lots (problem.LotNotNeeded stage) = undrawn contest lots ≡ Some stage
 IsCountProblem contest lots problem.Memory = ⊤
 
--- the same for any ward, by its poll
+-- the same reason for any ward, given its poll
 abbrev pub IsWardProblem : Option Poll → SheetEntry → List Bundle → List (ℕ × ℕ) → Problem → Type 0
 IsWardProblem None ward bundles lots why = why ≡ problem.Memory
 IsWardProblem (Some poll) ward bundles lots why = IsCountProblem (contest_in ward bundles) lots why
 
--- a file is understood, and this problem prevents the count of the ward that it describes
+-- a file is understood, but the given problem prevents the count of the ward that it describes
 pub record Hinders (bytes : Text) (why : Problem) : Type 0 where
   pub reading : ReaderEntry
   pub understood : read bytes ≡ Ok reading
   pub hinders : IsWardProblem (ward_told reading).poll (ward_told reading) reading.papers.bundles reading.remarks.lots why
 
--- why a text can't be checked against a file of ballots: the line with this number is the first with a flaw; or no line has one, and the count can't be
--- finished; or an allocation failed
+-- the reason why a text can't be checked against a file of ballots: the line with the given number is the first with a flaw; or no line has one, but
+-- the count can't be finished; or an allocation failed
 abbrev pub IsProblem : Text → Problem → Type 0
 IsProblem bytes (problem.Line line flaw) = read bytes ≡ Err (line, flaw)
 IsProblem bytes problem.NoContest = Hinders bytes problem.NoContest

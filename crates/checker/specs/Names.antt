@@ -9,7 +9,7 @@ use Rattle.checker.specs.declared.names.Within.TheVariants.{Before, Inside, Esca
 use Rattle.checker.specs.declared.problem.BallotsFlaw.{BallotsFlaw}
 use Rattle.checker.specs.declared.problem.BallotsFlaw.TheVariants.{LongName, NoName, NotUtf8, OpenQuote}
 
--- the maximum number of bytes in a name
+-- the maximum length of a name in bytes
 abbrev pub max_name : ℕ
 max_name = 1000
 
@@ -19,7 +19,7 @@ pub record Quoting : Type 0 where
   pub comment : Text
   pub within : Within
 
--- the same with another position of the next byte
+-- the same state, with another position for the next byte
 abbrev pub moved_to : Within → Quoting → Quoting
 moved_to within quoting = record { name = quoting.name; comment = quoting.comment; within = within }
 
@@ -31,12 +31,12 @@ with_bytes quoting bytes = record { name = quoting.name ++ bytes; comment = quot
 abbrev pub with_comment_byte : Quoting → ℕ → Quoting
 with_comment_byte quoting byte = record { name = quoting.name; comment = quoting.comment ++ byte ∷ []; within = Comment }
 
--- a byte outside the name: a certain sign moves to the next position, a blank changes nothing, and any other byte is an error
+-- a byte outside the name: the given sign moves to the next position, a blank changes nothing, and any other byte is an error
 abbrev pub outside : ℕ → Within → Quoting → ℕ → Quoting
 outside sign next quoting byte = if byte == sign then moved_to next quoting else (if is_blank byte then quoting else moved_to Beside quoting)
 
--- one more byte: a quotation mark opens or closes the name; within the name a backslash escapes a quotation mark or a backslash, and before another
--- byte it is literal; after the name `#` begins a comment
+-- another byte: a quotation mark opens or closes the name; within the name, a backslash escapes a quotation mark or a backslash, and is literal
+-- before any other byte; after the name, `#` begins a comment
 abbrev pub quoting_at : Within → Quoting → ℕ → Quoting
 quoting_at Before quoting byte = outside 34 Inside quoting byte
 quoting_at Inside quoting byte =
@@ -53,7 +53,7 @@ with_byte quoting byte = quoting_at quoting.within quoting byte
 abbrev pub as_text : Text → Result Text BallotsFlaw
 as_text name = if nat_lt max_name (length name) then Err LongName else (if is_utf8 name then Ok name else Err NotUtf8)
 
--- the name in a line that was read to its end
+-- the name in a line that has been read to its end
 abbrev pub name_at : Within → Quoting → Result Text BallotsFlaw
 name_at Before quoting = Err NoName
 name_at Inside quoting = Err OpenQuote

@@ -10,14 +10,14 @@ use Rattle.checker.specs.Ranks.{named_in, without}
 use Rattle.checker.specs.declared.problem.BallotsFlaw.{BallotsFlaw}
 use Rattle.checker.specs.declared.problem.BallotsFlaw.TheVariants.{NoPapers, NoPreference, NoSeat, NotNumber, Size, TooManyPapers}
 
--- their content: the highest candidate number, the seats, the numbers of withdrawn candidates, and the papers in bundles
+-- the content of the parts of a file: the highest candidate number, the seats, the numbers of withdrawn candidates, and the papers in bundles
 pub record PapersEntry : Type 0 where
   pub highest : ℕ
   pub seats : ℕ
   pub withdrawn : List ℕ
   pub bundles : List Bundle
 
--- the number of seats, at least one
+-- the number of seats, which is at least 1
 abbrev pub some_seats : ℕ → Result ℕ BallotsFlaw
 some_seats seats = if seats == 0 then Err NoSeat else Ok seats
 
@@ -37,7 +37,7 @@ abbrev pub withdrawn_in : ℕ → Text → Result ℕ BallotsFlaw
 withdrawn_in highest [] = Err NotNumber
 withdrawn_in highest (byte ∷ bytes) = if byte == 45 then candidate_in highest bytes else Err NotNumber
 
--- a set with the withdrawn candidates in some words added
+-- a set, with the withdrawn candidates in the given words added
 abbrev pub withdrawn_from : ℕ → List ℕ → List Text → Result (List ℕ) BallotsFlaw
 withdrawn_from highest withdrawn [] = Ok withdrawn
 withdrawn_from highest withdrawn (word ∷ words) = and_then (withdrawn_in highest word) (λ c. withdrawn_from highest (with_column withdrawn c) words)
@@ -47,14 +47,14 @@ abbrev pub with_withdrawn : PapersEntry → List Text → Result PapersEntry Bal
 with_withdrawn told words =
     and_then (withdrawn_from told.highest told.withdrawn words) (λ withdrawn. Ok (record { highest = told.highest; seats = told.seats; withdrawn = withdrawn; bundles = told.bundles }))
 
--- the number of papers, at least one
+-- the number of papers, which is at least 1
 abbrev pub some_papers : ℕ → Result ℕ BallotsFlaw
 some_papers papers = if papers == 0 then Err NoPapers else Ok papers
 
 abbrev pub papers_in : Text → Result ℕ BallotsFlaw
 papers_in word = and_then (number_in max_papers word) some_papers
 
--- one or more papers with one list of preferences added
+-- the papers read so far, with one or more papers added that have the same preferences
 abbrev pub with_list : PapersEntry → ℕ → List ℕ → Result PapersEntry BallotsFlaw
 with_list told papers [] = Err NoPreference
 with_list told papers (c ∷ list) =
@@ -62,7 +62,7 @@ with_list told papers (c ∷ list) =
     then Ok (record { highest = told.highest; seats = told.seats; withdrawn = told.withdrawn; bundles = with_papers told.bundles (c ∷ list) papers })
     else Err TooManyPapers
 
--- `12 1 2 4 0`: the number of papers, and their preferences; those for withdrawn candidates are passed over
+-- `12 1 2 4 0`: the number of papers, and their preferences; those for withdrawn candidates are skipped
 abbrev pub with_bundle : PapersEntry → List Text → Result PapersEntry BallotsFlaw
 with_bundle told [] = Err NoPapers
 with_bundle told (weight ∷ words) =

@@ -1,4 +1,4 @@
--- What to do about ballots that aren't counted, as a line in brackets.
+-- What to do about ballots that can't be counted, as a line in brackets.
 use Rattle.std.specs.Prelude.{[], codes}
 use Rattle.checker.specs.Tokens.{Text}
 use Rattle.checker.specs.declared.problem.BallotsFlaw.{BallotsFlaw}
@@ -6,7 +6,7 @@ use Rattle.checker.specs.declared.problem.BallotsFlaw.TheVariants as flaw
 use Rattle.checker.specs.declared.problem.Problem.{Problem}
 use Rattle.checker.specs.declared.problem.Problem.TheVariants as problem
 
--- about the flaw of a line
+-- what to do about the flaw in a line
 abbrev pub flaw_remedy : BallotsFlaw → Text
 flaw_remedy flaw.Size = codes "(give the highest number of a candidate and the seats, such as 4 2)\n"
 flaw_remedy flaw.NoSeat = codes "(give the seats of the ward, 1 to 15)\n"
@@ -31,8 +31,19 @@ flaw_remedy flaw.Twice = codes "(remove one of the two lines)\n"
 flaw_remedy flaw.NoSize = codes "(begin with the highest number of a candidate and the seats, such as 4 2)\n"
 flaw_remedy flaw.NoEnd = codes "(write a line 0 after the papers)\n"
 flaw_remedy flaw.NamesWanting = codes "(write a name for each number, and then the ward's)\n"
+flaw_remedy flaw.Field = codes "(put the whole field in quotation marks, and two for one within it)\n"
+flaw_remedy flaw.NoColumns = codes "(begin with the names of the columns, such as count,Ann,Bob,Cy)\n"
+flaw_remedy flaw.LoneColumn = codes "(add a column count: an empty line may be a paper without a mark, or no paper)\n"
+flaw_remedy flaw.NoColumnName = codes "(write the name of its candidate in the first line)\n"
+flaw_remedy flaw.NotCandidateColumn = codes "(if there is a rank in each column, add --candidate with the name of each candidate; numbers of papers are in a first column count)\n"
+flaw_remedy flaw.NotNextRank = codes "(with --candidate the columns are rank1, rank2, .., after count if there are numbers of papers)\n"
+flaw_remedy flaw.TooManyColumns = codes "(a ward has at most 30 candidates, and a paper as many ranks)\n"
+flaw_remedy flaw.FieldCount = codes "(write as many fields as the first line has; an empty one has no rank or no candidate)\n"
+flaw_remedy flaw.NotRank = codes "(write a rank from 1 to 99 in digits, or nothing)\n"
+flaw_remedy flaw.NotCandidate = codes "(write the number or the name of a candidate, as given by --candidate, or nothing)\n"
+flaw_remedy flaw.SeveralCandidates = codes "(write the number of the candidate; no name may be the number of another one)\n"
 
--- about a problem; nothing if the problem says it
+-- what to do about a problem; empty if the description of the problem already says it
 abbrev pub remedy : Problem → Text
 remedy (problem.Line line flaw) = flaw_remedy flaw
 remedy problem.NoContest = codes "(remove the papers and the line of rejected ones, or correct the seats)\n"

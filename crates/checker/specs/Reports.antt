@@ -23,16 +23,16 @@ use Rattle.checker.specs.declared.problem.Problem.TheVariants as problem
 
 -- ---- lines for a terminal
 
--- whether a character is in a range
+-- whether a character is in the given range
 abbrev pub is_from : ℕ → ℕ → ℕ → Bool
 is_from low high c = nat_le low c && nat_le c high
 
--- a character that controls a terminal, or the writing direction; a line feed only ends a line, as intended
+-- a character that controls a terminal or the writing direction; a line feed only ends a line, as intended
 abbrev pub steers : ℕ → Bool
 steers c =
     (is_from 0 31 c && not (c == 10)) || (is_from 127 159 c || (c == 1564 || (is_from 8206 8207 c || (is_from 8234 8238 c || is_from 8294 8297 c))))
 
--- a question mark replaces it
+-- a question mark in place of a character that controls a terminal or the writing direction; any other character unchanged
 abbrev pub shown_character : ℕ → Text
 shown_character c = if steers c then codes "?" else encode_utf8 c
 
@@ -40,9 +40,9 @@ shown_character c = if steers c then codes "?" else encode_utf8 c
 abbrev pub shown : Text → Text
 shown text = flat_map shown_character (chars text)
 
--- ---- invisible differences of a text
+-- ---- invisible differences in a text
 
--- a text has a last byte that isn't a line end
+-- whether a text is nonempty and doesn't end with a line feed
 abbrev pub ends_amiss : Option ℕ → Bool
 ends_amiss None = false
 ends_amiss (Some byte) = not (byte == 10)
@@ -50,7 +50,7 @@ ends_amiss (Some byte) = not (byte == 10)
 abbrev pub is_unended : Text → Bool
 is_unended text = ends_amiss (slice_get text (length text - 1))
 
--- a text begins with a byte order mark
+-- whether a text begins with a byte order mark
 abbrev pub is_marked : Text → Bool
 is_marked (a ∷ b ∷ c ∷ text) = a == 239 && (b == 187 && c == 191)
 is_marked text = false
@@ -70,13 +70,13 @@ hint_text (Some hint.NoLineEnd) = codes "(its last line has no line end)\n"
 
 -- ---- pages
 
--- the text for the output, that for the error output, and the exit status
+-- the text for the output, the text for the error output, and the exit status
 pub record ReportEntry : Type 0 where
   pub out : Text
   pub err : Text
   pub status : ℕ
 
--- a text with a status: it is printed on the output if the status is 0, otherwise on the error output
+-- a text with a status: it goes to the output if the status is 0, otherwise to the error output
 abbrev pub page_with : ℕ → Text → ReportEntry
 page_with status text = if status == 0 then record { out = text; err = []; status = status } else record { out = []; err = text; status = status }
 
@@ -84,18 +84,18 @@ page_with status text = if status == 0 then record { out = text; err = []; statu
 abbrev pub error_line : Text → Text
 error_line text = joined (codes "error: " ∷ text ∷ codes "\n" ∷ [])
 
--- a line at which the text should have ended
+-- the message about the line at which the text should have ended
 abbrev pub too_long_text : ℕ → Option Hint → Text
 too_long_text line hint = joined (codes "line " ∷ decimal line ∷ codes " differs: the text should end before it\n" ∷ hint_text hint ∷ [])
 
--- the first line that differs, and what it should be
+-- the message about the first line that differs, and what it should be
 abbrev pub should_be_text : ℕ → Text → Option Hint → Text
 should_be_text line should_be hint = joined (codes "line " ∷ decimal line ∷ codes " differs, and should be:\n" ∷ shown should_be ∷ hint_text hint ∷ [])
 
 abbrev pub differing : ℕ → Text → Option Hint → Text
 differing line should_be hint = if length should_be == 0 then too_long_text line hint else should_be_text line should_be hint
 
--- the outcome of a check
+-- the message about the outcome of a check
 abbrev pub checked_text : Checked → Option Hint → Text
 checked_text checked.Sheet hint = codes "the text is the stage sheet that these ballots, rejected papers and lots give\n"
 checked_text checked.Declaration hint = codes "the text is the declaration that these ballots, rejected papers and lots give\n"
@@ -105,11 +105,11 @@ checked_text (checked.Differs line should_be) hint = differing line (string_byte
 abbrev pub tied_text : List ℕ → Text
 tied_text among = flat_map (λ c. 32 ∷ decimal c) among
 
--- a missing lot, and the tied candidates
+-- the message about a missing lot, with the tied candidates
 abbrev pub lot_text : Problem → List ℕ → Text
 lot_text problem among = joined (codes "error: " ∷ problem_text problem ∷ codes ", where these are tied:" ∷ tied_text among ∷ codes "\n" ∷ [])
 
--- the problem that prevented a check
+-- the message about the problem that prevented a check
 abbrev pub hindered_text : Problem → Text
 hindered_text (problem.Line line flaw) = error_line (problem_text (problem.Line line flaw))
 hindered_text problem.NoContest = error_line (problem_text problem.NoContest)
@@ -118,11 +118,11 @@ hindered_text (problem.LotNotAmong stage) = error_line (problem_text (problem.Lo
 hindered_text (problem.LotNotNeeded stage) = error_line (problem_text (problem.LotNotNeeded stage))
 hindered_text problem.Memory = error_line (problem_text problem.Memory)
 
--- a file that can't be read, and the reason
+-- the message about a file that can't be read, with the reason
 abbrev pub unread_text : Text → Text → Text
 unread_text path why = joined (codes "error: " ∷ shown path ∷ codes " can't be read: " ∷ why ∷ codes "\n" ∷ [])
 
--- the flaw of the words of a request to count ballots, and what to do
+-- the message about a flaw in a request to count ballots, and what to do about it
 abbrev pub words_text : WordsFlaw → Text
 words_text words.NoBallots = codes "error: give the path of the ballots; --help says more\n"
 words_text words.SecondBallots = codes "error: give one path, that of the ballots; --help says more\n"
@@ -131,24 +131,27 @@ words_text words.SecondText = codes "error: give one of --declaration, --page, -
 words_text words.NoValue = codes "error: the last option needs a value; --help says more\n"
 words_text words.Lot = codes "error: give a lot as its stage and its candidate, such as --lot 3:4; --help says more\n"
 words_text words.TitleAlone = codes "error: only a page has a title: add --page; --help says more\n"
-words_text words.SecondTitle = codes "error: give one title; --help says more\n"
+words_text words.SecondTime = codes "error: an option is given a second time; --help says more\n"
+words_text words.Seats = codes "error: give the seats of the ward, 1 to 15, such as --seats 3; --help says more\n"
+words_text words.Candidates = codes "error: give the names of the candidates, at most 30 of 1 to 1000 bytes, such as --candidate Ann --candidate Bob; --help says more\n"
+words_text words.HalfWard = codes "error: cast-vote records need --seats and --name; --help says more\n"
 
--- a second lot for a stage, and what to do
+-- the message about a second lot for a stage, and what to do about it
 abbrev pub second_lot_text : ℕ → Text
 second_lot_text stage = joined (codes "error: a lot for stage " ∷ decimal stage ∷ codes " is given a second time: give one, in the ballots or by --lot\n" ∷ [])
 
--- the reason why ballots aren't counted, and what to do
+-- the message that says why ballots weren't counted, and what to do about it
 abbrev pub uncounted_text : CountProblem → Text
 uncounted_text (uncounted.LotTwice stage) = second_lot_text stage
 uncounted_text (uncounted.Ballots problem) = hindered_text problem ++ remedy problem
 
--- the status for the outcome of a check
+-- the exit status for the outcome of a check
 abbrev pub checked_status : Checked → ℕ
 checked_status checked.Sheet = 0
 checked_status checked.Declaration = 0
 checked_status (checked.Differs line should_be) = 1
 
--- the status for a problem that prevented a check
+-- the exit status for a problem that prevented a check
 abbrev pub hindered_status : Problem → ℕ
 hindered_status (problem.Line line flaw) = 2
 hindered_status problem.NoContest = 2
@@ -157,17 +160,17 @@ hindered_status (problem.LotNotAmong stage) = 2
 hindered_status (problem.LotNotNeeded stage) = 2
 hindered_status problem.Memory = 3
 
--- the status for the reason why ballots aren't counted
+-- the exit status for the reason why ballots weren't counted
 abbrev pub uncounted_status : CountProblem → ℕ
 uncounted_status (uncounted.LotTwice stage) = 2
 uncounted_status (uncounted.Ballots problem) = hindered_status problem
 
--- a text of a count, with status 0 if the count is finished; if it waits for a lot, the line about that on the error output, with status 1
+-- a text of a count, with status 0 if the count is finished; if it is waiting for a lot, the line about that goes to the error output, and the status is 1
 abbrev pub counted_page : Text → Option Text → ReportEntry
 counted_page text None = record { out = text; err = []; status = 0 }
 counted_page text (Some line) = record { out = text; err = line; status = 1 }
 
--- the outcome of the program's arguments
+-- the page for the outcome of running the program
 abbrev pub page_of : Report → ReportEntry
 page_of report.Help = page_with 0 HELP.now
 page_of report.CountHelp = page_with 0 COUNT_HELP.now

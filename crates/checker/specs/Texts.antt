@@ -1,4 +1,4 @@
--- The flaws of ballots and the problems that prevent a check, in words.
+-- The messages for the flaws of ballots and for the problems that prevent a check.
 use Rattle.std.specs.Prelude.{List, [], ◌∷◌, ◌++◌, codes}
 use Rattle.std.specs.Fmt.{decimal}
 use Rattle.checker.specs.Tokens.{Text}
@@ -7,13 +7,13 @@ use Rattle.checker.specs.declared.problem.BallotsFlaw.TheVariants as flaw
 use Rattle.checker.specs.declared.problem.Problem.{Problem}
 use Rattle.checker.specs.declared.problem.Problem.TheVariants as problem
 
--- pieces of text in order
+-- pieces of text, joined in order
 abbrev pub joined : List Text → Text
 joined [] = []
 joined (piece ∷ []) = piece
 joined (piece ∷ next ∷ pieces) = piece ++ joined (next ∷ pieces)
 
--- the flaw of a line
+-- the message for the flaw in a line
 abbrev pub flaw_text : BallotsFlaw → Text
 flaw_text flaw.Size = codes "not the highest number of a candidate, and the seats"
 flaw_text flaw.NoSeat = codes "no seats"
@@ -38,8 +38,19 @@ flaw_text flaw.Twice = codes "given a second time"
 flaw_text flaw.NoSize = codes "the file ends before the candidates and seats"
 flaw_text flaw.NoEnd = codes "the file ends before the line 0 behind the papers"
 flaw_text flaw.NamesWanting = codes "the file ends before the ward's name"
+flaw_text flaw.Field = codes "a field is not in quotation marks as a whole"
+flaw_text flaw.NoColumns = codes "the file ends before the line of its columns"
+flaw_text flaw.LoneColumn = codes "a single column"
+flaw_text flaw.NoColumnName = codes "a column has no name"
+flaw_text flaw.NotCandidateColumn = codes "a column may be of something other than a candidate"
+flaw_text flaw.NotNextRank = codes "a column is not that of the next rank"
+flaw_text flaw.TooManyColumns = codes "too many columns"
+flaw_text flaw.FieldCount = codes "another number of fields than columns"
+flaw_text flaw.NotRank = codes "a field is not a rank"
+flaw_text flaw.NotCandidate = codes "a field names no candidate"
+flaw_text flaw.SeveralCandidates = codes "a field may name several candidates"
 
--- the problem that prevents a check
+-- the message for the problem that prevents a check
 abbrev pub problem_text : Problem → Text
 problem_text (problem.Line line flaw) = joined (codes "line " ∷ decimal line ∷ codes " of the ballots: " ∷ flaw_text flaw ∷ [])
 problem_text problem.NoContest = codes "no more candidates than seats"

@@ -5,7 +5,7 @@ use Rattle.checker.specs.declared.tokens.LineKind.TheVariants.{Empty, Comment, C
 use Rattle.checker.specs.declared.tokens.Separator.{Separator}
 use Rattle.checker.specs.declared.tokens.Separator.TheVariants.{LineFeed, Blank, Mark, Equals, Colon}
 
--- some bytes
+-- a sequence of bytes
 abbrev pub Text : Type 0
 Text = List ℕ
 
@@ -13,8 +13,8 @@ Text = List ℕ
 abbrev pub is_blank : ℕ → Bool
 is_blank byte = byte == 32 || (byte == 9 || byte == 13)
 
--- Whether a byte separates two pieces. A line feed separates lines, and blanks separate words. In our own comments colons and commas do so too. An equals
--- sign separates the candidates who share a rank, and a colon the stage of a lot and its candidate
+-- Whether a byte separates two pieces. A line feed separates lines, and blanks separate words; in our own comments, so do colons and commas. An
+-- equals sign separates the candidates who share a rank, and a colon separates the stage of a lot from its candidate.
 abbrev pub parts : Separator → ℕ → Bool
 parts LineFeed byte = byte == 10
 parts Blank byte = is_blank byte
@@ -27,7 +27,7 @@ abbrev pub word : Text → List Text
 word [] = []
 word (byte ∷ bytes) = (byte ∷ bytes) ∷ []
 
--- a complete piece: a line, one of the candidates who share a rank, or a part of a lot may be empty, but there is no word between two blanks
+-- a complete piece: a line, one of the candidates who share a rank, or a part of a lot may be empty, but an empty piece between two blanks isn't a word
 abbrev pub piece : Separator → Text → List Text
 piece LineFeed text = text ∷ []
 piece Blank text = word text
@@ -35,13 +35,13 @@ piece Mark text = word text
 piece Equals text = text ∷ []
 piece Colon text = text ∷ []
 
--- the pieces of a text, given the beginning of the first
+-- the pieces of a text, given the bytes of the first piece so far
 abbrev pub pieces_of : Separator → Text → Text → List Text
 pieces_of separator begun [] = piece separator begun
 pieces_of separator begun (byte ∷ bytes) =
     if parts separator byte then piece separator begun ++ pieces_of separator [] bytes else pieces_of separator (begun ++ byte ∷ []) bytes
 
--- a text without its byte order mark, if it begins with one
+-- a text without its leading byte order mark, if it has one
 abbrev pub behind_byte_order_mark : Text → Text
 behind_byte_order_mark (a ∷ b ∷ c ∷ text) = if a == 239 && (b == 187 && c == 191) then text else a ∷ b ∷ c ∷ text
 behind_byte_order_mark text = text

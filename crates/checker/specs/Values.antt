@@ -19,7 +19,7 @@ use Rattle.checker.specs.declared.file_content.Reader.{Reader}
 abbrev pub ranks_of : Ranks → Ranked
 ranks_of ranks = record { named = ranks.named.items; next = ranks.next }
 
--- the candidates, seats and papers in a file
+-- the candidates, the seats and the papers in a file
 abbrev pub told_of : PaperTotals → PapersEntry
 told_of papers = record { highest = papers.highest; seats = papers.seats; withdrawn = papers.withdrawn; bundles = papers.bundles }
 
@@ -31,7 +31,7 @@ quoting_of quoted = record { name = quoted.name.items; comment = quoted.comment.
 abbrev pub remarks_of : Comments → Remarks
 remarks_of comments = record { ward = comments.ward; rejected = comments.rejected; lots = comments.lots.items }
 
--- the names of a file
+-- the names in a file
 abbrev pub named_of : CandidateNames → Named
 named_of names = record { names = map string_bytes names.names.items; ward = string_bytes names.ward }
 
@@ -39,8 +39,8 @@ named_of names = record { names = map string_bytes names.names.items; ward = str
 abbrev pub reading_of : Reader → ReaderEntry
 reading_of reader = record { place = reader.place; papers = told_of reader.papers; names = named_of reader.names; remarks = remarks_of reader.comments }
 
--- the flaw of a line, if there is one; or an allocation failed
-abbrev pub IsFlawOf : Result ReaderEntry (ℕ × BallotsFlaw) → Problem → Type 0
+-- the flaw in a line, if there is one; or a failed allocation
+abbrev pub IsFlawOf : {X : Type 0} → Result X (ℕ × BallotsFlaw) → Problem → Type 0
 IsFlawOf told (problem.Line line flaw) = told ≡ Err (line, flaw)
 IsFlawOf told problem.Memory = ⊤
 IsFlawOf told problem.NoContest = ⊥

@@ -7,7 +7,7 @@ ghost use Rattle.checker.specs.InputFiles.{Holds};
 ghost use Rattle.checker.specs.Outputs.{PrintsSomeReport, outputs_of};
 ghost use Rattle.checker.specs.RequestViews.{request_told};
 
-use crate::ballot_counts::count_ballots;
+use crate::ballot_counts::{count_ballots, count_records};
 use crate::checking::check;
 use crate::hints::hint_of;
 use crate::input_files::{InputFiles, NotRead};
@@ -27,7 +27,7 @@ pub enum ArgumentsFault {
     Memory,
 }
 
-/// Returns the bytes of a file, or the outcome if it can't be read.
+/// Returns the bytes of a file, or the outcome of the program if the file can't be read.
 fn bytes_of<F: InputFiles>(alloc: Global, folder: &F, path: &str) -> Result<Vec<u8>, Report>
     ensures ok { IfOk result (λ bytes. Holds (F.held folder.now) path.now bytes.items) }
     ensures err { IfErr result (λ told. IsUnreadFile (F.held folder.now) path.now told) }
@@ -56,7 +56,7 @@ fn checked(alloc: Global, ballots: &[u8], text: &[u8]) -> Report
     }
 }
 
-/// Returns the outcome of checking the file of a text against ballots.
+/// Returns the outcome of checking a file's text against ballots.
 fn checked_file<F: InputFiles>(alloc: Global, folder: &F, ballots: &[u8], path: &str) -> Report
     ensures { IsTextOutcome (F.held folder.now) ballots.now path.now result }
 {
@@ -66,7 +66,7 @@ fn checked_file<F: InputFiles>(alloc: Global, folder: &F, ballots: &[u8], path: 
     }
 }
 
-/// Returns the outcome for the files of ballots and of a text.
+/// Returns the outcome of checking one file against the ballots in another.
 fn checked_files<F: InputFiles>(alloc: Global, folder: &F, ballots: &str, text: &str) -> Report
     ensures { IsFilesOutcome (F.held folder.now) ballots.now text.now result }
 {
@@ -76,7 +76,7 @@ fn checked_files<F: InputFiles>(alloc: Global, folder: &F, ballots: &str, text: 
     }
 }
 
-/// Returns whether an argument requests help.
+/// Returns whether the argument asks for help.
 fn is_help(word: &str) -> bool
     ensures { result ≡ is_help word.now }
 {
@@ -104,7 +104,11 @@ fn check_answer<F: InputFiles>(alloc: Global, words: &[String], folder: &F) -> R
 fn counted(alloc: Global, ballots: &[u8], request: &CountRequest) -> Report
     ensures { IsCountOutcome ballots.now (request_told request.now) result }
 {
-    match count_ballots(alloc, ballots, &request.lots, &request.text) {
+    let counted = match &request.ward {
+        None => count_ballots(alloc, ballots, &request.lots, &request.text),
+        Some(ward) => count_records(alloc, ward, ballots, &request.lots, &request.text),
+    };
+    match counted {
         Ok(counted) => Report::Counted(counted),
         Err(problem) => Report::NotCounted(problem),
     }
@@ -120,7 +124,7 @@ fn counted_file<F: InputFiles>(alloc: Global, folder: &F, request: &CountRequest
     }
 }
 
-/// Returns whether help about counting is requested.
+/// Returns whether help on counting is requested.
 fn is_help_alone(words: &[String]) -> bool
     ensures { result ≡ is_help_alone (map string_bytes words.now) }
 {
@@ -157,7 +161,7 @@ fn answer<F: InputFiles>(alloc: Global, words: &[String], folder: &F) -> Report
     check_answer(alloc, words, folder)
 }
 
-/// Returns the outcome of the program's arguments, or of the failure to read them.
+/// Returns the outcome for the program's arguments, or for the failure to read them.
 fn outcome_of<F: InputFiles>(
     alloc: Global,
     words: &Result<Vec<String>, ArgumentsFault>,
@@ -172,17 +176,18 @@ fn outcome_of<F: InputFiles>(
     }
 }
 
-/// Executes the request in the program's arguments, prints the outcome, and returns the status.
+/// Executes the request in the program's arguments, prints its outcome, and returns the exit status.
 ///
-/// The arguments of a check are `--help`, or the paths of the ballots and of the text that is checked against them. The status is 0
-/// if the text is the sheet or the declaration that results from the ballots, which is printed on `out`. It is 1 if the text differs.
+/// The arguments for a check are `--help`, or the paths of the ballots and of the text that is checked against them. The status is 0
+/// if the text is the sheet or the declaration that results from the ballots; `out` then says which. It is 1 if the text differs.
 ///
-/// The arguments of a count are `--count`, followed by `--help`, or by the path of the ballots, the option for a text other than the
-/// sheet, and lots. The text is printed on `out`. The status is 0 if the count is finished. It is 1 if a lot is needed: the text is
-/// then of the stages so far, and `err` names the stage and the tied candidates.
+/// The arguments for a count are `--count`, followed by `--help`, or by the path of the ballots, the option for a text other than
+/// the sheet, and lots. The text is printed to `out`. The status is 0 if the count is finished. It is 1 if a lot is needed: the text
+/// then covers the stages so far, and `err` names the stage and the tied candidates.
 ///
-/// The status is 0 for help, 2 if the arguments or the ballots aren't understood or can't be counted, and 3 if a file can't be read or
-/// an allocation fails; the reason is printed on `err`. It is also 3 if one of the two outputs fails, which has then accepted a prefix.
+/// The status is 0 for help, 2 if the arguments or the ballots aren't understood or can't be counted, and 3 if a file can't be read
+/// or an allocation fails; the reason is printed to `err`. It is also 3 if one of the two outputs fails; that output has then
+/// accepted a prefix.
 pub fn run<F: InputFiles, O: Sink, E: Sink>(
     alloc: Global,
     words: &Result<Vec<String>, ArgumentsFault>,

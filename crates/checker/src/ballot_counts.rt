@@ -1,10 +1,13 @@
-//! The count of a file of ballots, and its texts.
+//! The count of a file of ballots, and the texts of that count.
 
 ghost use Rattle.std.specs.Prelude.{◌≡◌, option_map, string_bytes, IfOk, IfErr};
 ghost use Rattle.sheet.specs.Entries.{shown};
 ghost use Rattle.sheet.specs.Wards.{CanBePrinted};
 ghost use Rattle.checker.specs.Counts.{IsCountedText, IsLotLine, IsNoLotLine, IsReadingText, IsReadingUncounted, IsUncounted};
 ghost use Rattle.checker.specs.Counts.{IsWardText, IsWardUncounted, declaration_asked, is_finished, lots_in, text_of, text_shown};
+ghost use Rattle.checker.specs.Reading.{read};
+ghost use Rattle.checker.specs.RecordViews.{ward_told};
+ghost use Rattle.checker.specs.Records.{read_records};
 ghost use Rattle.checker.specs.Values.{reading_of};
 
 use crate::counting::{WardCount, count_of};
@@ -13,6 +16,8 @@ use crate::lot_lines::lot_line;
 use crate::lots::lots_of;
 use crate::problem::Problem;
 use crate::reading::read;
+use crate::records::read_records;
+use crate::records_ward::RecordsWard;
 use crate::wards::{Election, candidates_of, ward_in};
 use count::CountEnd;
 use sheet::{ballots_text, declaration_text, page_text, sheet_text, spreadsheet_text};
@@ -23,9 +28,9 @@ use std::alloc::{AllocError, Global};
 pub enum CountText<'a> {
     /// The stage sheet.
     Sheet,
-    /// The declaration of a finished count; nothing before that.
+    /// The declaration of a finished count; empty until then.
     Declaration,
-    /// The page for a browser, under this title: of the declared ward if its count is finished.
+    /// The page for a browser, with the given title; it shows the ward as declared if its count is finished.
     Page(&'a str),
     /// The table of the stages for a spreadsheet.
     Table,
@@ -33,25 +38,25 @@ pub enum CountText<'a> {
     Ballots,
 }
 
-/// A text of a count, which may wait for a lot.
+/// A text of a count, which may be waiting for a lot.
 #[derive(Drop)]
 pub struct CountedText {
-    /// The text, for the stages so far.
+    /// The text, covering the stages so far.
     pub text: String,
-    /// The line about the lot that the count waits for; `None` if the count is finished.
+    /// The line about the lot that the count is waiting for; `None` if the count is finished.
     pub lot_needed: Option<String>,
 }
 
 /// The reason why ballots aren't counted.
 #[derive(Clone, Copy)]
 pub enum CountProblem {
-    /// A second lot is given for this stage.
+    /// A second lot is given for stage `stage`.
     LotTwice { stage: u8 },
-    /// The ballots or their lots prevent it; or an allocation failed.
+    /// The ballots or their lots have a problem, or an allocation failed.
     Ballots(Problem),
 }
 
-/// Returns whether a count is finished.
+/// Returns whether the count is finished.
 fn is_finished(end: CountEnd) -> bool
     ensures { result ≡ is_finished end }
 {
@@ -61,7 +66,7 @@ fn is_finished(end: CountEnd) -> bool
     }
 }
 
-/// Returns the lots of a contested ward; none of an uncontested one.
+/// Returns the lots of a contested ward; none for an uncontested one.
 fn lots_in<'a>(election: &Election<'a>) -> &'a [(u8, u8)]
     ensures { result.now ≡ lots_in election.now.ward.poll election.now.lots.now }
 {
@@ -71,7 +76,7 @@ fn lots_in<'a>(election: &Election<'a>) -> &'a [(u8, u8)]
     }
 }
 
-/// Returns the declaration of a finished count; an empty text before that.
+/// Returns the declaration of a finished count; empty until then.
 fn declared(alloc: Global, election: &Election, count: &WardCount) -> Result<String, AllocError>
     requires { CanBePrinted election.now.ward }
     ensures { IfOk result (λ told. string_bytes told ≡ text_shown declaration_asked (shown election.now.ward) election.now.bundles.now election.now.lots.now count.now) }
@@ -112,7 +117,7 @@ fn text_of(
     }
 }
 
-/// Returns the line about the lot that a count waits for, if it waits for one.
+/// Returns the line about the lot that a count is waiting for, if any.
 fn lot_needed(alloc: Global, election: &Election, end: CountEnd) -> Result<Option<String>, Problem>
     ensures ok { IfOk result (λ line. IsLotLine (shown election.now.ward) end (option_map string_bytes line)) }
     ensures err { IfErr result (λ problem. IsNoLotLine end problem) }
@@ -146,7 +151,7 @@ fn counted(alloc: Global, election: &Election, text: &CountText) -> Result<Count
     }
 }
 
-/// Counts the ward in a file with further lots, and returns a text of its count.
+/// Counts the ward in a file, with further lots, and returns a text of its count.
 fn counted_as(
     alloc: Global,
     told: &Reader,
@@ -172,10 +177,10 @@ fn counted_as(
 }
 
 /// Counts the ballots of a ward, and returns a text of the count: the stage sheet, the declaration, the page, the table, or the
-/// ballots and lots. It is the text that an office prints of a ward with just these papers and lots.
+/// ballots and lots. It is the text that an office prints for a ward with exactly these papers and lots.
 ///
 /// The ballots are read as for [`check`](crate::check). The further lots, each a stage, counted from 1, and a candidate, are added to
-/// those that the file records; no two may be for one stage. If a lot is needed that isn't there, the text is of the stages so far,
+/// those that the file records; no two may be for the same stage. If a lot is needed but missing, the text covers the stages so far,
 /// and a line names the stage and the tied candidates.
 pub fn count_ballots(
     alloc: Global,
@@ -183,10 +188,38 @@ pub fn count_ballots(
     added: &[(u8, u8)],
     text: &CountText,
 ) -> Result<CountedText, CountProblem>
-    ensures ok { IfOk result (λ counted. IsCountedText ballots.now added.now (text_of text.now) counted) }
-    ensures err { IfErr result (λ problem. IsUncounted ballots.now added.now problem) }
+    ensures ok { IfOk result (λ counted. IsCountedText (read ballots.now) added.now (text_of text.now) counted) }
+    ensures err { IfErr result (λ problem. IsUncounted (read ballots.now) added.now problem) }
 {
     let told = match read(alloc, ballots) {
+        Ok(told) => told,
+        Err(problem) => return Err(CountProblem::Ballots(problem)),
+    };
+    match counted_as(alloc, &told, added, text) {
+        Ok(counted) => Ok(counted),
+        Err(problem) => Err(problem),
+    }
+}
+
+/// Counts the cast-vote records of a ward, and returns a text of the count, as [`count_ballots`] does.
+///
+/// The records are comma-separated values. The first line names the columns; if the first column is `count`, it contains the number
+/// of papers that each line represents. If no candidates are given, each other column is for a candidate, and a line contains the
+/// ranks that a paper gives to the candidates. Its preferences are then the candidates with ranks 1, 2, 3, .., for as long as each
+/// rank is given to exactly one candidate. If candidates are given, each other column is for a rank, and a line contains the
+/// candidates, by number or by name. Its preferences are then those before the first empty field. A paper with no first preference,
+/// or with several, is rejected.
+pub fn count_records(
+    alloc: Global,
+    ward: &RecordsWard,
+    records: &[u8],
+    added: &[(u8, u8)],
+    text: &CountText,
+) -> Result<CountedText, CountProblem>
+    ensures ok { IfOk result (λ counted. IsCountedText (read_records (ward_told ward.now) records.now) added.now (text_of text.now) counted) }
+    ensures err { IfErr result (λ problem. IsUncounted (read_records (ward_told ward.now) records.now) added.now problem) }
+{
+    let told = match read_records(alloc, ward, records) {
         Ok(told) => told,
         Err(problem) => return Err(CountProblem::Ballots(problem)),
     };

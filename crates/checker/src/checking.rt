@@ -36,7 +36,7 @@ fn compared(
     comparison(alloc, text, sheet.as_str(), declaration.as_str())
 }
 
-/// Returns the reason why a count isn't finished, if it isn't.
+/// Returns the reason why the count isn't finished; `None` if it is.
 fn problem_of(end: CountEnd) -> Option<Problem>
     ensures { result ≡ problem_of end }
 {
@@ -47,7 +47,7 @@ fn problem_of(end: CountEnd) -> Option<Problem>
     }
 }
 
-/// Compares a text with the sheet and the declaration of a ward, after its count is finished.
+/// Counts a ward, and compares a text with its sheet and its declaration.
 fn checked_for(alloc: Global, election: &Election, text: &[u8]) -> Result<Checked, Problem>
     requires { CanBePrinted election.now.ward }
     ensures ok { let e = election.now in IfOk result (λ checked. IsWardCheck e.ward.poll (shown e.ward) e.bundles.now e.lots.now text.now checked) }
@@ -63,7 +63,7 @@ fn checked_for(alloc: Global, election: &Election, text: &[u8]) -> Result<Checke
     }
 }
 
-/// Compares a text with the sheet and the declaration of the ward in a file.
+/// Counts the ward in a file, and compares a text with its sheet and its declaration.
 fn checked_as(alloc: Global, told: &Reader, text: &[u8]) -> Result<Checked, Problem>
     ensures ok { let ward = ward_told (reading_of told.now) in IfOk result (λ checked. IsWardCheck ward.poll ward told.now.papers.bundles told.now.comments.lots.items text.now checked) }
     ensures err { let ward = ward_told (reading_of told.now) in IfErr result (λ problem. IsWardProblem ward.poll ward told.now.papers.bundles told.now.comments.lots.items problem) }
@@ -79,15 +79,15 @@ fn checked_as(alloc: Global, told: &Reader, text: &[u8]) -> Result<Checked, Prob
     checked_for(alloc, &election, text)
 }
 
-/// Checks a text against the ballots of its ward. It must be exactly the stage sheet of the finished count of these ballots, rejected
-/// papers and lots, or the declaration of the candidates elected by that count.
+/// Checks a text against the ballots of its ward. It must be exactly the stage sheet of the finished count of the given ballots,
+/// rejected papers and lots, or the declaration of the candidates elected by that count.
 ///
-/// The ballots are read as printed by `ballots`, or as written by other counting programs. Without our own comments the ward has
+/// The ballots are read as printed by `ballots`, or as written by other counting programs. Without our own comments, the ward has
 /// number 1, no rejected papers and no lots. A text that differs is compared with the sheet or the declaration, whichever shares the
-/// longer prefix with it; with the sheet if they are equally long.
+/// longer prefix with it, or with the sheet if the prefixes are equally long.
 ///
 /// A `Problem` is the first line of the ballots that isn't understood, the reason why the count can't be finished, or a failed
-/// allocation; it says nothing about the text.
+/// allocation. It says nothing about the text.
 pub fn check(alloc: Global, ballots: &[u8], text: &[u8]) -> Result<Checked, Problem>
     ensures ok { IfOk result (λ checked. IsChecked ballots.now text.now checked) }
     ensures err { IfErr result (λ problem. IsProblem ballots.now problem) }

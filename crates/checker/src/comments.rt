@@ -1,4 +1,4 @@
-//! Our own comments: the number of the ward, the rejected papers of each code, and the lots.
+//! Our own comments: the number of the ward, the number of rejected papers for each code, and the lots.
 
 ghost use Rattle.std.specs.Prelude.{◌≡◌, ◌∷◌, [], map, option_map, IfOk, OnOk, codes};
 ghost use Rattle.checker.specs.BallotsComments.{code_in, codes_in, count_in, is_drawn, is_end, is_word, lot_in, rejected_counts_in, small_in, told_once, ward_in};
@@ -13,8 +13,8 @@ use crate::problem::BallotsFlaw;
 use crate::tokens::{Separator, pieces_of};
 use std::alloc::{AllocError, Global};
 
-/// Returns whether a word equals this one.
-fn is_word(text: &str, word: &[u8]) -> bool
+/// Returns whether the word equals the given text.
+pub(crate) fn is_word(text: &str, word: &[u8]) -> bool
     ensures { result ≡ is_word text.now word.now }
 {
     word == text.as_bytes()
@@ -40,7 +40,7 @@ fn count_in(word: &[u8]) -> Option<u32>
     }
 }
 
-/// Parses the number of a ward.
+/// Parses a ward number.
 fn ward_in(words: &[&[u8]]) -> Option<u8>
     ensures { result ≡ ward_in (map (λ w. w.now) words.now) }
 {
@@ -60,7 +60,7 @@ fn is_end(words: &[&[u8]]) -> bool
     }
 }
 
-/// Parses the number of rejected papers for a code; returns it with the remaining words.
+/// Parses the number of rejected papers for a code, and returns it with the remaining words.
 fn code_in<'a, 'b>(code: &str, words: &'b [&'a [u8]]) -> Option<(u32, &'b [&'a [u8]])>
     ensures { option_map (λ told. (told.0, map (λ w. w.now) told.1.now)) result ≡ code_in code.now (map (λ w. w.now) words.now) }
 {
@@ -88,7 +88,7 @@ fn rejected_counts_in(words: &[&[u8]]) -> Option<[u32; 5]>
     Some([first, second, third, fourth, fifth])
 }
 
-/// Parses a stage and the candidate drawn by its lot.
+/// Parses a stage and the candidate that its lot names.
 fn lot_in(words: &[&[u8]]) -> Option<(u8, u8)>
     ensures { result ≡ lot_in (map (λ w. w.now) words.now) }
 {
@@ -101,7 +101,7 @@ fn lot_in(words: &[&[u8]]) -> Option<(u8, u8)>
     Some((small_in(k)?, small_in(c)?))
 }
 
-/// Returns whether a lot is recorded for a stage.
+/// Returns whether a lot is recorded for the given stage.
 pub(crate) fn is_drawn(stage: u8, lots: &[(u8, u8)]) -> bool
     ensures { result ≡ is_drawn stage lots.now }
 {
@@ -113,7 +113,7 @@ pub(crate) fn is_drawn(stage: u8, lots: &[(u8, u8)]) -> bool
     false
 }
 
-/// Stores the content of a comment, if it is understood, and if no earlier comment had the same subject.
+/// Stores the content of a comment if it was understood and no earlier comment had the same subject.
 fn keep_once<T: Copy>(
     kept: &mut Option<T>,
     told: Option<T>,
@@ -132,21 +132,21 @@ fn keep_once<T: Copy>(
 }
 
 impl Comments {
-    /// Stores the number of the ward, if a comment contains it.
+    /// Stores the ward number from a comment, if it contains one.
     fn take_ward(&mut self, ward: Option<u8>) -> Result<(), BallotsFlaw>
         ensures { outcome result (remarks_of self.new) ≡ with_ward (remarks_of self.old) ward }
     {
         keep_once(&mut self.ward, ward, BallotsFlaw::Ward)
     }
 
-    /// Stores the rejected papers, if a comment contains them.
+    /// Stores the numbers of rejected papers from a comment, if it contains them.
     fn take_rejected(&mut self, rejected: Option<[u32; 5]>) -> Result<(), BallotsFlaw>
         ensures { outcome result (remarks_of self.new) ≡ with_rejected (remarks_of self.old) rejected }
     {
         keep_once(&mut self.rejected, rejected, BallotsFlaw::Rejected)
     }
 
-    /// Stores a lot, if a comment contains it.
+    /// Stores the lot from a comment, if it contains one.
     fn take_lot(&mut self, lot: Option<(u8, u8)>) -> Result<Result<(), BallotsFlaw>, AllocError>
         ensures { IfOk result (λ told. outcome told (remarks_of self.new) ≡ with_lot (remarks_of self.old) lot) }
     {
@@ -160,14 +160,14 @@ impl Comments {
         Ok(Ok(()))
     }
 
-    /// Processes a comment that isn't ours.
+    /// Processes a comment that isn't one of ours.
     fn take_other(&self, line: &[u8]) -> Result<(), BallotsFlaw>
         ensures { outcome result (remarks_of self.now) ≡ with_other (remarks_of self.now) line.now }
     {
         skip_foreign(line)
     }
 
-    /// Processes a comment line of a certain kind, given the remaining words.
+    /// Processes a comment line, given the word for its kind and the remaining words.
     fn take_kind(
         &mut self,
         line: &[u8],
@@ -205,7 +205,7 @@ impl Comments {
         self.take_kind(line, kind, others)
     }
 
-    /// Processes a comment on a line of its own.
+    /// Processes a comment on a separate line.
     pub(crate) fn take(
         &mut self,
         alloc: Global,

@@ -1,4 +1,4 @@
-//! The count of a ward by its lots, on which checks and counts of ballots rest.
+//! The count of a ward with its lots, the basis of checks and counts of ballots.
 
 ghost use Rattle.std.specs.Prelude.{◌≡◌, [], IfOk, IfErr};
 ghost use Rattle.sheet.specs.Entries.{shown};
@@ -18,7 +18,7 @@ use std::alloc::Global;
 /// The count of a ward.
 #[derive(Drop)]
 pub(crate) struct WardCount {
-    /// The stages in order; none in an uncontested ward.
+    /// The stages in order; none if the ward is uncontested.
     pub(crate) stages: Vec<Stage>,
     /// The candidates elected so far.
     pub(crate) elected: Columns,
@@ -26,7 +26,7 @@ pub(crate) struct WardCount {
     pub(crate) end: CountEnd,
 }
 
-/// Returns the stage of the first recorded lot that isn't drawn, if the count is finished.
+/// Returns the stage of the first recorded lot that isn't drawn. `None` if there is none, or if the count isn't finished.
 fn undrawn_at(end: &CountEnd, dues: &[Due], lots: &[(u8, u8)]) -> Option<u8>
     ensures { result ≡ undrawn_at end.now dues.now lots.now }
 {
@@ -36,7 +36,7 @@ fn undrawn_at(end: &CountEnd, dues: &[Due], lots: &[(u8, u8)]) -> Option<u8>
     }
 }
 
-/// Counts to the end by some lots.
+/// Counts to the end with the given lots.
 fn counted_out<B: CountBook>(
     alloc: Global,
     book: &mut B,
@@ -84,9 +84,9 @@ fn contested_count(alloc: Global, election: &Election) -> Result<WardCount, Prob
     counted_out(alloc, &mut book, election.lots)
 }
 
-/// Counts a ward by its lots. In an uncontested one no stage is done, and all candidates are elected.
+/// Counts a ward with its lots. An uncontested ward has no stages, and all its candidates are elected.
 ///
-/// The problem is that there is no contest, that a recorded lot isn't drawn, or a failed allocation.
+/// The problem is that there is no contest, that a recorded lot isn't drawn, or that an allocation failed.
 pub(crate) fn count_of(alloc: Global, election: &Election) -> Result<WardCount, Problem>
     requires { CanBePrinted election.now.ward }
     ensures ok { IfOk result (λ count. IsWardCount election.now.ward.poll (shown election.now.ward) election.now.bundles.now election.now.lots.now count) }

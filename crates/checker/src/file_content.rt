@@ -20,7 +20,7 @@ pub(crate) struct PaperTotals {
     ghost few_seats: { seats ≤ max_seats },
 }
 
-/// The names of the numbers from 1 on, and the name of the ward.
+/// The names of the candidates numbered from 1, and the name of the ward.
 #[derive(Drop)]
 pub(crate) struct CandidateNames {
     pub(crate) names: Vec<String>,
@@ -33,9 +33,9 @@ pub(crate) struct CandidateNames {
 pub(crate) struct Comments {
     /// The number of the ward.
     pub(crate) ward: Option<u8>,
-    /// The numbers of rejected papers, by code 1 to 5.
+    /// The number of rejected papers for each code, 1 to 5.
     pub(crate) rejected: Option<[u32; 5]>,
-    /// Stages, counted from 1, each with the candidate drawn by its lot.
+    /// Stages, counted from 1, each with the candidate that its lot names.
     pub(crate) lots: Vec<(u8, u8)>,
 }
 
@@ -44,7 +44,7 @@ pub(crate) struct Comments {
 pub(crate) enum NextLine {
     /// At the numbers of candidates and seats.
     Size,
-    /// Where withdrawn candidates may be listed.
+    /// At the withdrawn candidates, if any are listed.
     Withdrawn,
     /// Among the papers.
     PaperTotals,
@@ -61,4 +61,39 @@ pub(crate) struct Reader {
     pub(crate) papers: PaperTotals,
     pub(crate) names: CandidateNames,
     pub(crate) comments: Comments,
+}
+
+/// The content of a file of records so far.
+#[derive(Drop)]
+pub(crate) struct Records {
+    /// Whether the first line has been read.
+    pub(crate) headed: bool,
+    /// Whether each line begins with a number of papers.
+    pub(crate) counted: bool,
+    /// The number of rank columns; `None` if the columns are for candidates.
+    pub(crate) ranks: Option<u8>,
+    /// The names of the candidates, numbered from 1.
+    pub(crate) names: Vec<String>,
+    pub(crate) papers: PaperTotals,
+    /// The number of rejected papers for each code, 1 to 5.
+    pub(crate) rejected: [u32; 5],
+    ghost few: { length names.items ≤ max_candidates },
+}
+
+/// The columns of cast-vote records.
+#[derive(Drop)]
+pub(crate) enum RecordColumns {
+    /// A column for each of the candidates with the given names.
+    Candidates(Vec<String>),
+    /// The given number of columns for ranks.
+    Ranks(u8),
+}
+
+/// The first line of cast-vote records.
+#[derive(Drop)]
+pub(crate) struct Header {
+    /// Whether each line begins with a number of papers.
+    pub(crate) counted: bool,
+    /// The other columns.
+    pub(crate) columns: RecordColumns,
 }

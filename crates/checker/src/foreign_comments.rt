@@ -1,11 +1,11 @@
-//! Comments that are ignored, and those that are refused because they begin like ours.
+//! Comments that are ignored, and those that are rejected because they begin like ours.
 
 ghost use Rattle.std.specs.Prelude.{◌≡◌};
 ghost use Rattle.checker.specs.ForeignComments.{begins_as_ours, behind_number_sign, after_signs, first_letters, is_count_office_word, skip_foreign};
 
 use crate::problem::BallotsFlaw;
 
-/// Returns a text from its first letter or digit on.
+/// Returns a text starting at its first letter or digit.
 fn after_signs(text: &[u8]) -> &[u8]
     ensures { result.now ≡ after_signs text.now }
 {
@@ -18,7 +18,7 @@ fn after_signs(text: &[u8]) -> &[u8]
 }
 
 /// Returns the letters at the beginning of a text.
-fn first_letters(text: &[u8]) -> &[u8]
+pub(crate) fn first_letters(text: &[u8]) -> &[u8]
     ensures { result.now ≡ first_letters text.now }
 {
     for i in 0..text.len() {
@@ -29,7 +29,7 @@ fn first_letters(text: &[u8]) -> &[u8]
     text
 }
 
-/// Returns whether a word is one of ours, ignoring case.
+/// Returns whether the word is one of ours, ignoring case.
 fn is_count_office_word(word: &[u8]) -> bool
     ensures { result ≡ is_count_office_word word.now }
 {
@@ -37,14 +37,14 @@ fn is_count_office_word(word: &[u8]) -> bool
         || (word.eq_ignore_ascii_case(b"Rejected") || word.eq_ignore_ascii_case(b"Lot"))
 }
 
-/// Returns whether a comment begins with one of our words.
+/// Returns whether the comment begins with one of our words.
 fn begins_as_ours(comment: &[u8]) -> bool
     ensures { result ≡ begins_as_ours comment.now }
 {
     is_count_office_word(first_letters(after_signs(comment)))
 }
 
-/// Ignores a comment that isn't one of ours, unless it begins like ours.
+/// Ignores a comment that isn't one of ours. Rejects one that begins like ours.
 pub(crate) fn skip_foreign(comment: &[u8]) -> Result<(), BallotsFlaw>
     ensures { result ≡ skip_foreign comment.now }
 {
@@ -54,7 +54,7 @@ pub(crate) fn skip_foreign(comment: &[u8]) -> Result<(), BallotsFlaw>
     Ok(())
 }
 
-/// Returns the rest of a line of numbers after its `#`.
+/// Returns what follows the `#` in a line of numbers.
 pub(crate) fn behind_number_sign(line: &[u8]) -> &[u8]
     ensures { result.now ≡ behind_number_sign line.now }
 {

@@ -1,6 +1,6 @@
 //! The program's help.
 
-/// The text that the program prints about checking.
+/// The help on checking.
 pub(crate) const HELP: &str =
     "Checks a stage sheet or a declaration against the ballots of its ward, without an office.
 
@@ -17,12 +17,13 @@ it should be. It is 2 where the words or the ballots are not understood, or a lo
 It is 3 where a file can't be read, memory is wanting, or an output fails.
 ";
 
-/// The text that the program prints about counting.
+/// The help on counting.
 pub(crate) const COUNT_HELP: &str =
     "Counts the ballots of a ward, without an office, and prints the stage sheet.
 
 Usage: count-office - count <BALLOTS> [--declaration | --page [--title <TEXT>] | --table |
        --ballots] [--lot <STAGE>:<CANDIDATE>]..
+       [--seats <N> --name <TEXT> [--candidate <NAME>]..]
 
 Arguments:
   <BALLOTS>  The path of the ballots, as the order ballots prints them, or as other programs
@@ -36,6 +37,11 @@ Options:
   --ballots                  Print the ballots and the lots instead
   --lot <STAGE>:<CANDIDATE>  A lot that the ballots don't record: its stage, and the number of
                              the candidate drawn; give one for each such stage
+  --seats <N>                The seats of the ward: the ballots are cast-vote records, with a
+                             candidate or a rank in each column
+  --name <TEXT>              The name of the ward, with --seats
+  --candidate <NAME>         A candidate, if there is a rank in each column: give one for each, in
+                             the order of their numbers
 
 The status is 0 if the count is finished. It is 1 if a lot is needed: the program prints the
 text for the stages so far, and on standard error the stage and the tied candidates. It is 2 if

@@ -1,4 +1,4 @@
-//! Invisible differences of a text.
+//! Invisible differences in a text.
 
 ghost use Rattle.std.specs.Prelude.{◌≡◌};
 ghost use Rattle.checker.specs.Reports.{hint_of, hint_text, is_marked, is_unended};
@@ -30,7 +30,7 @@ pub(crate) fn hint_of(text: &[u8]) -> Option<Hint>
     None
 }
 
-/// Returns whether a text has a last byte that isn't a line end.
+/// Returns whether the text is nonempty and doesn't end with a line feed.
 fn is_unended(text: &[u8]) -> bool
     ensures { result ≡ is_unended text.now }
 {
@@ -40,7 +40,7 @@ fn is_unended(text: &[u8]) -> bool
     }
 }
 
-/// Returns whether a text begins with a byte order mark.
+/// Returns whether the text begins with a byte order mark.
 fn is_marked(text: &[u8]) -> bool
     ensures { result ≡ is_marked text.now }
 {
@@ -50,7 +50,7 @@ fn is_marked(text: &[u8]) -> bool
     }
 }
 
-/// Returns a hint in words.
+/// Returns the text of a hint.
 pub(crate) fn hint_text(hint: Option<Hint>) -> &'static str
     ensures { result.now ≡ hint_text hint }
 {

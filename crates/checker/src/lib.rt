@@ -1,10 +1,10 @@
 //! Counts the ballots of a ward, and checks a stage sheet or a declaration against them: whether the text is exactly the result of
-//! these ballots, rejected papers and lots. Nothing from an office is needed.
+//! these ballots, rejected papers and lots. Needs nothing from an office.
 //!
-//! [`check`] reads the ballots, as printed by `ballots` or written by other counting programs (BLT), counts them to the end with the
-//! recorded lots, and compares. A [`Problem`] is the part of the ballots that isn't understood, or the lot that is missing.
-//! [`count_ballots`] counts them in the same way, and returns a [`CountText`] of the count. [`run`] executes the request in the
-//! program's arguments: it reads the files through an [`InputFiles`], and prints the outcome on two outputs.
+//! [`check`] reads the ballots, as printed by `ballots` or as written by other counting programs (BLT), counts them to the end with
+//! the recorded lots, and compares. A [`Problem`] is the line of the ballots that isn't understood, or the lot that is missing.
+//! [`count_ballots`] counts them the same way, and returns a [`CountText`] of the count. [`run`] executes the request in the
+//! program's arguments: it reads the files through an [`InputFiles`], and prints the outcome to two outputs.
 //!
 //! ```text
 //! match check(alloc, ballots, text)? {
@@ -15,13 +15,13 @@
 //! ```
 #![tactic(auto)]
 
-// what the check reports
+// the outcome of a check
 mod differences;
 mod problem;
-// a text in lines, a line in words, and words that are numbers
+// splitting a text into lines and a line into words, and parsing words as numbers
 mod numbers;
 mod tokens;
-// what a file contains so far, and what each of its lines adds
+// the content of a file so far, and what each line adds to it
 mod comments;
 mod file_content;
 mod foreign_comments;
@@ -29,7 +29,14 @@ mod names;
 mod papers;
 mod ranks;
 mod reading;
-// the ward in a file, its count by the lots, the texts of the count, and the comparison of a text with them
+// the content of cast-vote records so far, and what each line adds to it
+mod fields;
+mod rank_fields;
+mod ranked_paper;
+mod records;
+mod records_header;
+mod records_ward;
+// the ward in a file, its count with the lots, the texts of the count, and the comparison of a text with them
 mod ballot_counts;
 mod checking;
 mod counting;
@@ -49,9 +56,10 @@ mod requests;
 mod terminal_escaping;
 
 pub use arguments::{ArgumentsFault, run};
-pub use ballot_counts::{CountProblem, CountText, CountedText, count_ballots};
+pub use ballot_counts::{CountProblem, CountText, CountedText, count_ballots, count_records};
 pub use checking::check;
 pub use differences::Checked;
 pub use input_files::{InputFiles, NotRead};
 pub use problem::{BallotsFlaw, Problem};
 pub use reading_back::ballots_read_back;
+pub use records_ward::RecordsWard;

@@ -1,4 +1,4 @@
-//! The line about a lot that a count waits for.
+//! The line about the lot that a count is waiting for.
 
 ghost use Rattle.std.specs.Prelude.{◌≡◌, ◌++◌, string_bytes, IfOk, OnOk};
 ghost use Rattle.sheet.specs.Entries.{shown as shown_ward};
@@ -20,7 +20,7 @@ fn tie_mark(among: &Columns, c: u8) -> &'static str
     }
 }
 
-/// Appends the number and the name of a candidate, if the candidate is one of the tied.
+/// Appends the number and the name of a candidate if the candidate is tied.
 fn push_tied(text: &mut String, among: &Columns, candidate: &(u8, String)) -> Result<(), AllocError>
     ensures { OnOk result (string_bytes text.new ≡ string_bytes text.old ++ tied_name among.now candidate.now.0 (string_bytes candidate.now.1)) }
 {

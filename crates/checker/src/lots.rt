@@ -1,4 +1,4 @@
-//! Lots in the order of their stages, and recorded lots for stages at which none is drawn.
+//! Lots in the order of their stages, and recorded lots for stages at which no lot is drawn.
 
 ghost use Rattle.std.specs.Prelude.{◌≡◌, ◌≤◌, length, IfOk, IfErr, OnOk};
 ghost use Rattle.checker.specs.Checks.{is_drawn_by, is_lot, undrawn_by};
@@ -20,7 +20,7 @@ fn is_lot(due: &Due) -> bool
     }
 }
 
-/// Returns whether a lot is drawn for a stage, given what is due before the first stages.
+/// Returns whether a lot is drawn for the given stage, given what is due before the first stages.
 fn is_drawn_by(dues: &[Due], stage: u8) -> bool
     ensures { result ≡ is_drawn_by dues.now stage }
 {
@@ -30,7 +30,7 @@ fn is_drawn_by(dues: &[Due], stage: u8) -> bool
     }
 }
 
-/// Returns the stage of the first of some lots that isn't drawn.
+/// Returns the stage of the first of the given lots that isn't drawn.
 pub(crate) fn undrawn_by(dues: &[Due], lots: &[(u8, u8)]) -> Option<u8>
     ensures { result ≡ undrawn_by dues.now lots.now }
 {
@@ -42,7 +42,7 @@ pub(crate) fn undrawn_by(dues: &[Due], lots: &[(u8, u8)]) -> Option<u8>
     None
 }
 
-/// Returns where a lot for a stage belongs among lots in the order of their stages.
+/// Returns the position for the given stage's lot in a list of lots ordered by stage.
 fn place_in(stage: u8, lots: &[(u8, u8)]) -> usize
     ensures is { result ≡ place_in stage lots.now }
     ensures few { result ≤ length lots.now }
@@ -55,7 +55,7 @@ fn place_in(stage: u8, lots: &[(u8, u8)]) -> usize
     lots.len()
 }
 
-/// Adds a lot in the order of the stages.
+/// Inserts a lot, keeping the order of the stages.
 fn add_lot(lots: &mut Vec<(u8, u8)>, lot: (u8, u8)) -> Result<(), AllocError>
     ensures { OnOk result (lots.new.items ≡ with_lot lots.old.items lot) }
 {
@@ -64,7 +64,7 @@ fn add_lot(lots: &mut Vec<(u8, u8)>, lot: (u8, u8)) -> Result<(), AllocError>
     Ok(())
 }
 
-/// Returns lots with further ones, in the order of their stages; no two may be for one stage.
+/// Returns the lots with further ones added, in the order of their stages; no two may be for the same stage.
 fn with_lots(mut lots: Vec<(u8, u8)>, more: &[(u8, u8)]) -> Result<Vec<(u8, u8)>, CountProblem>
     ensures ok { IfOk result (λ all. with_lots lots.items more.now ≡ Ok all.items) }
     ensures err { IfErr result (λ problem. IsLotProblem (with_lots lots.items more.now) problem) }
@@ -80,7 +80,7 @@ fn with_lots(mut lots: Vec<(u8, u8)>, more: &[(u8, u8)]) -> Result<Vec<(u8, u8)>
     Ok(lots)
 }
 
-/// Returns the recorded lots and further ones, in the order of their stages; no two may be for one stage.
+/// Returns the recorded lots with further ones added, in the order of their stages; no two may be for the same stage.
 pub(crate) fn lots_of(
     alloc: Global,
     recorded: &[(u8, u8)],

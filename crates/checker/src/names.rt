@@ -11,10 +11,10 @@ use crate::tokens::is_blank;
 use std::alloc::{AllocError, Global};
 use std::str;
 
-/// The maximum number of bytes in a name. A sheet contains every name at every stage, so longer names would make it very large.
-const MAX_NAME: usize = 1000;
+/// The maximum length of a name in bytes. A sheet contains every name at every stage, so longer names would make it very large.
+pub(crate) const MAX_NAME: usize = 1000;
 
-/// The position of the next byte in a line with a name.
+/// The position of the next byte in a line that contains a name.
 #[derive(Clone, Copy)]
 pub(crate) enum Within {
     /// Before the opening quotation mark.
@@ -25,7 +25,7 @@ pub(crate) enum Within {
     Escaped,
     /// After the closing quotation mark.
     Behind,
-    /// In the comment after that, which begins with `#`.
+    /// In the comment after the name, which begins with `#`.
     Comment,
     /// After something that isn't part of the name.
     Beside,
@@ -40,7 +40,7 @@ pub(crate) struct Quoted {
 }
 
 /// Returns a name if it is UTF-8 and not too long.
-fn as_text(name: Vec<u8>) -> Result<String, BallotsFlaw>
+pub(crate) fn as_text(name: Vec<u8>) -> Result<String, BallotsFlaw>
     ensures { told_as (λ text. string_bytes text) result ≡ as_text name.items }
 {
     if name.len() > MAX_NAME {
@@ -63,8 +63,8 @@ impl Quoted {
         Ok(())
     }
 
-    /// Processes a byte outside the name: a certain sign moves to the next position, a blank changes nothing, and any other byte is
-    /// an error, reported at the end.
+    /// Processes a byte outside the name: the given sign moves to the next position, a blank changes nothing, and any other byte is
+    /// an error, which is reported at the end.
     fn take_outside(&mut self, sign: u8, next: Within, byte: u8)
         ensures { quoting_of self.new ≡ outside sign next (quoting_of self.old) byte }
     {
@@ -113,7 +113,7 @@ impl Quoted {
         }
     }
 
-    /// Returns the name in a line that was read to its end.
+    /// Returns the name in a line that has been read to its end.
     fn into_name(self) -> Result<String, BallotsFlaw>
         ensures { told_as (λ text. string_bytes text) result ≡ name_of (quoting_of self) }
     {

@@ -5,7 +5,7 @@ ghost use Rattle.checker.specs.Numbers.{candidate_in, number_in, with_digit};
 
 use crate::problem::BallotsFlaw;
 
-/// Appends a digit to a number.
+/// Appends a digit to a number, which must not exceed `most`.
 fn with_digit(most: u32, number: u32, byte: u8) -> Result<u32, BallotsFlaw>
     ensures is { result ≡ with_digit most number byte }
     ensures few { IfOk result (λ n. n ≤ most) }
@@ -20,7 +20,7 @@ fn with_digit(most: u32, number: u32, byte: u8) -> Result<u32, BallotsFlaw>
     Ok(more as u32)
 }
 
-/// Parses a number that is at most the maximum.
+/// Parses a number that is at most `most`.
 pub(crate) fn number_in(most: u32, word: &[u8]) -> Result<u32, BallotsFlaw>
     ensures is { result ≡ number_in most word.now }
     ensures few { IfOk result (λ n. n ≤ most) }
@@ -35,7 +35,7 @@ pub(crate) fn number_in(most: u32, word: &[u8]) -> Result<u32, BallotsFlaw>
     Ok(number)
 }
 
-/// Parses a candidate's number, at most the highest number.
+/// Parses a candidate number that is at most `highest`.
 pub(crate) fn candidate_in(highest: u8, word: &[u8]) -> Result<u8, BallotsFlaw>
     ensures is { result ≡ candidate_in highest word.now }
     ensures some { IfOk result (λ c. 1 ≤ c) }

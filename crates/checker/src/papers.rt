@@ -11,12 +11,12 @@ ghost use Rattle.checker.specs.Values.{told_of};
 use crate::file_content::PaperTotals;
 use crate::numbers::{candidate_in, number_in};
 use crate::problem::BallotsFlaw;
-use crate::ranks::{named_in, without};
+use crate::ranks::{named_in, standing_of};
 use paper::{Columns, MAX_CANDIDATES, Prefs};
 use std::alloc::{AllocError, Global};
 use votes::{MAX_PAPERS, MAX_SEATS};
 
-/// Parses the number of seats, at least one.
+/// Parses the number of seats, which is at least 1.
 fn seats_in(word: &[u8]) -> Result<u8, BallotsFlaw>
     ensures is { result ≡ seats_in word.now }
     ensures some { IfOk result (λ seats. 1 ≤ seats) }
@@ -29,8 +29,8 @@ fn seats_in(word: &[u8]) -> Result<u8, BallotsFlaw>
     Ok(seats as u8)
 }
 
-/// Parses the number of papers, at least one.
-fn papers_in(word: &[u8]) -> Result<u32, BallotsFlaw>
+/// Parses the number of papers, which is at least 1.
+pub(crate) fn papers_in(word: &[u8]) -> Result<u32, BallotsFlaw>
     ensures is { result ≡ papers_in word.now }
     ensures some { IfOk result (λ papers. 1 ≤ papers) }
     ensures few { IfOk result (λ papers. papers ≤ max_papers) }
@@ -42,7 +42,7 @@ fn papers_in(word: &[u8]) -> Result<u32, BallotsFlaw>
     Ok(papers)
 }
 
-/// Parses the number of a withdrawn candidate, after a minus.
+/// Parses the number of a withdrawn candidate, which follows a minus.
 fn withdrawn_in(highest: u8, word: &[u8]) -> Result<u8, BallotsFlaw>
     ensures is { result ≡ withdrawn_in highest word.now }
     ensures some { IfOk result (λ c. 1 ≤ c) }
@@ -54,7 +54,7 @@ fn withdrawn_in(highest: u8, word: &[u8]) -> Result<u8, BallotsFlaw>
     }
 }
 
-/// Adds the withdrawn candidates in some words to a set.
+/// Adds the withdrawn candidates in the given words to the set.
 fn withdrawn_from(highest: u8, withdrawn: Columns, words: &[&[u8]]) -> Result<Columns, BallotsFlaw>
     requires { highest ≤ max_candidates }
     ensures { result ≡ withdrawn_from highest withdrawn (map (λ w. w.now) words.now) }
@@ -89,8 +89,12 @@ impl PaperTotals {
         Ok(())
     }
 
-    /// Adds one or more papers with one list of preferences.
-    fn add(&mut self, papers: u32, list: &[u8]) -> Result<Result<(), BallotsFlaw>, AllocError>
+    /// Adds one or more papers with the same preferences.
+    pub(crate) fn add(
+        &mut self,
+        papers: u32,
+        list: &[u8],
+    ) -> Result<Result<(), BallotsFlaw>, AllocError>
         requires some { 1 ≤ papers }
         requires ranking { IsRanking list.now }
         ensures { IfOk result (λ told. outcome told (told_of self.new) ≡ with_list (told_of self.old) papers list.now) }
@@ -105,7 +109,7 @@ impl PaperTotals {
         Ok(Ok(()))
     }
 
-    /// Stores the number of papers in a bundle, and their preferences.
+    /// Adds a bundle, given the number of its papers and their preferences.
     pub(crate) fn take_bundle(
         &mut self,
         alloc: Global,
@@ -124,7 +128,7 @@ impl PaperTotals {
             Ok(named) => named,
             Err(flaw) => return Ok(Err(flaw)),
         };
-        let list = without(alloc, &self.withdrawn, &named)?;
+        let list = standing_of(alloc, &self.withdrawn, named)?;
         self.add(papers, &list)
     }
 }

@@ -1,4 +1,4 @@
-//! Problems in ballots, and in checking against them.
+//! Problems with ballots, and with checking against them.
 
 ghost use Rattle.std.specs.Prelude.{◌≡◌};
 
@@ -6,24 +6,24 @@ use paper::Columns;
 use std::error::Error;
 use std::fmt;
 
-/// The flaw of a line of the ballots.
+/// The flaw in a line of the ballots.
 #[derive(Clone, Copy, Debug)]
 pub enum BallotsFlaw {
     /// The first line isn't two numbers.
     Size,
     /// There are no seats.
     NoSeat,
-    /// A word doesn't consist of digits; or a word for a withdrawn candidate isn't a number after a minus.
+    /// A word isn't made of digits, or the word for a withdrawn candidate isn't a minus followed by a number.
     NotNumber,
     /// A number is out of range.
     TooLarge,
-    /// There are no papers in a bundle.
+    /// A bundle has no papers.
     NoPapers,
-    /// A candidate's number is 0, or above the highest.
+    /// A candidate number is 0 or above the highest.
     NoSuchCandidate,
     /// A candidate appears twice among the preferences of a line.
     CandidateTwice,
-    /// There is no single first preference for a candidate who isn't withdrawn.
+    /// There is no single first preference among the candidates who aren't withdrawn.
     NoPreference,
     /// A line of papers doesn't end with 0, or has words after it.
     NoZero,
@@ -39,28 +39,50 @@ pub enum BallotsFlaw {
     NotUtf8,
     /// The line follows the name of the ward.
     BehindName,
-    /// The comment doesn't contain the number of a ward.
+    /// The comment doesn't contain a ward number.
     Ward,
     /// The comment doesn't contain the number of rejected papers for each code.
     Rejected,
     /// The comment doesn't contain a stage and a candidate.
     Lot,
-    /// A comment begins with one of our words, but isn't in our format.
+    /// A comment begins with one of our words, but doesn't have our format.
     Astray,
     /// The comment repeats the subject of an earlier one.
     Twice,
     /// The file ends before its first line of numbers.
     NoSize,
-    /// The file ends before the line `0` after the papers.
+    /// The file ends before the line `0` that follows the papers.
     NoEnd,
     /// The file ends before the name of the ward.
     NamesWanting,
+    /// Only part of a field is in quotation marks.
+    Field,
+    /// The file ends before its first line.
+    NoColumns,
+    /// There is only one column.
+    LoneColumn,
+    /// A column has no name.
+    NoColumnName,
+    /// A column might be for something other than a candidate.
+    NotCandidateColumn,
+    /// A column isn't the one for the next rank.
+    NotNextRank,
+    /// There are more columns than a ward can have candidates.
+    TooManyColumns,
+    /// The number of fields differs from the number of columns.
+    FieldCount,
+    /// A field is neither empty nor a rank from 1 to 99.
+    NotRank,
+    /// A field is neither empty nor the name of a candidate.
+    NotCandidate,
+    /// A field could name several candidates.
+    SeveralCandidates,
 }
 
 impl BallotsFlaw {
     ghost use Rattle.checker.specs.Texts.{flaw_text};
 
-    /// Returns the flaw in words.
+    /// Returns a description of the flaw.
     fn text(&self) -> &'static str
         ensures { result.now ≡ flaw_text self.now }
     {
@@ -90,6 +112,18 @@ impl BallotsFlaw {
             BallotsFlaw::NoSize => "the file ends before the candidates and seats",
             BallotsFlaw::NoEnd => "the file ends before the line 0 behind the papers",
             BallotsFlaw::NamesWanting => "the file ends before the ward's name",
+            BallotsFlaw::Field => "a field is not in quotation marks as a whole",
+            BallotsFlaw::NoColumns => "the file ends before the line of its columns",
+            BallotsFlaw::LoneColumn => "a single column",
+            BallotsFlaw::NoColumnName => "a column has no name",
+            BallotsFlaw::NotCandidateColumn =>
+                "a column may be of something other than a candidate",
+            BallotsFlaw::NotNextRank => "a column is not that of the next rank",
+            BallotsFlaw::TooManyColumns => "too many columns",
+            BallotsFlaw::FieldCount => "another number of fields than columns",
+            BallotsFlaw::NotRank => "a field is not a rank",
+            BallotsFlaw::NotCandidate => "a field names no candidate",
+            BallotsFlaw::SeveralCandidates => "a field may name several candidates",
         }
     }
 }
@@ -110,15 +144,15 @@ impl Error for BallotsFlaw {}
 /// The reason why a text can't be checked against ballots.
 #[derive(Clone, Copy, Debug)]
 pub enum Problem {
-    /// A line of the ballots, counted from 1, has this flaw.
+    /// Line `line` of the ballots, counted from 1, has the flaw `flaw`.
     Line { line: u64, flaw: BallotsFlaw },
-    /// There are papers, or rejected papers, but no more candidates than seats.
+    /// There are papers, or rejected papers, but not more candidates than seats.
     NoContest,
-    /// These candidates are tied at this stage, and no lot is recorded.
+    /// The candidates in `among` are tied at stage `stage`, and no lot is recorded.
     LotNeeded { stage: u8, among: Columns },
-    /// The lot recorded for this stage isn't for any of the tied candidates.
+    /// The lot recorded for stage `stage` names none of the tied candidates.
     LotNotAmong { stage: u8 },
-    /// A lot is recorded for this stage, but none is drawn at it.
+    /// A lot is recorded for stage `stage`, but no lot is drawn there.
     LotNotNeeded { stage: u8 },
     /// An allocation failed.
     Memory,

@@ -1,10 +1,12 @@
 //! The preferences on a line of papers.
 
-ghost use Rattle.std.specs.Prelude.{◌≡◌, ◌≤◌, [], length, map, IfOk};
+ghost use Rattle.std.specs.Prelude.{◌≡◌, ◌≤◌, [], length, map, not, IfOk};
+ghost use Rattle.std.specs.List.{list_any};
 ghost use Rattle.paper.specs.Columns.{max_candidates};
 ghost use Rattle.paper.specs.Ranking.{IsRanking};
 ghost use Rattle.checker.specs.Outcomes.{outcome, told_as};
-ghost use Rattle.checker.specs.Ranks.{is_zero, named_in, named_of, standing_from, with_candidate, with_each, with_rank, with_word, without};
+ghost use Rattle.checker.specs.Ranks.{is_zero, named_in, named_of, standing_from, with_alone, with_candidate, with_each, with_rank, with_rank_word, with_word, without};
+ghost use Rattle.checker.specs.Tokens.{parts};
 ghost use Rattle.checker.specs.Values.{ranks_of};
 
 use crate::numbers::candidate_in;
@@ -16,9 +18,9 @@ use std::alloc::{AllocError, Global};
 /// The position of the next word in a line of papers.
 #[derive(Clone, Copy)]
 pub(crate) enum NextWord {
-    /// Where preferences are read.
+    /// At the preferences.
     Preference,
-    /// After a shared rank, where they are no longer read.
+    /// After a shared rank: later preferences are ignored.
     BehindShared,
     /// After the 0.
     BehindZero,
@@ -31,14 +33,26 @@ pub(crate) struct Ranks {
     next: NextWord,
 }
 
-/// Returns whether a word is 0, which ends a line.
+/// Returns whether the word is the 0 that ends a line.
 pub(crate) fn is_zero(word: &[u8]) -> bool
     ensures { result ≡ is_zero word.now }
 {
     word == b"0".as_slice()
 }
 
-/// Returns how many of the candidates in these words aren't withdrawn.
+/// Returns whether the word has no equals sign, so it is the number of a candidate who doesn't share a rank.
+fn is_alone(word: &[u8]) -> bool
+    ensures { not result ≡ list_any (parts Separator.Equals) word.now }
+{
+    for byte in word {
+        if *byte == b'=' {
+            return false;
+        }
+    }
+    true
+}
+
+/// Returns how many of the candidates in the given words haven't withdrawn.
 fn standing_in(highest: u8, withdrawn: &Columns, words: &[&[u8]]) -> Result<usize, BallotsFlaw>
     ensures { result ≡ standing_from highest withdrawn.now 0 (map (λ w. w.now) words.now) }
 {
@@ -88,7 +102,7 @@ impl Ranks {
         Ok(Ok(()))
     }
 
-    /// Processes a rank, given how many of its candidates aren't withdrawn.
+    /// Processes a rank, given how many of its candidates haven't withdrawn.
     fn add_rank(
         &mut self,
         highest: u8,
@@ -111,6 +125,45 @@ impl Ranks {
         self.add_each(highest, words)
     }
 
+    /// Processes the number of a candidate who doesn't share a rank.
+    fn take_alone(
+        &mut self,
+        highest: u8,
+        word: &[u8],
+    ) -> Result<Result<(), BallotsFlaw>, AllocError>
+        requires { highest ≤ max_candidates }
+        ensures is { IfOk result (λ told. outcome told (ranks_of self.new) ≡ with_alone self.old.next highest (ranks_of self.old) word.now) }
+        ensures ranking { IfOk result (λ _. IsRanking self.old.named.items → IsRanking self.new.named.items) }
+    {
+        match self.next {
+            NextWord::Preference => self.add(highest, word),
+            NextWord::BehindShared => match candidate_in(highest, word) {
+                Ok(_) => Ok(Ok(())),
+                Err(flaw) => Ok(Err(flaw)),
+            },
+            NextWord::BehindZero => Ok(Err(BallotsFlaw::NoZero)),
+        }
+    }
+
+    /// Processes the word of a rank, which several candidates may share.
+    fn take_shared(
+        &mut self,
+        alloc: Global,
+        highest: u8,
+        withdrawn: &Columns,
+        word: &[u8],
+    ) -> Result<Result<(), BallotsFlaw>, AllocError>
+        requires { highest ≤ max_candidates }
+        ensures is { IfOk result (λ told. outcome told (ranks_of self.new) ≡ with_rank_word highest withdrawn.now (ranks_of self.old) word.now) }
+        ensures ranking { IfOk result (λ _. IsRanking self.old.named.items → IsRanking self.new.named.items) }
+    {
+        let words = pieces_of(alloc, Separator::Equals, word)?;
+        match standing_in(highest, withdrawn, &words) {
+            Ok(standing) => self.add_rank(highest, &words, standing),
+            Err(flaw) => Ok(Err(flaw)),
+        }
+    }
+
     /// Processes one word.
     fn take(
         &mut self,
@@ -130,11 +183,11 @@ impl Ranks {
             self.next = NextWord::BehindZero;
             return Ok(Ok(()));
         }
-        let words = pieces_of(alloc, Separator::Equals, word)?;
-        match standing_in(highest, withdrawn, &words) {
-            Ok(standing) => self.add_rank(highest, &words, standing),
-            Err(flaw) => Ok(Err(flaw)),
+        // most words are single numbers: they need no list of candidates who share the rank
+        if is_alone(word) {
+            return self.take_alone(highest, word);
         }
+        self.take_shared(alloc, highest, withdrawn, word)
     }
 
     /// Returns the candidates in a complete line.
@@ -149,7 +202,7 @@ impl Ranks {
     }
 }
 
-/// Returns the candidates in the words after a number of papers, in order, up to a shared rank or the 0.
+/// Returns the candidates in the words that follow a number of papers, in order, up to a shared rank or the 0.
 pub(crate) fn named_in(
     alloc: Global,
     highest: u8,
@@ -161,7 +214,7 @@ pub(crate) fn named_in(
     ensures ranking { IfOk result (λ told. IfOk told (λ named. IsRanking named.items)) }
 {
     let mut ranks = Ranks {
-        named: Vec::new(alloc),
+        named: Vec::with_capacity(alloc, words.len())?,
         next: NextWord::Preference,
     };
     for word in words {
@@ -172,12 +225,8 @@ pub(crate) fn named_in(
     Ok(ranks.into_named())
 }
 
-/// Returns those of some candidates who aren't withdrawn.
-pub(crate) fn without(
-    alloc: Global,
-    withdrawn: &Columns,
-    named: &[u8],
-) -> Result<Vec<u8>, AllocError>
+/// Returns the candidates who haven't withdrawn.
+fn without(alloc: Global, withdrawn: &Columns, named: &[u8]) -> Result<Vec<u8>, AllocError>
     ensures is { IfOk result (λ list. list.items ≡ without withdrawn.now named.now) }
     ensures ranking { IfOk result (λ list. IsRanking named.now → IsRanking list.items) }
 {
@@ -189,4 +238,20 @@ pub(crate) fn without(
         list.push(*c)?;
     }
     Ok(list)
+}
+
+/// Returns the candidates who haven't withdrawn. Allocates nothing if nobody has withdrawn, as in most files.
+#[tactic(auto, using(crate::proofs::RankLemmas::none_withdrawn))]
+pub(crate) fn standing_of(
+    alloc: Global,
+    withdrawn: &Columns,
+    named: Vec<u8>,
+) -> Result<Vec<u8>, AllocError>
+    ensures is { IfOk result (λ list. list.items ≡ without withdrawn.now named.items) }
+    ensures ranking { IfOk result (λ list. IsRanking named.items → IsRanking list.items) }
+{
+    if withdrawn.len() == 0 {
+        return Ok(named);
+    }
+    without(alloc, withdrawn, &named)
 }

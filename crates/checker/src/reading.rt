@@ -17,7 +17,7 @@ use count::Bundles;
 use paper::Columns;
 use std::alloc::{AllocError, Global};
 
-/// Returns the bytes of a line of numbers before a `#`, which begins a comment.
+/// Returns the bytes of a line of numbers before the `#` that begins a comment.
 fn before_comment(line: &[u8]) -> &[u8]
     ensures { result.now ≡ before_comment line.now }
 {
@@ -29,7 +29,7 @@ fn before_comment(line: &[u8]) -> &[u8]
     line
 }
 
-/// Returns the words of a line of numbers, before a comment if there is one.
+/// Returns the words of a line of numbers, without its comment if there is one.
 fn words_before_comment(
     alloc: Global,
     line: &[u8],
@@ -42,7 +42,7 @@ fn words_before_comment(
     Ok(Ok(pieces_of(alloc, Separator::Blank, before_comment(line))?))
 }
 
-/// Returns whether a line of numbers is `0`, which ends the papers.
+/// Returns whether the line of numbers is the `0` that ends the papers.
 fn is_end_line(words: &[&[u8]]) -> bool
     ensures { result ≡ is_end_line (map (λ w. w.now) words.now) }
 {
@@ -52,7 +52,7 @@ fn is_end_line(words: &[&[u8]]) -> bool
     }
 }
 
-/// Returns whether a line of numbers begins with a minus.
+/// Returns whether the line of numbers begins with a minus.
 fn is_withdrawn_line(words: &[&[u8]]) -> bool
     ensures { result ≡ is_withdrawn_line (map (λ w. w.now) words.now) }
 {
@@ -63,7 +63,7 @@ fn is_withdrawn_line(words: &[&[u8]]) -> bool
 }
 
 impl Reader {
-    /// Returns a reader of nothing yet.
+    /// Returns a reader that has read nothing yet.
     fn new(alloc: Global) -> Reader
         ensures { reading_of result ≡ nothing_told }
     {
@@ -115,7 +115,7 @@ impl Reader {
         Ok(Ok(()))
     }
 
-    /// Processes a line of withdrawn candidates, or one of papers.
+    /// Processes a line of withdrawn candidates, or a line of papers.
     fn take_withdrawn_line(
         &mut self,
         alloc: Global,
@@ -191,7 +191,7 @@ impl Reader {
         }
     }
 
-    /// Returns whether the file may end here, otherwise the flaw.
+    /// Checks that the file may end here. The error is the flaw.
     fn at_end(&self) -> Result<(), BallotsFlaw>
         ensures { outcome result (reading_of self.now) ≡ at_end self.now.place (reading_of self.now) }
     {
@@ -204,7 +204,7 @@ impl Reader {
     }
 }
 
-/// Returns the content of some lines, or the first of them that isn't understood.
+/// Reads the given lines. The problem is the first of them that isn't understood, or a failed allocation.
 fn read_lines(alloc: Global, lines: &[&[u8]]) -> Result<Reader, Problem>
     ensures ok { IfOk result (λ reader. read_from 0 nothing_told (map (λ line. line.now) lines.now) ≡ Ok (reading_of reader)) }
     ensures err { IfErr result (λ problem. IsFlawOf (read_from 0 nothing_told (map (λ line. line.now) lines.now)) problem) }
@@ -231,7 +231,7 @@ fn read_lines(alloc: Global, lines: &[&[u8]]) -> Result<Reader, Problem>
     }
 }
 
-/// Returns the content of a file, or the first of its lines that isn't understood.
+/// Reads a file. The problem is the first of its lines that isn't understood, or a failed allocation.
 pub(crate) fn read(alloc: Global, bytes: &[u8]) -> Result<Reader, Problem>
     ensures ok { IfOk result (λ reader. read bytes.now ≡ Ok (reading_of reader)) }
     ensures err { IfErr result (λ problem. IsFlawOf (read bytes.now) problem) }

@@ -1,11 +1,11 @@
-//! What to do about ballots that aren't counted.
+//! What to do about ballots that can't be counted.
 
 ghost use Rattle.std.specs.Prelude.{◌≡◌};
 ghost use Rattle.checker.specs.Remedies.{flaw_remedy, remedy};
 
 use crate::problem::{BallotsFlaw, Problem};
 
-/// Returns what to do about the flaw of a line.
+/// Returns what to do about the flaw in a line.
 fn flaw_remedy(flaw: BallotsFlaw) -> &'static str
     ensures { result.now ≡ flaw_remedy flaw }
 {
@@ -51,10 +51,30 @@ fn flaw_remedy(flaw: BallotsFlaw) -> &'static str
         }
         BallotsFlaw::NoEnd => "(write a line 0 after the papers)\n",
         BallotsFlaw::NamesWanting => "(write a name for each number, and then the ward's)\n",
+        BallotsFlaw::Field =>
+            "(put the whole field in quotation marks, and two for one within it)\n",
+        BallotsFlaw::NoColumns =>
+            "(begin with the names of the columns, such as count,Ann,Bob,Cy)\n",
+        BallotsFlaw::LoneColumn =>
+            "(add a column count: an empty line may be a paper without a mark, or no paper)\n",
+        BallotsFlaw::NoColumnName => "(write the name of its candidate in the first line)\n",
+        BallotsFlaw::NotCandidateColumn =>
+            "(if there is a rank in each column, add --candidate with the name of each candidate; numbers of papers are in a first column count)\n",
+        BallotsFlaw::NotNextRank =>
+            "(with --candidate the columns are rank1, rank2, .., after count if there are numbers of papers)\n",
+        BallotsFlaw::TooManyColumns =>
+            "(a ward has at most 30 candidates, and a paper as many ranks)\n",
+        BallotsFlaw::FieldCount =>
+            "(write as many fields as the first line has; an empty one has no rank or no candidate)\n",
+        BallotsFlaw::NotRank => "(write a rank from 1 to 99 in digits, or nothing)\n",
+        BallotsFlaw::NotCandidate =>
+            "(write the number or the name of a candidate, as given by --candidate, or nothing)\n",
+        BallotsFlaw::SeveralCandidates =>
+            "(write the number of the candidate; no name may be the number of another one)\n",
     }
 }
 
-/// Returns what to do about a problem, as a line in brackets; nothing if the problem says it.
+/// Returns what to do about a problem, as a line in brackets; empty if the description of the problem already says it.
 pub(crate) fn remedy(problem: &Problem) -> &'static str
     ensures { result.now ≡ remedy problem.now }
 {

@@ -1,4 +1,4 @@
-//! The outcome of the program's arguments, as a text and a status.
+//! The outcome of running the program, as text and exit status.
 
 ghost use Rattle.std.specs.Prelude.{◌≡◌, IfOk, option_map, string_bytes};
 ghost use Rattle.checker.specs.Pages.{page_told};
@@ -20,7 +20,7 @@ use std::alloc::{AllocError, Global};
 /// The text is the one that results from the ballots, the count is finished, or help is requested.
 const WELL: u8 = 0;
 
-/// The text differs, or the count waits for a lot.
+/// The text differs, or the count is waiting for a lot.
 const DIFFERS: u8 = 1;
 
 /// The arguments or the ballots aren't understood, or the count can't be finished.
@@ -29,12 +29,12 @@ const NOT_CHECKED: u8 = 2;
 /// A file can't be read, an allocation fails, or an output fails.
 pub(crate) const FAILED: u8 = 3;
 
-/// The outcome of the program's arguments.
+/// The outcome of running the program.
 #[derive(Drop)]
 pub enum Report {
     /// Help is requested.
     Help,
-    /// Help about counting is requested.
+    /// Help on counting is requested.
     CountHelp,
     /// The arguments of a check aren't understood.
     BadArguments,
@@ -42,21 +42,21 @@ pub enum Report {
     Misread(WordsFlaw),
     /// An argument isn't UTF-8.
     NotUtf8,
-    /// The file at this path can't be read, for this reason.
+    /// The file at `path` can't be read; `why` is the reason.
     NotRead {
         path: String,
         why: String,
     },
-    /// The check had this outcome, and the text has this invisible difference.
+    /// The check had the outcome `checked`, and the text has the invisible difference `hint`, if any.
     Checked {
         checked: Checked,
         hint: Option<Hint>,
     },
-    /// The check wasn't possible because of this problem.
+    /// The check wasn't possible because of the given problem.
     Hindered(Problem),
     /// The ballots were counted.
     Counted(CountedText),
-    /// The ballots weren't counted, for this reason.
+    /// The ballots weren't counted, for the given reason.
     NotCounted(CountProblem),
 }
 
@@ -134,7 +134,7 @@ fn lot_text(alloc: Global, problem: &Problem, among: &Columns) -> Result<String,
     format!(in alloc; "error: {problem}, where these are tied:{tied}\n")
 }
 
-/// Returns the problem that prevented a check, in words.
+/// Returns the message about the problem that prevented a check.
 fn hindered_text(alloc: Global, problem: &Problem) -> Result<String, AllocError>
     ensures { IfOk result (λ text. string_bytes text ≡ hindered_text problem.now) }
 {
@@ -144,7 +144,7 @@ fn hindered_text(alloc: Global, problem: &Problem) -> Result<String, AllocError>
     }
 }
 
-/// Returns the flaw of the words of a request to count ballots, and what to do.
+/// Returns the message about a flaw in a request to count ballots, and what to do about it.
 fn words_text(flaw: WordsFlaw) -> &'static str
     ensures { result.now ≡ words_text flaw }
 {
@@ -164,7 +164,16 @@ fn words_text(flaw: WordsFlaw) -> &'static str
         WordsFlaw::TitleAlone => {
             "error: only a page has a title: add --page; --help says more\n"
         }
-        WordsFlaw::SecondTitle => "error: give one title; --help says more\n",
+        WordsFlaw::SecondTime => "error: an option is given a second time; --help says more\n",
+        WordsFlaw::Seats => {
+            "error: give the seats of the ward, 1 to 15, such as --seats 3; --help says more\n"
+        }
+        WordsFlaw::Candidates => {
+            "error: give the names of the candidates, at most 30 of 1 to 1000 bytes, such as --candidate Ann --candidate Bob; --help says more\n"
+        }
+        WordsFlaw::HalfWard => {
+            "error: cast-vote records need --seats and --name; --help says more\n"
+        }
     }
 }
 
@@ -176,7 +185,7 @@ fn unread_text(alloc: Global, path: &str, why: &str) -> Result<String, AllocErro
     format!(in alloc; "error: {path} can't be read: {why}\n")
 }
 
-/// Returns the message about the reason why ballots aren't counted, and what to do.
+/// Returns the message that says why ballots weren't counted, and what to do about it.
 fn uncounted_text(alloc: Global, problem: &CountProblem) -> Result<String, AllocError>
     ensures { IfOk result (λ text. string_bytes text ≡ uncounted_text problem.now) }
 {
@@ -194,7 +203,7 @@ fn uncounted_text(alloc: Global, problem: &CountProblem) -> Result<String, Alloc
     }
 }
 
-/// Returns the status for the outcome of a check.
+/// Returns the exit status for the outcome of a check.
 fn checked_status(checked: &Checked) -> u8
     ensures { result ≡ checked_status checked.now }
 {
@@ -204,7 +213,7 @@ fn checked_status(checked: &Checked) -> u8
     }
 }
 
-/// Returns the status for a problem that prevented a check.
+/// Returns the exit status for a problem that prevented a check.
 fn hindered_status(problem: &Problem) -> u8
     ensures { result ≡ hindered_status problem.now }
 {
@@ -214,7 +223,7 @@ fn hindered_status(problem: &Problem) -> u8
     }
 }
 
-/// Returns the status for the reason why ballots aren't counted.
+/// Returns the exit status for the reason why ballots weren't counted.
 fn uncounted_status(problem: &CountProblem) -> u8
     ensures { result ≡ uncounted_status problem.now }
 {
@@ -224,7 +233,7 @@ fn uncounted_status(problem: &CountProblem) -> u8
     }
 }
 
-/// The text for the output, that for the error output, and the exit status.
+/// The text for the output, the text for the error output, and the exit status.
 #[derive(Drop)]
 pub(crate) struct Page {
     pub(crate) out: String,
@@ -232,7 +241,7 @@ pub(crate) struct Page {
     pub(crate) status: u8,
 }
 
-/// Returns the page of a text with a status. It is printed on the output if the status is 0, otherwise on the error output.
+/// Returns the page for the given text and status. The text goes to the output if the status is 0, otherwise to the error output.
 fn page_with(alloc: Global, status: u8, text: String) -> Page
     ensures { page_told result ≡ page_with status (string_bytes text) }
 {
@@ -251,14 +260,14 @@ fn page_with(alloc: Global, status: u8, text: String) -> Page
     }
 }
 
-/// Returns the page of a fixed text with a status; `AllocError` if an allocation fails.
+/// Returns the page for the given fixed text and status; `AllocError` if an allocation fails.
 fn page_of_text(alloc: Global, status: u8, text: &str) -> Result<Page, AllocError>
     ensures { IfOk result (λ page. page_told page ≡ page_with status text.now) }
 {
     Ok(page_with(alloc, status, String::from_str(alloc, text)?))
 }
 
-/// Returns the page of a text of a count, and the line about the lot that the count waits for.
+/// Returns the page for a text of a count, with the line about the lot that the count is waiting for.
 fn counted_page(alloc: Global, counted: CountedText) -> Page
     ensures { page_told result ≡ counted_page (string_bytes counted.text) (option_map string_bytes counted.lot_needed) }
 {
@@ -277,7 +286,7 @@ fn counted_page(alloc: Global, counted: CountedText) -> Page
     }
 }
 
-/// Returns the page of an outcome; `AllocError` if an allocation fails.
+/// Returns the page for an outcome; `AllocError` if an allocation fails.
 pub(crate) fn page_of(alloc: Global, report: Report) -> Result<Page, AllocError>
     ensures { IfOk result (λ page. page_told page ≡ page_of report) }
 {

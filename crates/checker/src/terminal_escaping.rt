@@ -5,7 +5,7 @@ ghost use Rattle.checker.specs.Reports.{shown, shown_character, steers};
 
 use std::alloc::{AllocError, Global};
 
-/// Returns whether a character controls a terminal, or the writing direction.
+/// Returns whether the character controls a terminal or the writing direction.
 fn steers(character: char) -> bool
     ensures { result ≡ steers character }
 {
@@ -27,7 +27,8 @@ fn show(character: char, text: &mut String) -> Result<(), AllocError>
     }
 }
 
-/// Returns a text made safe for a terminal: names may be from untrusted sources, so a question mark replaces each control character.
+/// Returns a text made safe for a terminal: since names may come from untrusted sources, a question mark replaces each character
+/// that controls the terminal or the writing direction.
 pub(crate) fn shown(alloc: Global, text: &str) -> Result<String, AllocError>
     ensures { IfOk result (λ shown_text. string_bytes shown_text ≡ shown text.now) }
 {

@@ -5,6 +5,10 @@ ghost use Rattle.checker.specs.Tokens.{behind_byte_order_mark, is_blank, kind_of
 
 use std::alloc::{AllocError, Global};
 
+/// The number of pieces for which space is reserved at the start, enough for the words of a typical line. More pieces need further
+/// allocations.
+const USUAL_PIECES: usize = 16;
+
 /// The separator at which a text is split.
 #[derive(Clone, Copy)]
 pub(crate) enum Separator {
@@ -12,7 +16,7 @@ pub(crate) enum Separator {
     LineFeed,
     /// A space, a tab, or a carriage return, such as before a line feed: the pieces are words.
     Blank,
-    /// The same, or a colon or a comma.
+    /// A space, a tab, a carriage return, a colon or a comma.
     Mark,
     /// An equals sign: the pieces are the candidates who share a rank.
     Equals,
@@ -31,14 +35,14 @@ pub(crate) enum LineKind {
     Content,
 }
 
-/// Returns whether a byte is a space, a tab, or a carriage return.
+/// Returns whether the byte is a space, a tab, or a carriage return.
 pub(crate) fn is_blank(byte: u8) -> bool
     ensures { result ≡ is_blank byte }
 {
     byte == b' ' || (byte == b'\t' || byte == b'\r')
 }
 
-/// Returns whether a byte separates two pieces.
+/// Returns whether the byte separates two pieces.
 fn parts(separator: Separator, byte: u8) -> bool
     ensures { result ≡ parts separator byte }
 {
@@ -51,7 +55,7 @@ fn parts(separator: Separator, byte: u8) -> bool
     }
 }
 
-/// Appends one piece; there is no word between two blanks.
+/// Appends one piece; an empty piece between two blanks isn't a word.
 fn with_piece<'a>(
     mut pieces: Vec<&'a [u8]>,
     separator: Separator,
@@ -70,7 +74,7 @@ fn with_piece<'a>(
     Ok(pieces)
 }
 
-/// Returns the pieces of a text.
+/// Splits a text into pieces.
 pub(crate) fn pieces_of<'a>(
     alloc: Global,
     separator: Separator,
@@ -78,7 +82,7 @@ pub(crate) fn pieces_of<'a>(
 ) -> Result<Vec<&'a [u8]>, AllocError>
     ensures { IfOk result (λ pieces. map (λ p. p.now) pieces.items ≡ pieces_of separator [] text.now) }
 {
-    let mut pieces = Vec::new(alloc);
+    let mut pieces = Vec::with_capacity(alloc, USUAL_PIECES)?;
     let mut start = 0;
     for i in 0..text.len() {
         if !parts(separator, text[i]) {
@@ -90,7 +94,7 @@ pub(crate) fn pieces_of<'a>(
     with_piece(pieces, separator, &text[start..])
 }
 
-/// Returns a text without its byte order mark, if it begins with one.
+/// Returns a text without its leading byte order mark, if it has one.
 fn behind_byte_order_mark(text: &[u8]) -> &[u8]
     ensures { result.now ≡ behind_byte_order_mark text.now }
 {
@@ -100,7 +104,7 @@ fn behind_byte_order_mark(text: &[u8]) -> &[u8]
     }
 }
 
-/// Returns the lines of a text. A line feed ends a line, and a leading byte order mark is skipped.
+/// Splits a text into lines. A line feed ends a line, and a leading byte order mark is skipped.
 pub(crate) fn lines_of(alloc: Global, text: &[u8]) -> Result<Vec<&[u8]>, AllocError>
     ensures { IfOk result (λ lines. map (λ p. p.now) lines.items ≡ lines_of text.now) }
 {

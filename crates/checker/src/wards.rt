@@ -13,7 +13,7 @@ use paper::Columns;
 use sheet::{Poll, Ward};
 use std::alloc::{AllocError, Global};
 
-/// A ward, the bundles of its papers, and the lots by which it is counted, each as a stage, counted from 1, and a candidate.
+/// A ward, the bundles of its papers, and the lots with which it is counted. Each lot is a stage, counted from 1, and a candidate.
 #[derive(Clone, Copy)]
 pub(crate) struct Election<'a> {
     pub(crate) ward: Ward<'a>,
@@ -21,7 +21,7 @@ pub(crate) struct Election<'a> {
     pub(crate) lots: &'a [(u8, u8)],
 }
 
-/// Returns the candidates with some names, numbered consecutively from 1; withdrawn numbers are skipped.
+/// Returns the candidates with the given names, numbered consecutively from 1; withdrawn numbers are skipped.
 pub(crate) fn candidates_of(
     alloc: Global,
     withdrawn: &Columns,
@@ -54,7 +54,7 @@ pub(crate) fn numbers_of(ward: &Ward) -> Columns
     columns
 }
 
-/// Returns the poll of a ward, given its numbers of candidates and seats.
+/// Returns the poll of a ward, given the numbers of candidates and seats.
 pub(crate) fn poll_by(
     rejected: Option<[u32; 5]>,
     bundles: &Bundles,

@@ -1,4 +1,4 @@
--- What a clerk sends isn't what the office sends: a clerk's name begins with a digit, the office's with a letter, and the seventh byte shows which.
+-- What a clerk sends is never what the office sends: a clerk's name begins with a digit and the office's with a letter, and the seventh byte shows which.
 use Rattle.std.proofs.Common.{◌≡◌, ◌∙◌, ◌<◌, ◌≤◌, ◌+◌, ◌-◌, ◌/◌, ◌%◌, ◌==◌, ◌&&◌, ◌||◌, ◌++◌, ◌∷◌, Bool, true, false}
 use Rattle.std.proofs.Common.{zero, suc, List, [], None, Option, Some, ap, arith, codes, decimal, if◌then◌else◌, nat_lt, refl, subst, sym, ℕ}
 use Rattle.std.specs.Fmt.{digit_glyph, digits, digits_onto}
@@ -55,7 +55,7 @@ decimal-begins n =
 
 -- ---- the seventh byte
 
--- the symbol of the first six bits of a byte
+-- the base64 symbol for the first six bits of a byte
 abbrev symbol_of : ℕ → ℕ
 symbol_of byte = slice_index standard.encode_table (byte / 4)
 
@@ -68,7 +68,7 @@ first_symbol byte (b ∷ c ∷ bytes) more = refl
 seventh : (byte : ℕ) (name code : List ℕ) → slice_index (basic_of (byte ∷ name) code) 6 ≡ symbol_of byte
 seventh byte name code = first_symbol byte ((name ++ codes ":") ++ code) _
 
--- the symbols of digits are capital letters
+-- the symbols for digits are capital letters
 above-capital : (k : ℕ) → k < 3 → slice_index standard.encode_table (12 + k) ≤ 90
 above-capital zero small = omega arith
 above-capital (suc zero) small = omega arith
@@ -91,7 +91,7 @@ clerks_seventh clerk code =
 offices_seventh : (code : List ℕ) → slice_index (office_credentials code) 6 ≡ 98
 offices_seventh code = seventh 111 (codes "ffice") code
 
--- ---- who is let in
+-- ---- what is accepted
 
 one_apart : (clerk : ℕ) (code own text : List ℕ) → bytes_eq text (credentials_of clerk code) ≡ true → bytes_eq text (office_credentials own) ≡ false
 one_apart clerk code own text is =

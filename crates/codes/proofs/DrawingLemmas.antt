@@ -1,4 +1,4 @@
--- What was drawn, one draw after the other.
+-- The bytes drawn, one draw after another.
 use Rattle.std.proofs.Common.{◌≡◌, ◌∙◌, ◌+◌, ◌-◌, ◌*◌, ◌<◌, ◌≤◌, ◌++◌, ◌∷◌, Bool, true, false, List, [], None}
 use Rattle.std.proofs.Common.{Option, Some, ap, append-nil, append_assoc, arith, inl, inr, length, length-append, not, refl, sym, ℕ}
 use Rattle.std.specs.List.{concat, cons_option, list_all}
@@ -25,7 +25,7 @@ known_then : (a : Option (List ℕ)) (bs cs : List ℕ) → append_known (append
 known_then None bs cs = refl
 known_then (Some xs) bs cs = ap (λ (ys : List ℕ). let o : Option (List ℕ) = Some ys in o) (append_assoc xs bs cs)
 
--- bytes that were drawn, and others behind them
+-- bytes that were drawn, followed by more bytes
 known_more : (a b c : Option (List ℕ)) (bs cs : List ℕ) → b ≡ append_known a bs → c ≡ append_known b cs → c ≡ append_known a (bs ++ cs)
 known_more a b c bs cs first second = second ∙ ap (λ (o : Option (List ℕ)). append_known o cs) first ∙ known_then a bs cs
 
@@ -41,7 +41,7 @@ pub draw_none : (old new : Option (List ℕ)) (byte : ℕ) (before : List ℕ)
 draw_none old new byte before drew is =
     record { byte = byte; drew = drew; letters = sym (append-nil before) ∙ ap (λ (o : Option ℕ). before ++ cons_option o []) is }
 
--- so many bytes were drawn of those that may be, and these letters by them
+-- the given number of bytes are left to be drawn, out of the maximum, and the bytes drawn so far yield the given letters
 pub record IsDrawing (old new : Option (List ℕ)) (letters : List ℕ) (most left : ℕ) : Type 0 where
   pub own : List ℕ
   pub drew : new ≡ append_known old own
@@ -91,7 +91,7 @@ text_drawn clerks office old new letters text it is =
       is = is ∙ ap (text_with clerks office) it.are;
     }
 
--- so many texts were drawn of those that may be, and none of them is a file of codes
+-- the given number of texts are left to be drawn, out of the maximum, and none of those drawn so far is a codes file
 pub record HasDrawn (clerks : ClerkRange) (office : Bool) (old new : Option (List ℕ)) (left : ℕ) : Type 0 where
   pub earlier : List (List ℕ)
   pub drew : new ≡ append_known old (concat earlier)

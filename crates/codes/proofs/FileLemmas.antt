@@ -1,4 +1,4 @@
--- Lines after others, and files without a line of the office.
+-- Lines that follow others, and files without a line for the office.
 use Rattle.std.proofs.Common.{◌≡◌, ◌∙◌, ◌==◌, ◌+◌, ◌++◌, ◌∷◌, ◌||◌, Bool, true, false, List, [], ℕ}
 use Rattle.std.proofs.Common.{Err, None, Ok, Result, ap, if◌then◌else◌, length, map, refl, sym}
 use Rattle.std.specs.Prelude.{bytes_eq}
@@ -11,9 +11,9 @@ use Rattle.codes.specs.declared.fault.CodesFault.{CodesFault}
 use Rattle.codes.specs.declared.fault.CodesFault.TheVariants as fault
 use Rattle.codes.specs.declared.reading.CodeLine.{CodeLine}
 
--- ---- a clerk's line after others
+-- ---- a clerk's line that follows others
 
--- what was found among the lines, or wasn't, is so of the same lines
+-- the outcome of searching the lines for a clerk is the same for equal lines
 pub clerk_among : (lines before : List CodeLine) (clerk : ℕ) (found b : Bool) → lines ≡ before
     → found ≡ list_any (λ (other : CodeEntry). other.clerk == clerk) (map code_entry lines) → found ≡ b
     → list_any (λ (other : CodeEntry). other.clerk == clerk) (map code_entry before) ≡ b
@@ -32,9 +32,9 @@ pub clerk_once : (before : FileEntry) (entry : CodeEntry) (read : Result CodeEnt
     → list_any (λ (other : CodeEntry). other.clerk == entry.clerk) before.clerks ≡ false → has_code before entry.code ≡ false → entry_behind before read ≡ Ok entry
 clerk_once before entry read is new own = rw (is, new, own) refl
 
--- ---- a file without a line of the office
+-- ---- a file without a line for the office
 
--- a clerk's entry after others, none of which has its clerk or its code
+-- a clerk's entry that follows others, none of which has the same clerk or code
 abbrev alone_behind : List CodeEntry → Result CodeEntry CodeFlaw → Result CodeEntry CodeFlaw
 alone_behind before (Err flaw) = Err flaw
 alone_behind before (Ok entry) =
@@ -45,14 +45,14 @@ abbrev alone_by : (List CodeEntry → Result (List CodeEntry) CodesFault) → �
 alone_by others number before (Err flaw) = Err (fault.Line number flaw)
 alone_by others number before (Ok entry) = others (before ++ entry ∷ [])
 
--- the entries of clerks' lines
+-- the entries in clerks' lines
 abbrev alone_from : ℕ → List CodeEntry → List (List ℕ) → Result (List CodeEntry) CodesFault
 alone_from number before [] = Ok before
 alone_from number before (line ∷ lines) =
     if length (without_return line) == 0 then alone_from (number + 1) before lines else
     alone_by (λ all. alone_from (number + 1) all lines) number before (alone_behind before (entry_in (without_return line)))
 
--- clerks' codes, and none of the office
+-- the codes of clerks, without one for the office
 abbrev clerks_alone : List CodeEntry → FileEntry
 clerks_alone entries = record { clerks = entries; office = None }
 
@@ -104,7 +104,8 @@ office_of_alone : (found : Result (List CodeEntry) CodesFault) → office_by (fi
 office_of_alone (Err fault) = refl
 office_of_alone (Ok entries) = refl
 
--- without a line of the office, a file has what its clerks' lines have alone, and is wrong where they are; and the office has no code
+-- without a line for the office, a file contains exactly what its clerks' lines contain on their own, and has the same first invalid line; and the office has no
+-- code
 pub text_alone : (text : List ℕ) → list_any (λ (line : List ℕ). is_office_line (without_return line)) (lines_from [] text) ≡ false
     → (codes_in text ≡ alone_from 1 [] (lines_from [] text)) × (office_in text ≡ None)
 text_alone text none =

@@ -1,4 +1,4 @@
--- The letters that bytes draw.
+-- The letters that bytes select.
 use Rattle.std.proofs.Common.{◌≡◌, ◌∙◌, ◌+◌, ◌-◌, ◌<◌, ◌≤◌, ◌∷◌, ◌%◌, Bool, true, false, EachIndex, List, [], None, Option}
 use Rattle.std.proofs.Common.{Some, ap, arith, drop, if◌then◌else◌, length, length-drop, length-take, min, nat_lt, refl, subst, sym, take, ℕ}
 use Rattle.std.specs.Prelude.{slice_index}
@@ -9,7 +9,7 @@ use Rattle.std.proofs.lemmas.List.{get_or-drop, get_or-take}
 use Rattle.std.proofs.lemmas.List.Sums.{AllPass-from_list_all}
 use Rattle.codes.specs.Making.{letter_of, letters, letters_drawn}
 
--- a byte of ASCII
+-- whether a byte is ASCII
 abbrev pub is_ascii : ℕ → Bool
 is_ascii byte = nat_lt byte 128
 
@@ -33,7 +33,7 @@ drawn_ascii (byte ∷ bytes) =
 below_128 : (byte : ℕ) → is_ascii byte ≡ true → byte < 128
 below_128 byte is = grind (arith, nat_tests)
 
--- each letter that is drawn is one of ASCII
+-- all letters that are drawn are ASCII
 pub each_ascii : (bytes xs : List ℕ) → xs ≡ letters_drawn bytes → EachIndex xs (λ k. slice_index xs k < 128)
 each_ascii bytes xs same k there =
     below_128 (slice_index xs k) (ascii_at xs (ap (λ (ls : List ℕ). list_all is_ascii ls) same ∙ drawn_ascii bytes) k there)
@@ -42,7 +42,7 @@ at_most_one : (drawn : Option ℕ) → length (cons_option drawn []) ≤ 1
 at_most_one None = omega arith
 at_most_one (Some letter) = omega arith
 
--- a byte draws one letter at most
+-- a byte selects at most one letter
 pub one_letter : (byte : ℕ) → length (letters_drawn (byte ∷ [])) ≤ 1
 one_letter byte = at_most_one (letter_of byte)
 

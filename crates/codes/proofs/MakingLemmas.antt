@@ -1,4 +1,4 @@
--- A file that was read again.
+-- A new file that was read back.
 use Rattle.std.proofs.Common.{◌≡◌, ◌+◌, ◌==◌, Bool, true, false, List, [], ◌∷◌, Ok, Option, None, Some, Err, Result, ap, arith, length, refl, ℕ}
 use Rattle.std.specs.Prelude.{bytes_eq}
 use Rattle.std.specs.List.{list_all, list_any}
@@ -31,9 +31,9 @@ clerks_apart code (e ∷ entries) long made =
     let short : length e.code ≡ 14 = same_number (length e.code) 14 (and_parts (length e.code == 14) _ parts.0).0 in
     rw (unlike e.code code short long) (clerks_apart code entries long parts.1)
 
--- ---- what the test of a file says
+-- ---- what it means for a file to pass the test
 
--- a text that passes the test is a file of codes for these clerks
+-- a text that passes the test is a codes file for the given clerks,
 of_clerks : (clerks : ClerkRange) (office : Bool) (text : List ℕ) (file : FileEntry) → file_in text ≡ Ok file
     → is_file_for clerks office (Ok file) ≡ true → IsMadeFor (clerks_of clerks) text
 of_clerks clerks office text file same is =
@@ -53,7 +53,7 @@ read_for clerks office text (Ok file) same is = of_clerks clerks office text fil
 pub file_for : (clerks : ClerkRange) (office : Bool) (text : List ℕ) → is_file_for clerks office (file_in text) ≡ true → IsMadeFor (clerks_of clerks) text
 file_for clerks office text is = read_for clerks office text (file_in text) refl is
 
--- and for the office, if one was made for it
+-- and also for the office, if a code was made for it
 with_code : (clerks : ClerkRange) (text : List ℕ) (entries : List CodeEntry) (office : Option (List ℕ)) → file_in text ≡ Ok (record { clerks = entries; office = office })
     → is_file_for clerks true (Ok (record { clerks = entries; office = office })) ≡ true → IsMadeWithOffice (clerks_of clerks) text
 unfolding of_clerks

@@ -1,4 +1,4 @@
--- Files of codes, computed: what is read of them, who is let in, and which file is made.
+-- Computed examples of codes files: what is read from them, which credentials are accepted, and which file is made.
 use Rattle.std.proofs.Common.{◌≡◌, ℕ, true, false, List, [], ◌∷◌, codes, None, Some, Ok, Err, refl}
 use Rattle.std.specs.Fmt.{digits}
 use Rattle.base64.specs.Rfc4648.{encode_symbols}
@@ -23,7 +23,7 @@ between_clerks : file_in (codes "4 kf7m-2wxt\noffice abcd-efgh-jkmn-prst\r\n9 w3
 })
 between_clerks = refl
 
--- hyphens aside, sixteen are enough, with hyphens or without, and signs count
+-- sixteen bytes other than hyphens are enough, with or without hyphens, and punctuation counts
 sixteen : office_in (codes "office abcdefghjkmnprst") ≡ Some (codes "abcdefghjkmnprst")
 sixteen = refl
 
@@ -33,7 +33,7 @@ twelve_and_signs = refl
 fifteen : file_in (codes "office abcd-efgh-jkmn-prs") ≡ Err (Line 1 ShortOffice)
 fifteen = refl
 
--- the code that is made for a clerk
+-- a code made for a clerk is too short for the office
 twelve : file_in (codes "4 kf7m-2wxt\noffice kf7m-2wxt-h4dn\n") ≡ Err (Line 2 ShortOffice)
 twelve = refl
 
@@ -64,7 +64,7 @@ behind_a_blank = refl
 longer : file_in (codes "offices abcd-efgh-jkmn-prst") ≡ Err (Line 1 NoEntry)
 longer = refl
 
--- ---- who is let in
+-- ---- which credentials are accepted
 
 abbrev both : List ℕ
 both = codes "4 kf7m-2wxt\noffice abcd-efgh-jkmn-prst\n"
@@ -83,7 +83,7 @@ clerks_code : is_office (office_held (office_in both)) clerk_4_sends ≡ false
 unfolding encode_symbols
 clerks_code = refl
 
--- the office's code under clerk 4's name
+-- the office's code with clerk 4's name
 under_clerks_name : is_office (office_held (office_in both)) (codes "Basic NDphYmNkLWVmZ2gtamttbi1wcnN0") ≡ false
 unfolding encode_symbols
 under_clerks_name = refl
@@ -100,7 +100,7 @@ offices_code_for_clerk = refl
 abbrev four_and_five : ClerkRange
 four_and_five = record { first = 4; last = 5 }
 
--- of these the seventh draws no letter
+-- the seventh byte selects no letter
 abbrev bytes : List ℕ
 bytes =
     0 ∷ 1 ∷ 2 ∷ 3 ∷ 24 ∷ 239 ∷ 240 ∷ 5 ∷ 6 ∷ 20 ∷ 21 ∷ 22 ∷ 23 ∷ 8 ∷ 9 ∷ 10 ∷ 11 ∷ 12 ∷ 13 ∷ 14 ∷ 15 ∷ 16 ∷ 17 ∷ 18 ∷ 19

@@ -1,4 +1,4 @@
--- The codes of clerks and of the office, and how a browser sends them.
+-- The codes of clerks and of the office, and the form in which a browser sends them.
 use Rattle.std.specs.Prelude.{◌≡◌, ◌++◌, ◌==◌, ◌&&◌, Bool, false, true, List, Option, Some, None, bytes_eq, codes, decimal, map, option_map, string_bytes, ℕ}
 use Rattle.std.specs.List.{list_any}
 use Rattle.base64.specs.Engines.{standard}
@@ -7,7 +7,7 @@ use Rattle.codes.specs.declared.credentials.Basic.{Basic}
 use Rattle.codes.specs.declared.credentials.Credentials.{Credentials}
 use Rattle.codes.specs.declared.holders.Codes.{Codes}
 
--- a name, a colon and a code, as a browser sends them: in base64, after the name of the scheme
+-- a name, a colon and a code in the form that a browser sends: in base64, after the name of the scheme
 abbrev pub basic_of : List ℕ → List ℕ → List ℕ
 basic_of name code = codes "Basic " ++ encode_of standard ((name ++ codes ":") ++ code)
 
@@ -34,7 +34,7 @@ holder c = record { clerk = c.clerk; text = string_bytes c.basic.text }
 abbrev pub holders_of : Codes → List Holder
 holders_of held = map holder held.all.items
 
--- a text is the credentials of this clerk
+-- whether a text is the credentials of the given clerk
 abbrev pub is_of : List Holder → ℕ → List ℕ → Bool
 is_of holders clerk text = list_any (λ (h : Holder). (h.clerk == clerk) && bytes_eq text h.text) holders
 
@@ -42,11 +42,11 @@ is_of holders clerk text = list_any (λ (h : Holder). (h.clerk == clerk) && byte
 abbrev pub office_of : Codes → Option (List ℕ)
 office_of held = option_map (λ (own : Basic). string_bytes own.text) held.office
 
--- a text is the office's credentials; without a code of the office none is
+-- whether a text is the office's credentials; no text is if the office has no code
 abbrev pub is_office : Option (List ℕ) → List ℕ → Bool
 is_office None text = false
 is_office (Some own) text = bytes_eq text own
 
--- nobody is let in both as a clerk and as the office: a clerk's code doesn't open the office, nor the office's a clerk's work
+-- no text is accepted both as a clerk's and as the office's: a clerk's code doesn't give access to the office, nor the office's code to a clerk's work
 abbrev pub AreApart : List Holder → Option (List ℕ) → Type 0
 AreApart holders own = (clerk : ℕ) → (text : List ℕ) → is_of holders clerk text ≡ true → is_office own text ≡ false

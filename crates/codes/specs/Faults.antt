@@ -1,4 +1,4 @@
--- Why codes aren't accepted, or weren't made: a number, a text, and the line.
+-- The reasons why codes aren't accepted or weren't made: a number, a text, and a line.
 use Rattle.std.specs.Prelude.{List, Option, Some, None, codes, ℕ}
 use Rattle.codes.specs.declared.fault.CodesFault.{CodesFault}
 use Rattle.codes.specs.declared.fault.CodesFault.TheVariants.{BadRandom, Line, NoClerks, NoRandom, OpenToOthers, Unmade, Unread}
@@ -39,7 +39,7 @@ fault_text NoRandom = codes "no random bytes"
 fault_text NoClerks = codes "no clerks, as 1-40"
 fault_text BadRandom = codes "random bytes make no codes"
 
--- the number of its line, if it is about one
+-- the line number of a fault, if it concerns a line
 abbrev pub fault_line : CodesFault → Option ℕ
 fault_line (Line number flaw) = Some number
 fault_line other = None

@@ -1,9 +1,9 @@
-//! The credentials of a clerk, and of the office.
+//! The credentials of clerks and of the office.
 
 ghost use Rattle.std.specs.Prelude.{◌≡◌, string_bytes};
 ghost use Rattle.sha2.specs.Sha256.{sha256};
 
-/// What a browser sends for a name with a code, and the digest of that.
+/// The text that a browser sends for a name and a code, and its digest.
 #[derive(Drop)]
 pub struct Basic {
     pub text: String,
@@ -11,7 +11,7 @@ pub struct Basic {
     ghost is_its: { digest ≡ sha256 (string_bytes text) },
 }
 
-/// A clerk, and what a browser sends for that clerk with a code.
+/// A clerk, and the text that a browser sends for this clerk and a code.
 #[derive(Drop)]
 pub struct Credentials {
     pub clerk: u32,

@@ -1,4 +1,4 @@
-//! What can be wrong with a file of codes.
+//! What can be wrong with a codes file.
 
 ghost use Rattle.std.specs.Prelude.{◌≡◌};
 ghost use Rattle.codes.specs.Faults.{fault_line, fault_number, fault_text, flaw_number, flaw_text};
@@ -9,41 +9,41 @@ use std::alloc::AllocError;
 /// What is wrong with a line.
 #[derive(Clone, Copy, Debug, PartialEq, Eq, Drop)]
 pub enum CodeFlaw {
-    /// The line begins neither with a clerk's number, 1 to 999, and a blank, nor with `office` and a blank.
+    /// The line begins neither with a clerk's number, 1 to 999, and a space, nor with `office` and a space.
     NoEntry,
-    /// The rest of the line isn't a code: 8 to 64 letters, digits and signs.
+    /// The rest of the line isn't a code: 8 to 64 letters, digits and punctuation characters.
     BadCode,
-    /// An earlier line has the same clerk.
+    /// An earlier line is for the same clerk.
     ClerkTwice,
     /// An earlier line has the same code.
     CodeTwice,
-    /// An earlier line is the office's too.
+    /// An earlier line is also for the office.
     OfficeTwice,
     /// The office's code has fewer than 16 bytes other than hyphens.
     ShortOffice,
 }
 
-/// Why codes weren't read or made.
+/// The reason why codes weren't read or made.
 #[derive(Clone, Copy, Debug, PartialEq, Eq, Drop)]
 pub enum CodesFault {
-    /// This is wrong with the line of this number.
+    /// The line with this number has this flaw.
     Line(usize, CodeFlaw),
-    /// Others than its owner may read the file.
+    /// Users other than its owner may read the file.
     OpenToOthers,
     /// The file can't be read, or it is too long.
     Unread,
-    /// The file exists already, or can't be created.
+    /// The file already exists, or it can't be created.
     Unmade,
     /// The system returned no random bytes.
     NoRandom,
-    /// The order doesn't name clerks such as 1-40.
+    /// The order doesn't name a range of clerks such as 1-40.
     NoClerks,
-    /// The random bytes drew too few letters, or the same code twice in each of a hundred files.
+    /// The random bytes yielded too few letters, or the same code twice in each of a hundred files.
     BadRandom,
 }
 
 impl CodeFlaw {
-    /// Returns its number.
+    /// Returns the number of the flaw.
     fn number(self) -> u32
         ensures { result ≡ flaw_number self }
     {
@@ -57,7 +57,7 @@ impl CodeFlaw {
         }
     }
 
-    /// Returns it in words.
+    /// Returns the text of the flaw.
     fn text(self) -> &'static str
         ensures { result.now ≡ flaw_text self }
     {
@@ -73,7 +73,7 @@ impl CodeFlaw {
 }
 
 impl CodesFault {
-    /// Returns its number.
+    /// Returns the number of the fault.
     pub fn number(&self) -> u32
         ensures { result ≡ fault_number self.now }
     {
@@ -88,7 +88,7 @@ impl CodesFault {
         }
     }
 
-    /// Returns it in words.
+    /// Returns the text of the fault.
     pub fn text(&self) -> &'static str
         ensures { result.now ≡ fault_text self.now }
     {
@@ -103,7 +103,7 @@ impl CodesFault {
         }
     }
 
-    /// Returns the number of its line, if it is about a line.
+    /// Returns the line number of the fault, if it concerns a line.
     pub fn line(&self) -> Option<usize>
         ensures { result ≡ fault_line self.now }
     {
@@ -114,12 +114,12 @@ impl CodesFault {
     }
 }
 
-/// Why no codes were read or made.
+/// The reason why no codes were read or made.
 #[derive(Clone, Copy, Debug, PartialEq, Eq, Drop)]
 pub enum CodesError {
     /// An allocation failed.
     Memory,
-    /// This is wrong.
+    /// This fault occurred.
     Fault(CodesFault),
 }
 

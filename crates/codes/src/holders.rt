@@ -1,4 +1,4 @@
-//! The clerks who hold codes, and the office's code.
+//! The clerks who have codes, and the office's code.
 
 ghost use Rattle.std.specs.Prelude.{◌≡◌, ◌&&◌, ◌==◌, IfOk, bytes_eq, is_some, map, option_map, string_bytes};
 ghost use Rattle.sha2.specs.Sha256.{sha256};
@@ -12,7 +12,7 @@ use base64::engine::general_purpose::STANDARD;
 use sha2::{Digest, Sha256};
 use std::alloc::{AllocError, Global};
 
-/// The codes of clerks, as browsers send them, the clerks whose codes are weak, and the office's code, if it has one.
+/// The codes of clerks in the form that browsers send, the clerks whose codes are weak, and the office's code, if it has one.
 #[derive(Drop)]
 pub struct Codes {
     pub all: Vec<Credentials>,
@@ -20,10 +20,10 @@ pub struct Codes {
     pub office: Option<Basic>,
 }
 
-/// The office's name, as its line in a file has it, and as a browser sends it.
+/// The name of the office in its line of a file, and in what a browser sends.
 pub(crate) const OFFICE_USER_NAME: &str = "office";
 
-/// Returns the credentials of a name with a code, as a text.
+/// Returns the credentials for a name and a code, as a text.
 fn basic_text(alloc: Global, name: &str, code: &[u8]) -> Result<String, AllocError>
     ensures { IfOk result (λ text. string_bytes text ≡ basic_of name.now code.now) }
 {
@@ -42,7 +42,7 @@ fn digest_of(text: &[u8]) -> [u8; 32]
 }
 
 impl Basic {
-    /// Returns the credentials of a name with a code.
+    /// Returns the credentials for a name and a code.
     fn new(alloc: Global, name: &str, code: &[u8]) -> Result<Basic, AllocError>
         ensures { IfOk result (λ its. string_bytes its.text ≡ basic_of name.now code.now) }
     {
@@ -51,8 +51,8 @@ impl Basic {
         Ok(Basic { text, digest })
     }
 
-    /// Returns whether a text is these credentials. It compares digests first, and the texts only if these are equal, so that
-    /// the time doesn't show how much of the text is right.
+    /// Returns true if a text equals these credentials. Compares the digests first, and the texts only if the digests are equal, so
+    /// that the time taken doesn't reveal how much of the text is correct.
     fn are(&self, text: &[u8], digest: &[u8; 32]) -> bool
         requires { digest.now ≡ sha256 text.now }
         ensures { result ≡ bytes_eq text.now (string_bytes self.now.text) }
@@ -62,7 +62,7 @@ impl Basic {
 }
 
 impl Credentials {
-    /// Returns the credentials of a clerk with a code.
+    /// Returns the credentials for a clerk and a code.
     fn new(alloc: Global, clerk: u32, code: &[u8]) -> Result<Credentials, AllocError>
         ensures { IfOk result (λ its. (its.clerk ≡ clerk) × (string_bytes its.basic.text ≡ credentials_of clerk code.now)) }
     {
@@ -72,7 +72,7 @@ impl Credentials {
     }
 }
 
-/// Returns whether a text is the credentials of this clerk.
+/// Returns true if a text is the credentials of the given clerk.
 fn is_of(all: &[Credentials], clerk: u32, text: &[u8]) -> bool
     ensures { result ≡ is_of (map holder all.now) clerk text.now }
 {
@@ -85,7 +85,7 @@ fn is_of(all: &[Credentials], clerk: u32, text: &[u8]) -> bool
     false
 }
 
-/// Returns the credentials of the clerks of some lines.
+/// Returns the credentials of the clerks in the given lines.
 pub(crate) fn credentials_by(
     alloc: Global,
     lines: &[CodeLine<'_>],
@@ -99,7 +99,7 @@ pub(crate) fn credentials_by(
     Ok(all)
 }
 
-/// Returns the credentials of the office with a code, if it has one.
+/// Returns the credentials of the office for a code, if it has one.
 pub(crate) fn office_by(alloc: Global, code: Option<&[u8]>) -> Result<Option<Basic>, AllocError>
     ensures { IfOk result (λ own. option_map (λ (o : Basic). string_bytes o.text) own ≡ office_held (option_map (λ c. c.now) code.entry)) }
 {
@@ -110,23 +110,23 @@ pub(crate) fn office_by(alloc: Global, code: Option<&[u8]>) -> Result<Option<Bas
 }
 
 impl Codes {
-    /// Returns whether a text is the credentials of this clerk. It hashes the whole text and compares digests first, so that
-    /// the time doesn't show how much of the text is right.
+    /// Returns true if a text is the credentials of the given clerk. Hashes the whole text and compares digests first, so that the
+    /// time taken doesn't reveal how much of the text is correct.
     pub fn admits(&self, clerk: u32, text: &[u8]) -> bool
         ensures { result ≡ is_of (holders_of self.now) clerk text.now }
     {
         is_of(self.all.as_slice(), clerk, text)
     }
 
-    /// Returns whether the office has a code.
+    /// Returns true if the office has a code.
     pub fn has_office(&self) -> bool
         ensures { result ≡ is_some (office_of self.now) }
     {
         self.office.is_some()
     }
 
-    /// Returns whether a text is the office's credentials; none is, if it has no code. It hashes the whole text and compares digests
-    /// first, so that the time doesn't show how much of the text is right.
+    /// Returns true if a text is the credentials of the office, and false if the office has no code. Hashes the whole text and
+    /// compares digests first, so that the time taken doesn't reveal how much of the text is correct.
     pub fn admits_office(&self, text: &[u8]) -> bool
         ensures { result ≡ is_office (office_of self.now) text.now }
     {
@@ -137,8 +137,8 @@ impl Codes {
         }
     }
 
-    /// Returns the clerks whose codes are weak, in the order of the file: such a code has fewer than 12 bytes other than hyphens,
-    /// and may be guessed.
+    /// Returns the clerks whose codes are weak, in the order of the file. A weak code has fewer than 12 bytes other than hyphens
+    /// and could be guessed.
     pub fn weak_clerks(&self) -> &[u32]
         ensures { result.now ≡ self.now.weak.items }
     {

@@ -1,13 +1,16 @@
-//! The codes of clerks, and of the office: read from a file, compared with what a browser sends (`Authorization: Basic`), and made.
+//! The codes of clerks and of the office: reading them from a file, comparing them with what a browser sends (`Authorization:
+//! Basic`), and making new ones.
 //!
-//! [`Codes::read`](Codes) reads a file's text, a line for each clerk, and at most one for the office. [`Codes::admits`](Codes)
-//! compares a text with a clerk's credentials, and `Codes::admits_office` with the office's: by their digests first, so that the
-//! time doesn't show how much of it is right. [`RateLimit`] counts wrong codes, by the times of a clock that it is given. [`make`]
-//! returns the text of a new file, made of random bytes ([`RandomSource`]), and [`make_with_office`] one with a code of the office.
+//! [`Codes::read`](Codes) reads the text of a file, which has one line per clerk and at most one for the office; [`entries_of`]
+//! returns the codes in its [`lines_of`] unchanged, for slips. [`Codes::admits`](Codes) compares a text with a clerk's credentials,
+//! and `Codes::admits_office` compares it with the office's. Both compare digests first, so that the time taken doesn't reveal how
+//! much of the text is correct. [`RateLimit`] counts wrong codes, using the times of a clock that the caller provides. [`make`]
+//! returns the text of a new file, made from random bytes ([`RandomSource`]), and [`make_with_office`] one that includes a code for
+//! the office.
 //!
-//! `specs/Codes.antt` defines the credentials of a clerk and of the office, `specs/Files.antt` what a file of codes says, `specs/RateLimits.antt`
-//! the limit of wrong codes, `specs/Making.antt` the text of a new file, and `specs/Drawing.antt` of which bytes it is made.
-//! Nothing guarantees that the system's bytes are random.
+//! `specs/Codes.antt` defines the credentials of a clerk and of the office, `specs/Files.antt` the contents of a codes file, and
+//! `specs/RateLimits.antt` the limit on wrong codes. `specs/Making.antt` defines the text of a new file, and `specs/Drawing.antt`
+//! the bytes that it is made from. Nothing guarantees that the system's bytes are random.
 //!
 //! ```text
 //! let codes = Codes::read(alloc, text)?;
@@ -35,4 +38,4 @@ pub use holders::Codes;
 pub use making::{make, make_with_office};
 pub use range::ClerkRange;
 pub use rate_limit::RateLimit;
-pub use reading::{CodeLine, FileLines};
+pub use reading::{CodeLine, FileLines, entries_of, lines_of};

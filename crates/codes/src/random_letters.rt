@@ -1,4 +1,4 @@
-//! Letters that are drawn, and the text that they make.
+//! Drawing letters, and the text made of them.
 
 ghost use Rattle.std.specs.Prelude.{◌≡◌, ◌++◌, ◌-◌, ◌^◌, ◌<◌, ◌≤◌, EachIndex, IfErr, IfOk, OnOk, length, slice_index, string_bytes};
 ghost use Rattle.codes.specs.Drawing.{AreDrawn, IsDraw, IsDrawn, IsUndrawn, IsUnwritten};
@@ -10,31 +10,31 @@ use crate::holders::OFFICE_USER_NAME;
 use crate::range::ClerkRange;
 use std::alloc::{AllocError, Global};
 
-/// The letters of codes, none of which looks like another.
+/// The letters that codes are made of, none of which can be mistaken for another.
 pub(crate) const LETTERS: &[u8; 24] = b"abcdefghjkmnprstuwxy2347";
 
-/// How many bytes draw a letter, equally many for each letter. Any other byte draws none.
+/// The number of byte values that select a letter, the same number for each letter. Any other byte selects none.
 const DRAWING_BYTES: u8 = 240;
 
-/// The most bytes that are drawn for each letter.
+/// The maximum number of bytes that are drawn per letter.
 const MOST_BYTES: usize = 100;
 
-/// How many letters a clerk's code has.
+/// The number of letters in a clerk's code.
 const CODE_LETTERS: usize = 12;
 
-/// How many letters the office's code has.
+/// The number of letters in the office's code.
 const OFFICE_LETTERS: usize = 16;
 
-/// How many of them come before its first hyphen.
+/// The number of letters before the first hyphen of a code.
 const FRONT_LETTERS: usize = 4;
 
-/// How many of them come before its second hyphen.
+/// The number of letters before the second hyphen of a code.
 const MIDDLE_LETTERS: usize = 8;
 
-/// How many of the office's come before its third hyphen.
+/// The number of letters before the third hyphen of the office's code.
 const LATER_LETTERS: usize = 12;
 
-/// Returns the letter that a byte draws, if it draws one.
+/// Returns the letter that a byte selects, if any.
 fn letter_of(byte: u8) -> Option<u8>
     ensures { result ≡ letter_of byte }
 {
@@ -45,7 +45,7 @@ fn letter_of(byte: u8) -> Option<u8>
     }
 }
 
-/// Draws a byte, and appends the letter that it draws, if it draws one.
+/// Draws a byte and appends the letter that it selects, if any.
 fn draw_letter<D: RandomSource>(draws: &mut D, letters: &mut Vec<u8>) -> Result<(), CodesError>
     requires { D.failed draws.old < 2 ^ 64 - 1 }
     ensures ok { OnOk result (IsDraw (D.drawn draws.old) (D.drawn draws.new) letters.old.items letters.new.items) }
@@ -66,7 +66,7 @@ fn draw_letter<D: RandomSource>(draws: &mut D, letters: &mut Vec<u8>) -> Result<
     }
 }
 
-/// Returns how many letters the codes of some clerks have, with the office's or without it.
+/// Returns the number of letters in the codes of the given clerks, with or without the office's.
 fn letters_count(clerks: ClerkRange, office: bool) -> usize
     ensures is { result ≡ letters_with clerks office }
     ensures bound { result ≤ 2 ^ 36 }
@@ -79,7 +79,7 @@ fn letters_count(clerks: ClerkRange, office: bool) -> usize
     }
 }
 
-/// Draws the letters of codes for some clerks, and for the office or not.
+/// Draws the letters of codes for the given clerks, with or without one for the office.
 fn draw_letters<D: RandomSource>(
     alloc: Global,
     draws: &mut D,
@@ -115,7 +115,7 @@ fn push_letters(text: &mut String, letters: &[u8]) -> Result<(), AllocError>
     Ok(())
 }
 
-/// Appends the line of a clerk: the clerk's number, a blank, and the code of these letters.
+/// Appends a clerk's line: the clerk's number, a space, and the code made of the given letters.
 #[tactic(auto, using(crate::proofs::NumberLemmas::joined))]
 fn push_line(alloc: Global, text: &mut String, clerk: u32, letters: &[u8]) -> Result<(), AllocError>
     requires enough { length letters.now ≡ 12 }
@@ -133,7 +133,7 @@ fn push_line(alloc: Global, text: &mut String, clerk: u32, letters: &[u8]) -> Re
     Ok(())
 }
 
-/// Returns the lines of some clerks, with twelve of these letters for each.
+/// Returns the lines of the given clerks, with twelve of the given letters each.
 fn lines_by(alloc: Global, clerks: ClerkRange, letters: &[u8]) -> Result<String, AllocError>
     requires enough { length letters.now ≡ letters_for clerks }
     requires ascii { EachIndex letters.now (λ k. slice_index letters.now k < 128) }
@@ -150,7 +150,7 @@ fn lines_by(alloc: Global, clerks: ClerkRange, letters: &[u8]) -> Result<String,
     Ok(text)
 }
 
-/// Appends the office's code of these letters.
+/// Appends the office's code made of the given letters.
 #[tactic(auto, using(crate::proofs::NumberLemmas::groups_joined))]
 fn push_office_code(text: &mut String, letters: &[u8]) -> Result<(), AllocError>
     requires enough { length letters.now ≡ 16 }
@@ -167,7 +167,7 @@ fn push_office_code(text: &mut String, letters: &[u8]) -> Result<(), AllocError>
     Ok(())
 }
 
-/// Appends the office's line: its name, a blank, and the code of these letters.
+/// Appends the office's line: its name, a space, and the code made of the given letters.
 #[tactic(auto, using(crate::proofs::NumberLemmas::line_joined))]
 fn push_office_line(text: &mut String, letters: &[u8]) -> Result<(), AllocError>
     requires enough { length letters.now ≡ 16 }
@@ -181,8 +181,8 @@ fn push_office_line(text: &mut String, letters: &[u8]) -> Result<(), AllocError>
     Ok(())
 }
 
-/// Returns the lines of some clerks, with twelve of these letters for each; and after them the office's, with the sixteen letters
-/// that are left, if a code is made for it.
+/// Returns the lines of the given clerks, with twelve of the given letters each. If a code is made for the office, its line
+/// follows, with the remaining sixteen letters.
 fn text_by(
     alloc: Global,
     clerks: ClerkRange,
@@ -202,8 +202,8 @@ fn text_by(
     Ok(text)
 }
 
-/// Draws the codes of some clerks, and of the office or not, and returns their lines. The error is `NoRandom` if the source fails,
-/// and `BadRandom` if 100 bytes for each letter draw too few.
+/// Draws codes for the given clerks, with or without one for the office, and returns their lines. Fails with `NoRandom` if the
+/// source fails, and with `BadRandom` if 100 bytes per letter yield too few letters.
 pub(crate) fn draw_lines<D: RandomSource>(
     alloc: Global,
     draws: &mut D,

@@ -1,4 +1,4 @@
-//! The clerks for whom codes are made.
+//! The range of clerks for whom codes are made.
 
 ghost use Rattle.std.specs.Prelude.{◌≡◌, ◌≤◌, ◌+◌, ◌-◌, ◌^◌, IfSome, length, option_map};
 ghost use Rattle.std.specs.List.{prefix_len};
@@ -14,7 +14,7 @@ pub struct ClerkRange {
     pub last: u32,
 }
 
-/// Returns how many bytes come before the first hyphen of a text.
+/// Returns the number of bytes before the first hyphen of a text.
 fn front_length(text: &[u8]) -> usize
     ensures bound { result ≤ length text.now }
     ensures is { result ≡ prefix_len is_no_hyphen text.now }
@@ -30,7 +30,7 @@ fn front_length(text: &[u8]) -> usize
 }
 
 impl ClerkRange {
-    /// Returns how many they are.
+    /// Returns the number of clerks in the range.
     #[tactic(auto, using(crate::proofs::NumberLemmas::length_numbers))]
     pub fn count(self) -> usize
         ensures is { result ≡ length (clerks_of self) }
@@ -40,7 +40,8 @@ impl ClerkRange {
         (self.last as usize + 1).saturating_sub(self.first as usize)
     }
 
-    /// Returns the clerks that a text such as `1-40` names, none of them above 999; or None if it names none.
+    /// Returns the range of clerks that a text such as `1-40` names; no number may exceed 999. Returns None if the text names no
+    /// range.
     pub fn parse(text: &str) -> Option<ClerkRange>
         ensures is { option_map clerks_entry result ≡ clerks_in text.now }
         ensures bound { IfSome result (λ clerks. clerks.last ≤ 999) }

@@ -1,4 +1,4 @@
-//! The text of a file of codes, read line by line.
+//! Reading the text of a codes file line by line.
 
 ghost use Rattle.std.specs.Prelude.{◌≡◌, ◌≤◌, ◌⊎◌, ◌*◌, ◌+◌, ◌==◌, [], IfErr, IfOk, IfSome, List, Ok, Err, bytes_eq, length, map, option_and_then, option_map, ℕ};
 ghost use Rattle.std.specs.List.{count_by, list_all, list_any, prefix_len};
@@ -15,26 +15,26 @@ use crate::holders::{Codes, OFFICE_USER_NAME, credentials_by, office_by};
 use std::alloc::{AllocError, Global};
 use std::mem;
 
-/// The fewest bytes of a code.
+/// The minimum number of bytes in a code.
 const FEWEST_BYTES: usize = 8;
 
-/// The most bytes of a code.
+/// The maximum number of bytes in a code.
 const MOST_BYTES: usize = 64;
 
-/// The fewest bytes of a strong code, hyphens left out.
+/// The minimum number of bytes in a strong code, not counting hyphens.
 const FEWEST_STRONG_BYTES: usize = 12;
 
-/// The fewest bytes of the office's code, hyphens left out.
+/// The minimum number of bytes in the office's code, not counting hyphens.
 const FEWEST_OFFICE_BYTES: usize = 16;
 
-/// A line of a file of codes: a clerk and that clerk's code.
+/// A clerk's line in a codes file: the clerk and that clerk's code.
 #[derive(Clone, Copy)]
 pub struct CodeLine<'a> {
     pub clerk: u32,
     pub code: &'a [u8],
 }
 
-/// What the lines of a file of codes have: the clerks' lines, and the office's code, if there is a line of the office.
+/// The contents of a codes file: the clerks' lines, and the office's code, if there is a line for the office.
 #[derive(Drop)]
 pub struct FileLines<'a> {
     pub clerks: Vec<CodeLine<'a>>,
@@ -53,7 +53,7 @@ fn digit_in(byte: u8) -> Option<u32>
     }
 }
 
-/// Returns the number that a digit makes after others, if all are digits.
+/// Returns the number that results from appending a digit, if all bytes are digits.
 fn with_digit(value: Option<u32>, byte: u8) -> Option<u32>
     requires { IfSome value (λ v. v ≤ 99) }
     ensures is { result ≡ option_and_then (λ v. option_map (λ d. v * 10 + d) (digit_in byte)) value }
@@ -66,7 +66,7 @@ fn with_digit(value: Option<u32>, byte: u8) -> Option<u32>
     }
 }
 
-/// Parses a clerk's number: 1 to 3 digits, the first not 0.
+/// Parses a clerk's number: 1 to 3 digits, the first of which is not 0.
 pub(crate) fn clerk_in(text: &[u8]) -> Option<u32>
     ensures is { result ≡ clerk_in text.now }
     ensures bound { IfSome result (λ clerk. clerk ≤ 999) }
@@ -80,42 +80,42 @@ pub(crate) fn clerk_in(text: &[u8]) -> Option<u32>
     }
 }
 
-/// Returns whether a byte is a letter, a digit or a sign.
+/// Returns true if a byte is an ASCII letter, digit or punctuation character.
 fn is_visible(byte: u8) -> bool
     ensures { result ≡ is_visible byte }
 {
     byte > b' ' && byte < 127
 }
 
-/// Returns whether all bytes are letters, digits and signs.
+/// Returns true if all bytes are ASCII letters, digits and punctuation characters.
 fn all_visible(text: &[u8]) -> bool
     ensures { result ≡ list_all is_visible text.now }
 {
     text.iter().all(|byte| is_visible(*byte))
 }
 
-/// Returns whether a text is a code.
+/// Returns true if a text is a code.
 fn is_code(text: &[u8]) -> bool
     ensures { result ≡ is_code text.now }
 {
     text.len() >= FEWEST_BYTES && text.len() <= MOST_BYTES && all_visible(text)
 }
 
-/// Returns how many bytes of a code aren't hyphens.
+/// Returns the number of bytes other than hyphens in a code.
 fn count_other_bytes(code: &[u8]) -> usize
     ensures { result ≡ count_by is_no_hyphen code.now }
 {
     code.iter().filter(|byte| **byte != b'-').count()
 }
 
-/// Returns whether a code is strong: it has at least twelve bytes other than hyphens.
+/// Returns true if a code is strong, that is, if it has at least twelve bytes other than hyphens.
 fn is_strong(code: &[u8]) -> bool
     ensures { result ≡ is_strong code.now }
 {
     count_other_bytes(code) >= FEWEST_STRONG_BYTES
 }
 
-/// Returns whether a code is long enough for the office: it has at least sixteen bytes other than hyphens.
+/// Returns true if a code is long enough for the office, that is, if it has at least sixteen bytes other than hyphens.
 fn is_for_office(code: &[u8]) -> bool
     ensures { result ≡ is_for_office code.now }
 {
@@ -135,7 +135,7 @@ fn weak_clerks(alloc: Global, lines: &[CodeLine<'_>]) -> Result<Vec<u32>, AllocE
     Ok(weak)
 }
 
-/// Returns how many bytes come before the first blank of a line.
+/// Returns the number of bytes before the first space of a line.
 fn front_length(line: &[u8]) -> usize
     ensures bound { result ≤ length line.now }
     ensures is { result ≡ prefix_len is_no_blank line.now }
@@ -150,7 +150,7 @@ fn front_length(line: &[u8]) -> usize
     length
 }
 
-/// Splits a line at its first blank, which is in neither part.
+/// Splits a line at its first space, which is in neither part.
 fn parts_of(line: &[u8]) -> (&[u8], &[u8])
     ensures front { result.0.now ≡ front_of line.now }
     ensures rest { result.1.now ≡ rest_of line.now }
@@ -159,14 +159,14 @@ fn parts_of(line: &[u8]) -> (&[u8], &[u8])
     (&line[..length], &line[line.len().min(length + 1)..])
 }
 
-/// Returns whether a line is the office's.
+/// Returns true if a line is the office's.
 fn is_office_line(line: &[u8]) -> bool
     ensures { result ≡ is_office_line line.now }
 {
     parts_of(line).0 == OFFICE_USER_NAME.as_bytes()
 }
 
-/// Parses a clerk's line: a clerk's number, a blank, and a code.
+/// Parses a clerk's line: a clerk's number, a space, and a code.
 fn entry_in(line: &[u8]) -> Result<CodeLine<'_>, CodeFlaw>
     ensures ok { IfOk result (λ found. entry_in line.now ≡ Ok (code_entry found)) }
     ensures err { IfErr result (λ flaw. entry_in line.now ≡ Err flaw) }
@@ -182,7 +182,7 @@ fn entry_in(line: &[u8]) -> Result<CodeLine<'_>, CodeFlaw>
     }
 }
 
-/// Returns a line without the carriage return at its end.
+/// Returns a line without the carriage return at its end, if it has one.
 fn without_return(line: &[u8]) -> &[u8]
     ensures { result.now ≡ without_return line.now }
 {
@@ -193,7 +193,7 @@ fn without_return(line: &[u8]) -> &[u8]
     }
 }
 
-/// Returns whether one of these lines has this clerk.
+/// Returns true if one of the given lines is for the given clerk.
 fn has_clerk(before: &[CodeLine<'_>], clerk: u32) -> bool
     ensures { result ≡ list_any (λ (other : CodeEntry). other.clerk == clerk) (map code_entry before.now) }
 {
@@ -205,7 +205,7 @@ fn has_clerk(before: &[CodeLine<'_>], clerk: u32) -> bool
     false
 }
 
-/// Returns whether one of these clerks' lines has this code.
+/// Returns true if one of the given clerks' lines has the given code.
 fn clerk_has_code(before: &[CodeLine<'_>], code: &[u8]) -> bool
     ensures { result ≡ list_any (λ (other : CodeEntry). bytes_eq other.code code.now) (map code_entry before.now) }
 {
@@ -217,7 +217,7 @@ fn clerk_has_code(before: &[CodeLine<'_>], code: &[u8]) -> bool
     false
 }
 
-/// Returns whether the office has this code.
+/// Returns true if the office has the given code.
 fn is_offices(office: Option<&[u8]>, code: &[u8]) -> bool
     ensures { result ≡ is_offices (option_map (λ c. c.now) office.entry) code.now }
 {
@@ -227,14 +227,14 @@ fn is_offices(office: Option<&[u8]>, code: &[u8]) -> bool
     }
 }
 
-/// Returns whether a clerk or the office has this code.
+/// Returns true if a clerk or the office has the given code.
 fn has_code(before: &FileLines<'_>, code: &[u8]) -> bool
     ensures { result ≡ has_code (file_entry before.now) code.now }
 {
     clerk_has_code(before.clerks.as_slice(), code) || is_offices(before.office, code)
 }
 
-/// Parses a clerk's line after others, of which none may have its clerk or its code.
+/// Parses a clerk's line that follows others, none of which may have the same clerk or code.
 fn entry_behind<'a>(before: &FileLines<'_>, line: &'a [u8]) -> Result<CodeLine<'a>, CodeFlaw>
     ensures ok { IfOk result (λ found. entry_behind (file_entry before.now) (entry_in line.now) ≡ Ok (code_entry found)) }
     ensures err { IfErr result (λ flaw. entry_behind (file_entry before.now) (entry_in line.now) ≡ Err flaw) }
@@ -249,7 +249,7 @@ fn entry_behind<'a>(before: &FileLines<'_>, line: &'a [u8]) -> Result<CodeLine<'
     Ok(found)
 }
 
-/// Parses the office's line after others, of which none may be the office's or have its code.
+/// Parses the office's line that follows others, none of which may be the office's or have the same code.
 fn office_behind<'a>(before: &FileLines<'_>, line: &'a [u8]) -> Result<&'a [u8], CodeFlaw>
     ensures ok { IfOk result (λ code. office_behind (file_entry before.now) (rest_of line.now) ≡ Ok code.now) }
     ensures err { IfErr result (λ flaw. office_behind (file_entry before.now) (rest_of line.now) ≡ Err flaw) }
@@ -271,7 +271,7 @@ fn office_behind<'a>(before: &FileLines<'_>, line: &'a [u8]) -> Result<&'a [u8],
 }
 
 impl<'a> FileLines<'a> {
-    /// Parses one line more. The errors are that an allocation failed, and what is wrong with the line, whose number is given.
+    /// Parses another line, which has the given number. Fails if an allocation fails or something is wrong with the line.
     fn add(&mut self, number: usize, line: &'a [u8]) -> Result<(), CodesError>
         ensures ok { IfOk result (λ _. with_line (file_entry self.old) line.now ≡ Ok (file_entry self.new)) }
         ensures err { IfErr result (λ why. (why ≡ read_error.Memory)
@@ -299,8 +299,8 @@ impl<'a> FileLines<'a> {
     }
 }
 
-/// Splits a text into lines.
-pub(crate) fn lines_of(alloc: Global, text: &[u8]) -> Result<Vec<Vec<u8>>, AllocError>
+/// Splits the text of a file into lines.
+pub fn lines_of(alloc: Global, text: &[u8]) -> Result<Vec<Vec<u8>>, AllocError>
     ensures { IfOk result (λ lines. map (λ line. line.items) lines.items ≡ lines_from [] text.now) }
 {
     let mut lines = Vec::new(alloc);
@@ -316,8 +316,8 @@ pub(crate) fn lines_of(alloc: Global, text: &[u8]) -> Result<Vec<Vec<u8>>, Alloc
     Ok(lines)
 }
 
-/// Parses all lines. The errors are that an allocation failed, and the first line that is wrong.
-pub(crate) fn entries_of(alloc: Global, lines: &[Vec<u8>]) -> Result<FileLines<'_>, CodesError>
+/// Parses all lines of a file. Fails if an allocation fails, or with a fault for the first invalid line.
+pub fn entries_of(alloc: Global, lines: &[Vec<u8>]) -> Result<FileLines<'_>, CodesError>
     ensures ok { IfOk result (λ found. file_from 1 no_codes (map (λ line. line.items) lines.now) ≡ Ok (file_entry found)) }
     ensures err { IfErr result (λ why. (why ≡ read_error.Memory)
         ⊎ ((fault : CodesFault) × (why ≡ read_error.Fault fault) × (file_from 1 no_codes (map (λ line. line.items) lines.now) ≡ Err fault))) }
@@ -336,7 +336,7 @@ pub(crate) fn entries_of(alloc: Global, lines: &[Vec<u8>]) -> Result<FileLines<'
 }
 
 impl Codes {
-    /// Reads the codes of a file's text. The errors are that an allocation failed, and the first line that is wrong.
+    /// Reads the codes in the text of a file. Fails if an allocation fails, or with a fault for the first invalid line.
     pub fn read(alloc: Global, text: &[u8]) -> Result<Codes, CodesError>
         ensures ok { IfOk result (λ own. (entries : List CodeEntry) × (codes_in text.now ≡ Ok entries) × (holders_of own ≡ holders_by entries) × (own.weak.items ≡ weak_clerks entries)) }
         ensures office { IfOk result (λ own. office_of own ≡ office_held (office_in text.now)) }

@@ -1,4 +1,4 @@
--- No more are in a room than may be, whoever comes in, goes on or leaves.
+-- The table stays within its limits, whichever connections are accepted, serviced or closed.
 use Rattle.std.proofs.Common.{◌≡◌, ◌≤◌, ◌<◌, ◌+◌, ◌∙◌, ◌∷◌, ◌++◌, ℕ, List, [], Option, ap, arith, insert, length, remove, subst, sym}
 use Rattle.std.specs.List.{FoldsTo}
 use Rattle.std.proofs.lemmas.List.{length_push}
@@ -15,18 +15,18 @@ use Rattle.connections.specs.Closing.{AreClosedByRule, IsWithin}
 use Rattle.connections.proofs.ClosingLemmas.{Outs}
 
 module _ {L : Type 0} where
-  -- so many clients, and so many bytes of them, at most
+  -- there are at most as many connections, and they hold at most as many bytes, as the limits allow
   abbrev pub IsWithinOf : List (Client L) → Type 0
   IsWithinOf clients = (length clients ≤ most_clients) × (bytes_held clients ≤ most_bytes)
 
-  -- one left
+  -- one connection was closed
   pub one_less : (clients : List (Client L)) (place : ℕ) (d : Client L) → place < length clients → IsWithinOf clients → IsWithinOf (remove clients place)
   one_less clients place d within was =
       let fewer = length-remove clients place within in
       let less = sum_by-remove bytes_of clients place d within in
       (omega (arith, fewer, was.0), omega (arith, less, was.1))
 
-  -- one was taken out of its place, and is there again
+  -- a connection was taken out of its place and put back
   pub few_back : (clients taken back : List (Client L)) (place : ℕ) (new : Client L) → place < length clients → length clients ≤ most_clients
       → taken ≡ remove clients place → back ≡ insert taken place new → length back ≤ most_clients
   few_back clients taken back place new within few out is =
@@ -34,7 +34,7 @@ module _ {L : Type 0} where
       let more = length-insert (remove clients place) place new (omega (arith, fewer, within)) in
       subst (λ (cs : List (Client L)). length cs ≤ most_clients) (sym (is ∙ ap (λ (cs : List (Client L)). insert cs place new) out)) (omega (arith, fewer, more, few))
 
-  -- and while it is out, there is a place for it
+  -- while a connection is out of its place, there is room for it
   pub place_left : (clients taken : List (Client L)) (place : ℕ) → place < length clients → length clients ≤ most_clients → taken ≡ remove clients place
       → (place ≤ length taken) × (length taken < most_clients)
   place_left clients taken place within few out =
@@ -53,7 +53,7 @@ module _ {L : Type 0} where
             let out = outs (c ∷ cs) removed rest go in
             subst (λ (xs : List (Client L)). IsWithinOf xs) (sym out.out.left) (one_less (c ∷ cs) out.place c out.out.within is)
 
-    -- some were let go
+    -- connections were closed
     pub within_still : (before later : NetworkEntry L) (old new : ConnectionTable L) → AreClosedByRule Goes before later old new → IsWithin old → IsWithin new
     within_still before later old new it was = let_go it.gone old.clients.items new.clients.items it.each was
 
@@ -66,16 +66,16 @@ module _ {L : Type 0} where
         let rest = few_still gone mid new others in
         omega (arith, fewer, left, rest)
 
-    -- some were let go, until no more bytes were held than may be
+    -- connections were closed until the bytes in memory were within the limit
     pub within_again : (before later : NetworkEntry L) (old new : ConnectionTable L) → length old.clients.items ≤ most_clients → AreClosedByRule Goes before later old new
         → bytes_held new.clients.items ≤ most_bytes → IsWithin new
     within_again before later old new few it bytes = (omega (arith, few, few_still it.gone old.clients.items new.clients.items it.each), bytes)
 
-  -- nobody is in
+  -- no connection is open
   pub within_none : (table : ConnectionTable L) → table.clients.items ≡ [] → IsWithin table
   within_none table none = subst (λ (cs : List (Client L)). IsWithinOf cs) (sym none) (omega arith, omega arith)
 
-  -- one came in for which there was room
+  -- a connection for which there was room was accepted
   pub within_more : (old new : ConnectionTable L) (accepted : Accepted L) (now : ℕ) (P : Client L → Type 0) → length old.clients.items < most_clients → bytes_held old.clients.items ≤ most_bytes
       → (client : Client L) × (new.clients.items ≡ old.clients.items ++ client ∷ []) × IsNew accepted old.came now client × P client → IsWithin new
   within_more old new accepted now P few bytes (client, is, is_new, own) =

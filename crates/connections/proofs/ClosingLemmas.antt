@@ -1,4 +1,4 @@
--- Clients that are let go, one after the other.
+-- Connections that are closed, one by one.
 use Rattle.std.proofs.Common.{◌≡◌, ◌≤◌, ◌<◌, ◌+◌, ◌-◌, ◌∙◌, ◌⊎◌, ◌∷◌, ◌++◌, Bool, false, true, ℕ, List, [], None}
 use Rattle.std.proofs.Common.{Option, Some, ap, append-nil, append_assoc, arith, get_or, inl, inr, length, map, option_map, refl, remove, subst, sym}
 use Rattle.std.proofs.lemmas.List.{get_or_read, map-append, nil_from_length}
@@ -15,7 +15,7 @@ use Rattle.connections.specs.declared.removed.Removed.{Removed}
 use Rattle.connections.specs.declared.removed.CloseReason.{CloseReason}
 use Rattle.connections.specs.declared.removed.CloseReason.TheVariants.{Closing}
 use Rattle.connections.specs.declared.connection_table.ConnectionTable.{ConnectionTable}
-use Rattle.connections.specs.Closing.{MayBeClosed, AreFull, AreClosedByRule, IsClosed, IsClosedAt, IsClosedByRule, IsClosedForBytes, IsClosedForRoom}
+use Rattle.connections.specs.Closing.{MayBeClosed, AreFull, AreClosedByRule, IsClosed, IsClosedAt, IsClosedByRule, IsClosedForBytes, IsEvicted}
 use Rattle.connections.specs.Closing.{IsOut, ClosesOne, OneIsClosed, byte_limit_rule, eviction_rule, timeout_rule, timeout, with_all_removed}
 use Rattle.connections.specs.declared.closing.Rule.{Rule}
 
@@ -23,7 +23,7 @@ pub folds_then : {P A : Type 0} (R : P → A → P → Type 0) (xs ys : List A) 
 folds_then {P} R [] ys old mid new same rest = subst (λ (o : P). FoldsTo R o ys new) (sym same) rest
 folds_then R (x ∷ xs) ys old mid new (next, step, first) rest = (next, step, folds_then R xs ys next mid new first rest)
 
--- ---- those that were handed back
+-- ---- the connections that were handed back
 
 pub none_more : {X : Type 0} (count : Option (List X)) → option_map (λ (xs : List X). xs ++ []) count ≡ count
 none_more None = refl
@@ -70,16 +70,16 @@ module _ {L : Type 0} (Goes : List (Client L) → Removed L → List (Client L) 
     each = folds_then Goes a.gone b.gone old.clients.items went.clients.items new.clients.items a.each b.each;
   }
 
--- one is let go from a full room, or none
+-- a connection may be closed because the table is full
 pub let_go_full : {L : Type 0} (now : ℕ) (one : Bool) (before later : NetworkEntry L) (old new : ConnectionTable L) → AreFull old.clients.items
-    → ClosesOne (IsClosedByRule (eviction_rule now)) one before later old new → AreClosedByRule (IsClosedForRoom now) before later old new
-let_go_full {L} now true before later old new full goes = let_go_one (IsClosedForRoom now) before later old new
+    → ClosesOne (IsClosedByRule (eviction_rule now)) one before later old new → AreClosedByRule (IsEvicted now) before later old new
+let_go_full {L} now true before later old new full goes = let_go_one (IsEvicted now) before later old new
     (record { came = goes.came; counted = goes.counted; removed = goes.removed; goes = (full, goes.goes); back = goes.back })
-let_go_full {L} now false before later old new full goes = let_go_maybe (IsClosedForRoom now) false before later old new goes
+let_go_full {L} now false before later old new full goes = let_go_maybe (IsEvicted now) false before later old new goes
 
--- ---- who is out
+-- ---- which connections are gone
 
--- whoever goes so is out of its place, for a reason that says nothing of it
+-- a connection closed this way was removed from its place, for a reason that implies nothing about it
 pub record Out {L : Type 0} (old : List (Client L)) (removed : Removed L) (new : List (Client L)) : Type 0 where
   pub why : CloseReason
   pub place : ℕ
@@ -96,7 +96,7 @@ module _ {L : Type 0} where
   pub room_outs : (now : ℕ) → Outs {L = L} (IsClosedByRule (eviction_rule now))
   room_outs now old removed new it = record { why = (eviction_rule now).why; place = it.place; out = it.out; may = λ stream client. tt }
 
-  pub crowd_outs : (now : ℕ) → Outs {L = L} (IsClosedForRoom now)
+  pub crowd_outs : (now : ℕ) → Outs {L = L} (IsEvicted now)
   crowd_outs now old removed new (full, it) = room_outs now old removed new it
 
   pub bytes_outs : Outs {L = L} IsClosedForBytes
@@ -112,7 +112,7 @@ module _ {L : Type 0} where
       let gone = outs old.clients.items it.removed new.clients.items it.goes in
       ap (λ (cs : List (Client L)). length cs + 1) gone.out.left ∙ length-remove old.clients.items gone.place gone.out.within
 
--- ---- who waited longest
+-- ---- which connection has been waiting longest
 
 module _ {L : Type 0} (rule : Rule) where
   pub goes_longest : (before later : NetworkEntry L) (old new : ConnectionTable L) (seen : List (Client L)) (place : ℕ) (one : Client L) → seen ≡ old.clients.items → place < length seen
@@ -131,7 +131,7 @@ module _ {L : Type 0} (rule : Rule) where
     back = back;
   }
 
-  -- nobody has waited long enough
+  -- none of the connections has been waiting long enough
   abbrev pub NoneDue : List (Client L) → Type 0
   NoneDue clients = All (λ (c : Client L). is_among rule.orders_too c.listener ≡ true → rule.now - c.since < rule.least) clients
 
@@ -153,7 +153,7 @@ module _ {L : Type 0} (rule : Rule) where
           let at : get_or seen place one ≡ one = ap (λ (cs : List (Client L)). get_or cs place one) same ∙ sym is in
           subst (λ (x : Client L). All (λ (c : Client L). is_among rule.orders_too c.listener ≡ true → x.since ≤ c.since) seen) at (longest_waiting one).first
 
--- where orders are looked at too, everybody is
+-- if orders are included, every connection counts
 seen_too : (listener : Listener) → is_among true listener ≡ true
 seen_too Clients = refl
 seen_too Orders = refl
@@ -161,7 +161,7 @@ seen_too Orders = refl
 pub all_seen : {L : Type 0} (P : Client L → Type 0) (clients : List (Client L)) → All (λ (c : Client L). is_among true c.listener ≡ true → P c) clients → All P clients
 all_seen {L} P clients all = All-weaker (λ (c : Client L). is_among true c.listener ≡ true → P c) P (λ c holds. holds (seen_too c.listener)) clients all
 
--- where all would be due, and none is, nobody is in
+-- if the rule would close any connection, but closes none, then no connection is open
 pub none_there : {L : Type 0} (clients : List (Client L)) → All (λ (c : Client L). is_among true c.listener ≡ true → 0 - c.since < 0) clients → clients ≡ []
 none_there [] none = refl
 none_there (c ∷ cs) none = let never = none 0 c (omega arith) (seen_too c.listener) in absurd (omega (arith, never))
@@ -174,9 +174,9 @@ none_unseen {L} clients none = All-weaker (λ (c : Client L). is_among false c.l
     unseen since Clients never = let none = never refl in absurd (omega (arith, none))
     unseen since Orders never = refl
 
--- ---- how many are left
+-- ---- how many connections are left
 
--- so many turns ago there were as many more; or nobody is left
+-- the number of connections has decreased by at least one per iteration; or none are left
 abbrev pub IsThinner : {L : Type 0} → List (Client L) → ℕ → List (Client L) → Type 0
 IsThinner old turns new = (length new + turns ≤ length old) ⊎ (new ≡ [])
 
@@ -184,14 +184,14 @@ pub thinner : {L : Type 0} (first old new : List (Client L)) (turns : ℕ) → l
 thinner {L} first old new turns less (inl so_far) = inl (omega (arith, less, so_far))
 thinner {L} first old new turns less (inr empty) = let zero : length old ≡ 0 = ap (λ (cs : List (Client L)). length cs) empty in absurd (omega (arith, less, zero))
 
--- one was let go for bytes, or nobody was there
+-- a connection was closed because of the bytes in memory, or there was none to close
 pub thinner_maybe : {L : Type 0} (first : List (Client L)) (turns : ℕ) (one : Bool) (before later : NetworkEntry L) (old new : ConnectionTable L)
     → ClosesOne IsClosedForBytes one before later old new → (one ≡ false → old.clients.items ≡ [])
     → IsThinner first turns old.clients.items → IsThinner first (turns + 1) new.clients.items
 thinner_maybe first turns true before later old new goes none it = thinner first old.clients.items new.clients.items turns (one_fewer IsClosedForBytes bytes_outs old new before later goes) it
 thinner_maybe first turns false before later old new (same, still) none it = inr (ap (λ (r : ConnectionTable _). r.clients.items) same ∙ none refl)
 
--- after as many turns as there were nobody is left
+-- after as many iterations as there were connections, none are left
 pub none_left : {L : Type 0} (first last : List (Client L)) (turns : ℕ) → IsThinner first turns last → length first ≤ turns → last ≡ []
 none_left first last turns (inl so_far) few = nil_from_length last (omega (arith, so_far, few))
 none_left first last turns (inr empty) few = empty
@@ -199,7 +199,7 @@ none_left first last turns (inr empty) few = empty
 pub none_held : {L : Type 0} (last : List (Client L)) (most : ℕ) → last ≡ [] → bytes_held last ≤ most
 none_held {L} last most empty = subst (λ (cs : List (Client L)). bytes_held cs ≤ most) (sym empty) (omega arith)
 
--- the one at a place is handed back, for a reason
+-- the connection at a place is handed back, with a reason
 pub closed_at : {L : Type 0} (why : CloseReason) (place : ℕ) (old new : List (Client L)) (client : Client L) (removed : Removed L) (before later : NetworkEntry L)
     → place < length old → client ≡ get_or old place client → new ≡ remove old place
     → removed ≡ removed_of client why → later ≡ with_removed before removed → IsClosedAt why place old before new later
@@ -209,11 +209,11 @@ closed_at {L} why place old new client removed before later within here left is 
   back,
 )
 
--- nobody is late any more
+-- no connection that is still open has timed out
 pub none_late : {L : Type 0} (now : ℕ) (clients : List (Client L)) → clients ≡ [] → All (λ (c : Client L). now - c.since < timeout) clients
 none_late {L} now clients empty = subst (All (λ (c : Client L). now - c.since < timeout)) (sym empty) (All-nil (λ (c : Client L). now - c.since < timeout))
 
--- one goes for bytes: a client, or an order where no client is in
+-- a connection is closed because of the bytes in memory: a client, or an order if no client is open
 pub client_for_bytes : {L : Type 0} (rule : Rule) (one : Bool) (before later : NetworkEntry L) (old new : ConnectionTable L) → rule ≡ byte_limit_rule false
     → most_bytes < bytes_held old.clients.items → one ≡ true
     → OneIsClosed (IsClosedByRule rule) before later old new → ClosesOne IsClosedForBytes one before later old new
@@ -235,7 +235,7 @@ order_for_bytes {L} rule one before mid later old went new is over unseen same s
     by true goes = record { came = goes.came; counted = goes.counted; removed = goes.removed; goes = (over, inr (unseen, goes.goes)); back = goes.back }
     by false stays = stays
 
--- the first one is closed
+-- the first connection is closed
 pub goes_first : {L : Type 0} (why : CloseReason) (before later : NetworkEntry L) (old new : ConnectionTable L) → why ≡ Closing
     → IsClosedAt why 0 old.clients.items before new.clients.items later → new.came ≡ old.came → new.counted ≡ old.counted → OneIsClosed IsClosed before later old new
 goes_first why before later old new is (removed, out, back) came counted = record {

@@ -1,4 +1,4 @@
--- The lemmas, by subject.
+-- The lemmas, by topic.
 pub mod StreamLemmas
 pub mod TableLemmas
 pub mod OfLemmas

@@ -1,4 +1,4 @@
--- What a line gives and takes, one call after the other.
+-- What a stream yields and accepts, call by call.
 use Rattle.std.proofs.Common.{◌≡◌, ◌∙◌, ◌≤◌, ◌++◌, ◌+◌, ℕ, List, [], None, Option, Some, Ok, zero, suc, ap, append_assoc, arith, drop, length, option_map, refl, subst, sym, take}
 use Rattle.std.proofs.Math.Seq.{take-add}
 use Rattle.std.proofs.lemmas.List.{append-nil, length-drop}
@@ -7,9 +7,9 @@ use Rattle.std.specs.Io.KnownBytes.{Consumes, Keeps}
 use Rattle.connections.specs.Streams.{Delivers, Receives, Grows, HasTaken, Stream, idle_after_write}
 use Rattle.connections.specs.Clients.{IsReceived, IsSent}
 
--- ---- what a line took
+-- ---- what a stream accepted
 
--- a write that took some bytes isn't in vain
+-- a write that accepted any bytes isn't idle
 pub not_idle : (n : ℕ) (idle : Option ℕ) → (n ≡ 0 → ⊥) → idle_after_write (Ok n) idle ≡ idle
 not_idle zero idle ne = absurd (ne refl)
 not_idle (suc n) idle ne = refl
@@ -30,9 +30,9 @@ taken_more None new bytes more e has = subst (λ (t : Option (List ℕ)). HasTak
 taken_more (Some taken) new bytes more e has = subst (λ (t : Option (List ℕ)). HasTaken t (bytes ++ more)) (sym e) (ap (λ (t : List ℕ). t ++ more) has)
 
 module _ {L : Type 0} (stream : Stream L) where
-  -- ---- what is gathered
+  -- ---- what is received
 
-  -- nothing more was gathered
+  -- nothing more was received
   pub gathers_none : (old new : L) (got : List ℕ) → Keeps (stream.held old) (stream.held new) → stream.taken new ≡ stream.taken old → Receives stream old new got got
   gathers_none old new got kept untold = record {
     more = [];
@@ -41,11 +41,11 @@ module _ {L : Type 0} (stream : Stream L) where
     untold = untold;
   }
 
-  -- what was gathered in one call
+  -- what was received in one call
   pub gathers_one : (old new : L) (got more : List ℕ) → Consumes (stream.held old) (stream.held new) more → stream.taken new ≡ stream.taken old → Receives stream old new got (got ++ more)
   gathers_one old new got more gave untold = record { more = more; is = refl; gave = gave; untold = untold }
 
-  -- and in one after it
+  -- what was received in two spans of calls, one after the other
   pub gathers_then : (old mid new : L) (before between after : List ℕ) → Receives stream old mid before between → Receives stream mid new between after → Receives stream old new before after
   gathers_then old mid new before between after first next = record {
     more = first.more ++ next.more;
@@ -54,7 +54,7 @@ module _ {L : Type 0} (stream : Stream L) where
     untold = next.untold ∙ first.untold;
   }
 
-  -- a client of whom more was gathered
+  -- more was received from a client
   pub heard_more : (start old new : L) (before after : List ℕ) → IsReceived stream start old before → Receives stream old new before after → IsReceived stream start new after
   heard_more start old new before after received more = record {
     gave = subst (Consumes (stream.held start) (stream.held new)) (sym more.is)
@@ -62,9 +62,9 @@ module _ {L : Type 0} (stream : Stream L) where
     untold = taken_kept (stream.taken old) (stream.taken new) [] more.untold received.untold;
   }
 
-  -- ---- what is told
+  -- ---- what is sent
 
-  -- nothing was told
+  -- nothing was sent
   pub delivers_none : (old new : L) (answer : List ℕ) (sent : ℕ) → stream.taken new ≡ stream.taken old → Keeps (stream.held old) (stream.held new)
       → Delivers stream old new answer sent sent
   delivers_none old new answer sent kept unheard = record {
@@ -75,13 +75,13 @@ module _ {L : Type 0} (stream : Stream L) where
     unheard = unheard;
   }
 
-  -- the next bytes were told
+  -- the next bytes were sent
   pub delivers_one : (old new : L) (answer : List ℕ) (sent n : ℕ) → (sent ≤ length answer → sent + n ≤ length answer)
       → Grows (stream.taken old) (stream.taken new) (take n (drop sent answer)) → Keeps (stream.held old) (stream.held new)
       → Delivers stream old new answer sent (sent + n)
   delivers_one old new answer sent n within took unheard = record { within = within; bytes = take n (drop sent answer); is = take-add sent n answer; took = took; unheard = unheard }
 
-  -- and those after them
+  -- the next bytes were sent, and then the bytes after them
   pub delivers_then : (old mid new : L) (answer : List ℕ) (before between after : ℕ) → Delivers stream old mid answer before between → Delivers stream mid new answer between after
       → Delivers stream old new answer before after
   delivers_then old mid new answer before between after first next = record {
@@ -92,7 +92,7 @@ module _ {L : Type 0} (stream : Stream L) where
     unheard = Keeps-trans (stream.held old) (stream.held mid) (stream.held new) first.unheard next.unheard;
   }
 
-  -- so many of the bytes that are left were told next
+  -- the given number of the remaining bytes was sent next
   pub delivers_next : (first mid new : L) (answer : List ℕ) (before sent n : ℕ) (bytes : List ℕ) → Delivers stream first mid answer before sent → bytes ≡ drop sent answer → n ≤ length bytes
       → Grows (stream.taken mid) (stream.taken new) (take n bytes) → Keeps (stream.held mid) (stream.held new) → Delivers stream first new answer before (sent + n)
   delivers_next first mid new answer before sent n bytes so_far is within took unheard =
@@ -101,13 +101,13 @@ module _ {L : Type 0} (stream : Stream L) where
       (delivers_one mid new answer sent n (λ within. omega (arith, few, within, length-drop sent answer))
       (subst (λ (xs : List ℕ). Grows (stream.taken mid) (stream.taken new) (take n xs)) is took) unheard)
 
-  -- a client who was told more of his answer
+  -- more of its response was sent to a client
   pub told_more : (old new : L) (answer : List ℕ) (before after : ℕ) → IsSent stream old answer before → Delivers stream old new answer before after → IsSent stream new answer after
   told_more old new answer before after told more = record {
     within = more.within told.within;
     took = subst (HasTaken (stream.taken new)) (sym more.is) (taken_more (stream.taken old) (stream.taken new) (take before answer) more.bytes more.took told.took);
   }
 
-  -- a client who was heard, and has his answer now: nothing of it was told yet
+  -- bytes were received from a client, and now it has its response, none of which has been sent yet
   pub told_none : (start now : L) (got answer : List ℕ) → IsReceived stream start now got → IsSent stream now answer 0
   told_none start now got answer received = record { within = omega arith; took = received.untold }

@@ -1,4 +1,4 @@
--- A room that goes from one moment to another, step by step.
+-- The table of connections, from one state to another, step by step.
 use Rattle.std.proofs.Common.{◌≡◌, ◌<◌, ◌-◌, ◌∙◌, ◌∷◌, ◌++◌, Bool, false, true, ℕ, List, [], None, Option}
 use Rattle.std.proofs.Common.{Some, ap, append-nil, get_or, inl, inr, length, map, option_map, refl, remove, set, subst, sym}
 use Rattle.std.specs.Prelude.{Err, Ok}
@@ -6,8 +6,8 @@ use Rattle.std.specs.List.{All, FoldsTo, flat_map}
 use Rattle.std.proofs.lemmas.List.Concat.{flat_map-append}
 use Rattle.streams.specs.declared.streams.Broken.{Broken}
 use Rattle.connections.specs.Clients.{IsNew, IsOf}
-use Rattle.connections.specs.Closing.{AreClosedByRule, IsClosedByRule, IsClosedForBytes, IsClosedForRoom, ClosesOne, eviction_rule, timeout_rule, timeout}
-use Rattle.connections.specs.Traces.{Changes, IsServiceOutcome, Trace, EndsService, ServiceStep, HadResponses, IsForRoom, Leads, ServiceEnd, TraceStep, ResponseAt, anew, closes, enters, events_of}
+use Rattle.connections.specs.Closing.{AreClosedByRule, IsClosedByRule, IsClosedForBytes, IsEvicted, ClosesOne, eviction_rule, timeout_rule, timeout}
+use Rattle.connections.specs.Traces.{Changes, IsServiceOutcome, Trace, EndsService, ServiceStep, HadResponses, IsEviction, Leads, ServiceEnd, TraceStep, ResponseAt, anew, closes, enters, events_of}
 use Rattle.connections.specs.Traces.{fails, gate_events, goes_on, keeps_out, leaves, looks, makes_way, misses, service_end_events, scene, shown_after, stops, responses_at, waits, with_gate}
 use Rattle.connections.specs.Removals.{removed_of}
 use Rattle.connections.specs.Streams.{Stream}
@@ -20,7 +20,7 @@ use Rattle.connections.specs.declared.removed.CloseReason.{CloseReason}
 use Rattle.connections.specs.declared.connection_table.ConnectionTable.{ConnectionTable}
 use Rattle.connections.proofs.ClosingLemmas.{folds_then, more_then, none_more}
 
--- what happened at doors, where one was named, the clock may have shown a moment at the gate, and so it went on
+-- the events on a network: a connection was reported as ready, the clock may have been read at the gate, and then the given events followed
 at_gate : {L : Type 0} (gate : Option ℕ) (before : NetworkEntry L) (number : ℕ) (rest : List (Event L))
     → option_map (λ (es : List (Event L)). es ++ rest) (with_gate gate (after_ready (Some number) before)).events ≡ option_map
     (λ (es : List (Event L)). es ++ (named number ∷ (gate_events gate ++ rest))) before.events
@@ -29,7 +29,7 @@ at_gate (Some now) before number rest =
     more_then (followed (named number) before.events) (showed now ∷ []) rest ∙ more_then before.events (named number ∷ []) (showed now ∷ rest)
 
 module _ {L : Type 0} (gated : Bool) (stream : Stream L) where
-  -- one part, and the next
+  -- one part of a trace, followed by the next
   pub trace_then : (first next : List ResponseAt) (from mid to : Option ℕ) (before at later : NetworkEntry L) (old went new : List (Client L))
       → Trace gated stream first from mid before at old went → Trace gated stream next mid to at later went new → Trace gated stream (first ++ next) from to before later old new
   trace_then first next from mid to before at later old went new a b = record {
@@ -55,7 +55,7 @@ module _ {L : Type 0} (gated : Bool) (stream : Stream L) where
     each = (scene (shown_after step shown) new, (refl, changes), refl);
   }
 
-  -- the clock showed a moment, and those were closed that were late
+  -- the clock returned a time, and the connections that had timed out were closed
   pub course_look : (shown : Option ℕ) (now : ℕ) (before mid later : NetworkEntry L) (old new : ConnectionTable L) → mid ≡ with_moment before now
       → AreClosedByRule (IsClosedByRule (timeout_rule now)) mid later old new
       → All (λ (c : Client L). now - c.since < timeout) new.clients.items → Trace gated stream [] shown (Some now) before later old.clients.items new.clients.items
@@ -69,12 +69,12 @@ module _ {L : Type 0} (gated : Bool) (stream : Stream L) where
   pub course_fails : (shown : Option ℕ) (before later : NetworkEntry L) (clients : List (Client L)) → later ≡ with_failure before → Trace gated stream [] shown shown before later clients clients
   course_fails shown before later clients is = course_one fails shown before later clients clients (ap (λ (d : NetworkEntry L). d.events) is) refl
 
-  -- one was named that isn't in
+  -- a connection that isn't open was reported
   pub course_misses : (shown : Option ℕ) (number : ℕ) (before later : NetworkEntry L) (clients : List (Client L)) → later ≡ after_ready (Some number) before
       → Trace gated stream [] shown shown before later clients clients
   course_misses shown number before later clients is = course_one (misses number) shown before later clients clients (ap (λ (d : NetworkEntry L). d.events) is) refl
 
-  -- one came in
+  -- a connection was accepted
   pub course_enters : (now number : ℕ) (accepted : Accepted L) (before later : NetworkEntry L) (old new : List (Client L)) → later ≡ after_accept (One accepted) before
       → (client : Client L) × (new ≡ old ++ client ∷ []) × IsNew accepted number now client × IsOf stream accepted.stream client → Trace gated stream [] (Some now) (Some now) before later old new
   course_enters now number accepted before later old new is (client, more, fresh, own) =
@@ -87,7 +87,7 @@ module _ {L : Type 0} (gated : Bool) (stream : Stream L) where
         own = own;
       })
 
-  -- the system had no room for one more, and one was closed for it, or none
+  -- the system had no room for another connection, and one may have been closed to make room
   pub course_way : (now : ℕ) (one : Bool) (before at later : NetworkEntry L) (old new : ConnectionTable L) → at ≡ after_accept Full before
       → ClosesOne (IsClosedByRule (eviction_rule now)) one at later old new
       → Trace gated stream [] (Some now) (Some now) before later old.clients.items new.clients.items
@@ -98,9 +98,9 @@ module _ {L : Type 0} (gated : Bool) (stream : Stream L) where
       course_one keeps_out (Some now) before later old.clients.items new.clients.items (ap (λ (d : NetworkEntry L). d.events) still ∙ ap (λ (d : NetworkEntry L). d.events) is)
       (ap (λ (r : ConnectionTable L). r.clients.items) same)
 
-  -- some were closed that were due
+  -- connections were closed because the table was full or too many bytes were held in memory
   module _ (Goes : List (Client L) → Removed L → List (Client L) → Type 0) (shown : Option ℕ) (due : (old : List (Client L)) (removed : Removed L) (new : List (Client L))
-      → Goes old removed new → IsForRoom shown old removed new) where
+      → Goes old removed new → IsEviction shown old removed new) where
     closed_events : (gone : List (Removed L)) → map handed_back gone ≡ flat_map events_of (map closes gone)
     closed_events [] = refl
     closed_events (removed ∷ gone) = ap (λ (es : List (Event L)). handed_back removed ∷ es) (closed_events gone)
@@ -122,14 +122,14 @@ module _ {L : Type 0} (gated : Bool) (stream : Stream L) where
       each = each_due it.gone old.clients.items new.clients.items it.each;
     }
 
-  -- those for whom a full room is made emptier, and those that go for bytes
-  pub room_due : (now : ℕ) (old : List (Client L)) (removed : Removed L) (new : List (Client L)) → IsClosedForRoom now old removed new → IsForRoom (Some now) old removed new
-  room_due now old removed new it = inl (now, refl, it)
+  -- the connections that are closed because the table is full, and those closed because of the bytes in memory
+  pub eviction_due : (now : ℕ) (old : List (Client L)) (removed : Removed L) (new : List (Client L)) → IsEvicted now old removed new → IsEviction (Some now) old removed new
+  eviction_due now old removed new it = inl (now, refl, it)
 
-  pub bytes_due : (shown : Option ℕ) (old : List (Client L)) (removed : Removed L) (new : List (Client L)) → IsClosedForBytes old removed new → IsForRoom shown old removed new
+  pub bytes_due : (shown : Option ℕ) (old : List (Client L)) (removed : Removed L) (new : List (Client L)) → IsClosedForBytes old removed new → IsEviction shown old removed new
   bytes_due shown old removed new it = inr it
 
-  -- ---- one went on
+  -- ---- one connection was serviced
 
   module _ (from : Option ℕ) (clients : List (Client L)) (place number : ℕ) (old new : Client L) (gate : Option ℕ) (turns : List ResponseAt)
       (within : place < length clients) (here : old ≡ get_or clients place old)
@@ -148,7 +148,7 @@ module _ {L : Type 0} (gated : Bool) (stream : Stream L) where
     abbrev CourseTo : NetworkEntry L → NetworkEntry L → List (Client L) → Type 0
     CourseTo before later clients_then = (to : Option ℕ) × Trace gated stream turns from to before later clients clients_then
 
-    -- and is in its place again
+    -- it is back in its place
     pub course_stays : (before at later : NetworkEntry L) → at ≡ after_ready (Some number) before → IsServiceOutcome stream turns old new (Ok None) (with_gate gate at) later
         → CourseTo before later (set clients place new)
     course_stays before at later ready comes = by (subst (λ (d : NetworkEntry L). IsServiceOutcome stream turns old new (Ok None) (with_gate gate d) later) ready comes)
@@ -157,7 +157,7 @@ module _ {L : Type 0} (gated : Bool) (stream : Stream L) where
         by (inl (none, since, still)) = (_, went waits before later (set clients place new) (ap (λ (d : NetworkEntry L). d.events) still ∙ sym (none_more _)) (none, since, refl))
         by (inr (one, still)) = (_, went (anew new.since) before later (set clients place new) (ap (λ (d : NetworkEntry L). d.events) still) (one, refl, refl))
 
-    -- and left
+    -- it was closed
     pub course_leaves : (why : CloseReason) (before at mid later : NetworkEntry L) → at ≡ after_ready (Some number) before
         → IsServiceOutcome stream turns old new (Ok (Some why)) (with_gate gate at) mid → later ≡ with_removed mid (removed_of new why)
         → CourseTo before later (remove clients place)
@@ -168,7 +168,7 @@ module _ {L : Type 0} (gated : Bool) (stream : Stream L) where
           ∙ ap (λ (d : NetworkEntry L). followed (handed_back (removed_of new why)) (with_gate gate d).events) ready) (why, since, ends, refl, refl),
     )
 
-    -- and the clock failed
+    -- the clock failed
     pub course_stops : (broken : Broken) (before at later : NetworkEntry L) → at ≡ after_ready (Some number) before
         → IsServiceOutcome stream turns old new (Err broken) (with_gate gate at) later → CourseTo before later (set clients place new)
     course_stops broken before at later ready (since, still) = (

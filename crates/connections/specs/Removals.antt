@@ -6,11 +6,11 @@ use Rattle.connections.specs.declared.removed.Removed.{Removed}
 use Rattle.connections.specs.declared.removed.CloseReason.{CloseReason}
 use Rattle.connections.specs.declared.removed.CloseReason.TheVariants.{Broken, Unreadable}
 
--- why a connection is closed of which nothing more can be received
+-- the reason for closing a connection from which nothing more can be received
 abbrev pub why_of : ReceiveError → CloseReason
 why_of Stream = Broken
 why_of Memory = Unreadable
 
--- a connection as removed, with the reason
+-- a connection in its removed form, with the reason
 abbrev pub removed_of : {L : Type 0} → Client L → CloseReason → Removed L
 removed_of client why = record { number = client.number; stream = client.stream; why = why }

@@ -1,10 +1,10 @@
-//! Which connections are closed before they have their response: those that are timed out, those that make room for another, and
-//! all of them at the end.
+//! Which connections are closed before they have their response: those that have timed out, those closed to make room for
+//! another, and all of them at the end.
 
 ghost use Rattle.std.specs.Prelude.{◌≡◌, ◌⊎◌, ◌≤◌, ◌<◌, ◌-◌, [], false, length, true};
 ghost use Rattle.std.specs.List.{All};
 ghost use Rattle.connections.specs.Tables.{bytes_held, is_among, most_bytes, most_clients};
-ghost use Rattle.connections.specs.Closing.{AreClosedByRule, IsClosed, IsClosedAt, IsFull, IsClosedByRule, IsClosedForBytes, IsClosedForRoom};
+ghost use Rattle.connections.specs.Closing.{AreClosedByRule, IsClosed, IsClosedAt, IsFull, IsClosedByRule, IsClosedForBytes, IsEvicted};
 ghost use Rattle.connections.specs.Closing.{IsWithin, ClosesOne, byte_limit_rule, eviction_rule, grace, timeout_rule, timeout};
 
 use crate::connection_table::{
@@ -13,14 +13,14 @@ use crate::connection_table::{
 use crate::network::Network;
 use crate::removed::CloseReason;
 
-/// How long a connection may take to send its request, and as long again to accept its response, in milliseconds.
+/// How long a connection may take to send its request, and then again to accept its response, in milliseconds.
 pub const TIMEOUT: u64 = 30_000;
 
-/// How long a new connection is safe from being closed to make room, in milliseconds.
+/// How long a new connection is protected from being closed to make room, in milliseconds.
 const GRACE: u64 = 1_000;
 
-/// A rule by which those connections are closed that have waited longest: whether orders are closed too, how long a connection
-/// must have waited at a moment, both in milliseconds, and the reason.
+/// A rule for closing the connections that have been waiting longest: whether it also applies to orders; the minimum waiting
+/// time and the current time, both in milliseconds; and the reason for closing.
 #[derive(Clone, Copy)]
 pub struct Rule {
     pub orders_too: bool,
@@ -29,7 +29,7 @@ pub struct Rule {
     pub why: CloseReason,
 }
 
-/// Returns the rule for connections that are timed out, of clients and of orders.
+/// Returns the rule for connections that have timed out: clients and orders.
 fn timeout_rule(now: u64) -> Rule
     ensures { result ≡ timeout_rule now }
 {
@@ -41,7 +41,7 @@ fn timeout_rule(now: u64) -> Rule
     }
 }
 
-/// Returns the rule by which room is made: it closes clients only, and only those that have waited for a second.
+/// Returns the rule for making room: it closes only clients, and only those that have been waiting for at least a second.
 fn eviction_rule(now: u64) -> Rule
     ensures { result ≡ eviction_rule now }
 {
@@ -53,7 +53,7 @@ fn eviction_rule(now: u64) -> Rule
     }
 }
 
-/// Returns the rule for too many bytes: it closes clients only, or orders too.
+/// Returns the rule for too many bytes in memory: it closes clients, and optionally orders too.
 fn byte_limit_rule(orders_too: bool) -> Rule
     ensures { result ≡ byte_limit_rule orders_too }
 {
@@ -65,7 +65,7 @@ fn byte_limit_rule(orders_too: bool) -> Rule
     }
 }
 
-/// Closes the connection at a place, for a reason.
+/// Closes the connection at a place, for the given reason.
 fn close_at<D: Network>(
     network: &mut D,
     table: &mut ConnectionTable<D::Stream>,
@@ -80,8 +80,8 @@ fn close_at<D: Network>(
     network.close(table.remove_at(place).into_removed(why));
 }
 
-/// Closes the connection that has waited longest of those that a rule applies to, if that is long enough. Returns whether one was
-/// closed.
+/// Closes the connection that has been waiting longest among those that a rule applies to, if its waiting time reaches the
+/// rule's minimum. Returns whether a connection was closed.
 fn close_one<D: Network>(
     network: &mut D,
     table: &mut ConnectionTable<D::Stream>,
@@ -100,7 +100,7 @@ fn close_one<D: Network>(
     true
 }
 
-/// Closes the connections that are timed out.
+/// Closes the connections that have timed out.
 pub fn close_timed_out<D: Network>(
     network: &mut D,
     table: &mut ConnectionTable<D::Stream>,
@@ -116,7 +116,7 @@ pub fn close_timed_out<D: Network>(
     }
 }
 
-/// Closes the client that has waited longest, or an order if there is no client. Returns whether one was closed.
+/// Closes the client that has been waiting longest, or an order if there is no client. Returns whether a connection was closed.
 fn close_one_for_bytes<D: Network>(network: &mut D, table: &mut ConnectionTable<D::Stream>) -> bool
     requires { most_bytes < bytes_held table.old.clients.items }
     ensures go { ClosesOne IsClosedForBytes result (D.known network.old) (D.known network.new) table.old table.new }
@@ -126,7 +126,7 @@ fn close_one_for_bytes<D: Network>(network: &mut D, table: &mut ConnectionTable<
         || close_one(network, table, byte_limit_rule(true))
 }
 
-/// Closes the connections that have waited longest, clients first, until the bytes in memory are within the limit.
+/// Closes the connections that have been waiting longest, clients first, until the bytes in memory are within the limit.
 pub fn keep_within<D: Network>(network: &mut D, table: &mut ConnectionTable<D::Stream>)
     ensures go { AreClosedByRule IsClosedForBytes (D.known network.old) (D.known network.new) table.old table.new }
     ensures within { length table.old.clients.items ≤ most_clients → bytes_held table.new.clients.items ≤ most_bytes }
@@ -147,7 +147,7 @@ fn is_full<L>(table: &ConnectionTable<L>) -> bool
     table.clients.len() >= MAX_CLIENTS || bytes_held(table.clients.as_slice()) >= MAX_BUFFERED_BYTES
 }
 
-/// Closes a client for the next connection, because the system has no room for both. Returns whether one was closed.
+/// Closes a client to make room for the next connection, for which the system has no room. Returns whether a client was closed.
 pub fn evict_one<D: Network>(
     network: &mut D,
     table: &mut ConnectionTable<D::Stream>,
@@ -159,15 +159,16 @@ pub fn evict_one<D: Network>(
     close_one(network, table, eviction_rule(now))
 }
 
-/// Makes room in the table for one more connection, and returns whether there is room. If the table is full, and clients may be
-/// closed, this closes the client that has waited longest, if that is at least a second. An order is never closed to make room.
+/// Makes room in the table for another connection, and returns whether there is room. If the table is full and clients may be
+/// closed, closes the client that has been waiting longest, provided that it has waited for at least a second. Orders are never
+/// closed to make room.
 pub fn evict_if_full<D: Network>(
     network: &mut D,
     table: &mut ConnectionTable<D::Stream>,
     lets_go: bool,
     now: u64,
 ) -> bool
-    ensures go { AreClosedByRule (IsClosedForRoom now) (D.known network.old) (D.known network.new) table.old table.new }
+    ensures go { AreClosedByRule (IsEvicted now) (D.known network.old) (D.known network.new) table.old table.new }
     ensures table { result ≡ true → length table.new.clients.items < most_clients }
     ensures only { (table.new ≡ table.old) ⊎ IsFull table.old }
     ensures denied { result ≡ false → IsFull table.old }

@@ -10,13 +10,13 @@ use crate::client::{Accepted, Client, Listener, PendingResponse};
 use crate::stream::Stream;
 use std::alloc::{AllocError, Global};
 
-/// The most connections that are open at once.
+/// The maximum number of open connections.
 pub const MAX_CLIENTS: usize = 512;
 
-/// The most bytes that they hold in memory, all together.
+/// The maximum number of bytes that all open connections together hold in memory.
 pub const MAX_BUFFERED_BYTES: usize = 64 << 20;
 
-/// Returns the length of a response; 0 if there is none.
+/// Returns the length of a response, or 0 if there is none.
 fn answer_len(answer: &Option<PendingResponse>) -> usize
     ensures { result ≡ answer_bytes answer.now }
 {
@@ -26,7 +26,7 @@ fn answer_len(answer: &Option<PendingResponse>) -> usize
     }
 }
 
-/// Returns how many bytes these connections hold in memory; the greatest number of the type if there are more.
+/// Returns the number of bytes that the given connections hold in memory, or the type's maximum if there are more.
 pub fn bytes_held<L>(clients: &[Client<L>]) -> usize
     ensures { result ≡ min (bytes_held clients.now) (2 ^ 64 - 1) }
 {
@@ -38,7 +38,7 @@ pub fn bytes_held<L>(clients: &[Client<L>]) -> usize
     held
 }
 
-/// Returns whether a connection of this listener counts for a rule: a client always does, an order only if orders are included.
+/// Returns whether a rule applies to connections from the given listener: clients always count, orders only if they are included.
 fn is_among(orders_too: bool, listener: Listener) -> bool
     ensures { result ≡ is_among orders_too listener }
 {
@@ -48,8 +48,8 @@ fn is_among(orders_too: bool, listener: Listener) -> bool
     }
 }
 
-/// Returns the earlier of two, each with its place and the moment when its time limit began; the first if the second doesn't
-/// count.
+/// Returns the earlier of two connections, each given by its place and the time at which its time limit began; or the first
+/// one, if the second doesn't count.
 fn earlier(
     found: Option<(usize, u64)>,
     is_among: bool,
@@ -65,8 +65,8 @@ fn earlier(
     }
 }
 
-/// Returns the place of the connection that has waited longest since its time limit began, among the clients, and the orders if
-/// they are included; `None` if there is no such connection.
+/// Returns the place of the connection that has been waiting longest since its time limit began, among the clients and, if
+/// included, the orders. Returns `None` if there is no such connection.
 pub fn longest_waiting<L>(clients: &[Client<L>], orders_too: bool) -> Option<usize>
     ensures some { IfSome result (λ place. (place < length clients.now) × ((client : Client L) → HasWaitedLongest orders_too clients.now (slice_index_or clients.now place client))) }
     ensures none { IfNone result (AreUnseen orders_too clients.now) }
@@ -86,7 +86,7 @@ pub fn longest_waiting<L>(clients: &[Client<L>], orders_too: bool) -> Option<usi
     }
 }
 
-/// Returns the place of the connection with a number; `None` if it isn't there.
+/// Returns the place of the connection with the given number; `None` if the table doesn't contain it.
 pub fn place_of_number<L>(clients: &[Client<L>], number: u64) -> Option<usize>
     ensures place { result ≡ place_in clients.now number }
     ensures within { IfSome result (λ place. place < length clients.now) }
@@ -95,7 +95,7 @@ pub fn place_of_number<L>(clients: &[Client<L>], number: u64) -> Option<usize>
     clients.iter().position(|client| client.number == number)
 }
 
-/// Returns how many clients a connection of this listener counts as.
+/// Returns the number of clients that a connection from the given listener counts as.
 fn count_at(listener: Listener) -> u64
     ensures { result ≡ count_at listener }
 {
@@ -105,8 +105,8 @@ fn count_at(listener: Listener) -> u64
     }
 }
 
-/// The open connections in the order of acceptance, the number of connections that were ever accepted, and how many of those were
-/// clients. It has capacity for as many as may be open.
+/// The open connections in order of acceptance, the number of connections ever accepted, and how many of those were clients.
+/// The table has capacity for the maximum number of open connections.
 #[derive(Drop)]
 pub struct ConnectionTable<L> {
     pub clients: Vec<Client<L>>,
@@ -160,7 +160,7 @@ impl<L: Stream> ConnectionTable<L> {
         self.clients.remove(place)
     }
 
-    /// Puts a connection at a place, from which it was removed.
+    /// Puts a connection back in the place that it was removed from.
     pub fn put_back_at(&mut self, place: usize, client: Client<L>)
         requires within { place ≤ length self.old.clients.items }
         requires place { length self.old.clients.items < most_clients }

@@ -1,11 +1,11 @@
-//! Connections whose streams are read and written side by side, without blocking.
+//! Connections whose streams are read and written concurrently, without blocking.
 //!
-//! A [`Stream`](stream) is one connection's bytes, in and out. A [`Client`](client) is an open connection: what was received of
-//! its request, and how much of its response was sent. The [`ConnectionTable`](connection_table) has the open connections, and says which
-//! has waited longest; [`closing`](closing) has the rules by which they are closed early. A [`Network`](network) accepts
-//! connections, and reports which are ready. Nothing here knows a socket, a clock or an office: the crates above decide when a
-//! request is complete, and what the response is. They read the request by a [`SliceSource`](slice_source), and write the
-//! response into a [`VecSink`](vec_sink).
+//! A [`Stream`](stream) carries the bytes of one connection, in both directions. A [`Client`](client) is an open connection:
+//! what has been received of its request, and how much of its response has been sent. The [`ConnectionTable`](connection_table)
+//! holds the open connections, and knows which one has been waiting longest; [`closing`](closing) has the rules for closing
+//! them early. A [`Network`](network) accepts connections, and reports which ones are ready. Nothing here knows about sockets,
+//! clocks or the office: the crates above decide when a request is complete, and what the response is. They read the request
+//! through a [`SliceSource`](slice_source), and write the response to a [`VecSink`](vec_sink).
 #![tactic(auto)]
 
 pub mod client;

@@ -1,7 +1,7 @@
-//! What accepts connections, reports which are ready, and closes them.
+//! The network, which accepts connections, reports which ones are ready, and closes them.
 
 ghost use Rattle.std.specs.Prelude.{◌≡◌, Bool};
-ghost use Rattle.connections.specs.Tables.{NetworkEntry, IsFresh, IsWanted, after_accept, after_look, after_ready, after_wait, with_removed};
+ghost use Rattle.connections.specs.Tables.{NetworkEntry, IsUnsent, IsWanted, after_accept, after_look, after_ready, after_wait, with_removed};
 
 use crate::client::Accepted;
 use crate::removed::Removed;
@@ -9,47 +9,47 @@ use crate::stream::Stream;
 use std::time::Duration;
 use streams::Broken;
 
-/// What a listener returned.
+/// The outcome of asking a listener for a connection.
 #[derive(Drop)]
 pub enum AcceptOutcome<L> {
     /// The next connection.
     One(Accepted<L>),
-    /// No connection is pending, or none of a kind that is accepted now.
+    /// No connection is pending, or none that may be accepted now.
     Nobody,
-    /// The next connection failed before it was accepted. Another may be pending.
+    /// The next connection failed before it was accepted. Another one may be pending.
     NotNow,
-    /// The system has no descriptor or memory left for one more connection. Closing one makes room, and a connection may be
-    /// pending.
+    /// The system has no descriptor or memory left for another connection. Closing a connection makes room; one may be pending.
     Full,
 }
 
-/// Accepts connections of clients and of orders, and reports which are ready. Readiness is no promise: a connection that was
-/// reported may have nothing to read. A connection that ends is handed back, with the reason, and closed. A network has a clock.
+/// A network accepts connections from clients and for orders, and reports which ones are ready. Readiness isn't a guarantee: a
+/// connection that was reported may have nothing to read. A connection that ends is handed back, with the reason, and closed. A
+/// network also has a clock.
 pub trait Network {
     type Stream: Stream + Drop;
 
-    /// What is known of the network.
+    /// What is known about the network.
     ghost known: { Self → NetworkEntry Self.Stream };
 
-    /// Whether a connection may be pending.
+    /// Whether a connection might be pending.
     ghost pending: { Self → Bool };
 
-    /// Returns the time of the clock, in milliseconds.
+    /// Returns the clock's current time, in milliseconds.
     fn now(&mut self) -> Result<u64, Broken>
         ensures { known self.new ≡ after_look result (known self.old) };
 
-    /// Waits until a connection is ready or pending, at most for this long.
+    /// Waits until a connection is ready or pending, but no longer than `most`.
     fn wait(&mut self, most: Duration) -> Result<(), Broken>
         ensures { known self.new ≡ after_wait result (known self.old) };
 
-    /// Returns the number of the next connection that is ready; `None` once all were reported.
+    /// Returns the number of the next ready connection; `None` once all have been reported.
     fn next_ready(&mut self) -> Option<u64>
         ensures { known self.new ≡ after_ready result (known self.old) };
 
-    /// Accepts the next pending connection, which has this number from then on. Orders come first, and clients are accepted only
-    /// if they are wanted.
+    /// Accepts the next pending connection and assigns it the given number. Orders come first, and clients are accepted only if
+    /// `clients_too` is set.
     fn accept(&mut self, number: u64, clients_too: bool) -> AcceptOutcome<Self::Stream>
-        ensures fresh { IsFresh Self.Stream.taken result }
+        ensures fresh { IsUnsent Self.Stream.taken result }
         ensures wanted { IsWanted clients_too result }
         ensures known { known self.new ≡ after_accept result (known self.old) };
 
@@ -57,7 +57,7 @@ pub trait Network {
     fn close(&mut self, removed: Removed<Self::Stream>)
         ensures { known self.new ≡ with_removed (known self.old) removed };
 
-    /// Returns whether a connection may be pending.
+    /// Returns whether a connection might be pending.
     fn has_pending(&self) -> bool
         ensures { result ≡ pending self.now };
 }

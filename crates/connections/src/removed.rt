@@ -1,4 +1,4 @@
-//! A connection that was removed from the table, to be closed.
+//! A connection that was removed from the table in order to be closed.
 
 use crate::client::ReceiveError;
 use std::alloc::AllocError;
@@ -6,21 +6,22 @@ use std::alloc::AllocError;
 /// Why a connection is closed.
 #[derive(Clone, Copy)]
 pub enum CloseReason {
-    /// Its whole response was sent.
+    /// The whole response has been sent.
     Done,
     /// Its stream failed.
     Broken,
-    /// Its request can't be read to its end, or an allocation failed.
+    /// Its request can't be read to the end, or an allocation failed.
     Unreadable,
-    /// Its time limit is over.
+    /// Its time limit has expired.
     TimedOut,
-    /// It makes room for another.
+    /// It is closed to make room for another.
     Evicted,
     /// Serving ends.
     Closing,
 }
 
-/// A connection that was removed from the table: its number in the order of acceptance, its stream, and why it is closed.
+/// A connection that was removed from the table: its number in the order of acceptance, its stream, and the reason for closing
+/// it.
 #[derive(Drop)]
 pub struct Removed<L> {
     pub number: u64,

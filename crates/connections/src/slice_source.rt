@@ -1,4 +1,4 @@
-//! A source over bytes in memory.
+//! A source that reads from bytes in memory.
 
 ghost use Rattle.std.specs.Prelude.{Some};
 
@@ -14,7 +14,7 @@ impl<'a> SliceSource<'a> {
     ghost use Rattle.std.specs.Prelude.{◌≡◌};
     ghost use Rattle.connections.specs.Clients.{left_of};
 
-    /// Returns a source of all of these bytes.
+    /// Returns a source that yields all of these bytes.
     pub fn new(bytes: &'a [u8]) -> SliceSource<'a>
         ensures { left_of result ≡ bytes.now }
     {

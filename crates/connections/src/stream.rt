@@ -1,4 +1,4 @@
-//! A connection's stream, on which no call blocks.
+//! A connection's stream, whose calls never block.
 
 ghost use Rattle.std.specs.Prelude.{◌≡◌, ℕ, ◌<◌, List, Option, length};
 ghost use Rattle.std.specs.Io.KnownBytes.{Keeps};
@@ -6,34 +6,34 @@ ghost use Rattle.connections.specs.Streams.{Gives, Takes, failed_after, idle_aft
 
 use streams::Broken;
 
-/// What a read returned.
+/// The result of a read.
 #[derive(Clone, Copy)]
 pub enum Received {
-    /// This many bytes, at least one.
+    /// A number of bytes, at least one.
     Bytes(usize),
     /// No bytes yet.
     Nothing,
-    /// The end: no more will come.
+    /// The end of the stream: no more bytes will come.
     End,
 }
 
-/// Both directions of a connection, as bytes. No call blocks.
+/// The bytes of a connection, in both directions. No call blocks.
 pub trait Stream {
-    /// The bytes that are still to come, as far as they are known.
+    /// The bytes still to come, if known.
     ghost held: { Self → Option (List ℕ) };
 
-    /// The bytes that were accepted so far, as far as they are known.
+    /// The bytes accepted so far, if known.
     ghost taken: { Self → Option (List ℕ) };
 
-    /// How many calls failed so far, as far as that is known.
+    /// The number of calls that have failed so far, if known.
     ghost failed: { Self → Option ℕ };
 
-    /// How many calls had nothing to read, or could write nothing, as far as that is known.
+    /// The number of calls that had nothing to read or could write nothing, if known.
     ghost idle: { Self → Option ℕ };
 
-    /// Reads what has arrived into the front of the buffer, as far as it fits.
+    /// Reads what has arrived into the buffer, from its start, as far as it fits.
     ///
-    /// After `Broken` nothing was read, and the content of the buffer is unspecified.
+    /// If it returns `Broken`, nothing was read, and the contents of the buffer are unspecified.
     fn fetch(&mut self, room: &mut [u8]) -> Result<Received, Broken>
         requires { 0 < length room.old }
         ensures gives { Gives (held self.old) (held self.new) room.new result }
@@ -41,7 +41,7 @@ pub trait Stream {
         ensures failed { failed self.new ≡ failed_after result (failed self.old) }
         ensures idle { idle self.new ≡ idle_after_read result (idle self.old) };
 
-    /// Writes some of the bytes, from the first on, and returns how many; 0 if the stream accepts nothing now.
+    /// Writes some of the bytes, starting with the first, and returns how many; 0 if the stream accepts nothing for now.
     fn put(&mut self, bytes: &[u8]) -> Result<usize, Broken>
         ensures takes { Takes (taken self.old) (taken self.new) bytes.now result }
         ensures unheard { Keeps (held self.old) (held self.new) }

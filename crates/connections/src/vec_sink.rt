@@ -1,4 +1,4 @@
-//! A sink into memory.
+//! A sink that writes to memory.
 
 ghost use Rattle.std.specs.Prelude.{◌≡◌, [], Some};
 ghost use Rattle.connections.specs.Clients.{failed_writes, written_in};
@@ -6,7 +6,7 @@ ghost use Rattle.connections.specs.Clients.{failed_writes, written_in};
 use std::alloc::{AllocError, Global};
 use streams::{Broken, Sink};
 
-/// The bytes that were written so far. It fails only if an allocation does.
+/// The bytes written so far. Writing fails only if an allocation fails.
 #[derive(Drop)]
 pub struct VecSink {
     bytes: Vec<u8>,
@@ -25,7 +25,7 @@ impl VecSink {
         }
     }
 
-    /// Returns the bytes that were written.
+    /// Returns the bytes written.
     pub fn into_bytes(self) -> Vec<u8>
         ensures { result.items ≡ written_in self }
     {

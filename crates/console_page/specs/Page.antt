@@ -1,4 +1,4 @@
--- The officer's console and its policy. Their texts are the constants of this crate: the definitions say how they are put together.
+-- The officer's console and its policy. Their texts are built from the constants of this crate; the definitions specify how these are put together.
 use Rattle.std.specs.Prelude.{List, ◌++◌, codes, ℕ}
 use Rattle.console_page.specs.Policies.{policy_of}
 use Rattle.console_page.specs.declared.markup.TheConstants.{BODY, HEAD, TAIL}
@@ -25,7 +25,7 @@ use Rattle.console_page.specs.declared.script.verdicts.TheConstants.{VERDICTS}
 use Rattle.console_page.specs.declared.script.words.TheConstants.{WORDS}
 use Rattle.console_page.specs.declared.stylesheet.TheConstants.{STYLE}
 
--- the script of the page: what its parts declare, and the last one, which starts it
+-- the script of the page: the declarations of its parts, and the last part, which starts it
 unfoldable pub script : List ℕ
 script =
     BASICS.now ++ (ADVICE.now ++ (WORDS.now ++ (REQUESTS.now ++ (PAPERS.now ++ (PENDING.now ++ (DIALOGS.now ++ (FRAME.now ++ (OVERVIEW.now ++ (
@@ -36,7 +36,7 @@ script =
 abbrev pub style : List ℕ
 style = STYLE.now
 
--- a page that has one style and one script: markup around the two
+-- a page with one style and one script: the markup around the two
 unfoldable pub page_of : List ℕ → List ℕ → List ℕ
 page_of its_style its_script =
     HEAD.now
@@ -45,10 +45,10 @@ page_of its_style its_script =
     ++ (codes "<script>" ++ (its_script ++ (codes "</script>"
     ++ TAIL.now)))))))
 
--- the page, the same text at any time
+-- the page; its text is always the same
 abbrev pub page_text : List ℕ
 page_text = page_of style script
 
--- the policy of the page: it lets a browser use the style and the script that the page has
+-- the policy of the page: it allows a browser to use the style and the script of the page
 abbrev pub policy_text : List ℕ
 policy_text = policy_of style script

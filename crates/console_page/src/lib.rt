@@ -1,10 +1,11 @@
-//! The page on which the returning officer runs an election: markup, style and script in one text, with nothing from elsewhere.
+//! The page on which the returning officer runs an election: markup, style and script in one text, with no external resources.
 //!
-//! [`page_text`] returns the page. It holds nothing of an office, and is the same at any time: what it shows it requests,
-//! as any other client does. [`policy_text`] returns what a browser lets it do. A server sends both in one response.
+//! [`page_text`] returns the page. It contains no office data, and is always the same: like any other client, it requests what it
+//! shows. [`policy_text`] returns the policy that limits what the page can do in a browser. A server sends both in one response.
 //!
-//! `specs/Page.antt` defines both from the same script and the same style, so the policy names those that are served.
-//! No definition says what the script does: `docs/CONSOLE-API.md` says what it requests, and `tools/try console-evening` plays it.
+//! `specs/Page.antt` defines both from the same script and the same style, so the policy names the script and the style that
+//! are served. What the script does isn't specified: `docs/CONSOLE-API.md` describes its requests, and
+//! `tools/try console-evening` runs it.
 #![tactic(auto)]
 
 mod markup;
@@ -21,7 +22,7 @@ use script::script_text;
 use std::alloc::{AllocError, Global};
 use stylesheet::STYLE;
 
-/// Returns the page. The only error is that an allocation failed.
+/// Returns the page. The only error is a failed allocation.
 pub fn page_text(alloc: Global) -> Result<String, AllocError>
     ensures { IfOk result (λ text. string_bytes text ≡ page_text) }
 {

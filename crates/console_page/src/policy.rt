@@ -1,4 +1,4 @@
-//! The policy of the page: what a browser lets it do.
+//! The policy of the page: what it is allowed to do in a browser.
 
 ghost use Rattle.std.specs.Prelude.{◌≡◌, IfOk, string_bytes};
 ghost use Rattle.console_page.specs.Page.{policy_text};
@@ -11,7 +11,7 @@ use sha2::{Digest, Sha256};
 use std::alloc::{AllocError, Global};
 
 #[tactic(auto, unfolding(crate::specs::Policies::hash_source))]
-/// Returns how a policy names a text that a browser may run: by its SHA-256, in base64.
+/// Returns the policy source that allows a browser to use one text: its SHA-256, in base64.
 fn hash_source(alloc: Global, text: &[u8]) -> Result<String, AllocError>
     ensures { IfOk result (λ source. string_bytes source ≡ hash_source text.now) }
 {
@@ -21,8 +21,8 @@ fn hash_source(alloc: Global, text: &[u8]) -> Result<String, AllocError>
 }
 
 #[tactic(auto, unfolding(crate::specs::Page::policy_text, crate::specs::Policies::policy_of))]
-/// Returns the policy of the page, for the header `Content-Security-Policy`. A browser runs no other script, uses no other
-/// style, and sends no request elsewhere. The only error is that an allocation failed.
+/// Returns the policy of the page, for the header `Content-Security-Policy`. It makes a browser run no other script, use no other
+/// style, and send no requests elsewhere. The only error is a failed allocation.
 pub fn policy_text(alloc: Global) -> Result<String, AllocError>
     ensures { IfOk result (λ policy. string_bytes policy ≡ policy_text) }
 {

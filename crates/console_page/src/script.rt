@@ -1,7 +1,7 @@
 //! The script of the page, as one text.
 //!
-//! A browser runs it as a classic script: all parts share their names. Each part but the last only declares, and each may use
-//! what any other declares. [`events`] is last, and starts the page.
+//! A browser runs it as a classic script, so all parts share one scope. Each part except the last contains only declarations, and
+//! may use those in any other part. [`events`] is last, and starts the page.
 
 ghost use Rattle.std.specs.Prelude.{◌≡◌, IfOk, string_bytes};
 ghost use Rattle.console_page.specs.Page.{script};
@@ -52,7 +52,7 @@ use crate::script::words::WORDS;
 use std::alloc::{AllocError, Global};
 
 #[tactic(auto, unfolding(crate::specs::Page::script))]
-/// Returns the script. The only error is that an allocation failed.
+/// Returns the script. The only error is a failed allocation.
 pub(crate) fn script_text(alloc: Global) -> Result<String, AllocError>
     ensures { IfOk result (λ text. string_bytes text ≡ script) }
 {

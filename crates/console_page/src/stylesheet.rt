@@ -1,4 +1,4 @@
-//! The style of the page, a sheet of CSS: first what every section has, then the tables, lists and charts of each.
+//! The style of the page, as CSS: first what all sections share, then the tables, lists and charts of each.
 
 /// The style.
 pub(crate) const STYLE: &str = r#"

@@ -1,4 +1,4 @@
--- The laws of a count hold for every book by bundles, and one that advances remains one.
+-- The laws of a count hold for every bundle book, and a book that advances remains a bundle book.
 use Rattle.std.proofs.Common.{◌≡◌, ℕ, suc, zero, ◌+◌, ◌<◌, ◌≤◌, List, [], ◌∷◌, ◌++◌, length, map, replicate, reverse, Option, sym, ap, ◌∙◌, arith, subst, Some}
 use Rattle.std.specs.List.{AllByRecursion}
 use Rattle.std.proofs.lemmas.List.{length-reverse}
@@ -51,7 +51,7 @@ rankings_of (b ∷ bs) each = rankings_more b.1 b.0 (papers_of bs) each.0.2 (ran
 rankings-book : (contest : Contest) (history : History) (bundles : List Bundle) (places : List Placed) → IsBundled contest history bundles places → AreRankings contest.papers
 rankings-book contest history bundles places book = subst AreRankings (sym book.papers_are) (rankings_of bundles book.bundles_are.each)
 
--- the stages of a book can be numbered in one byte
+-- the stage numbers of a book fit in one byte
 pub bundled-few : (contest : Contest) (stages : List Stage) (bundles : List Bundle) (places : List Placed) → IsBundled contest (reverse stages) bundles places → length stages < 255
 unfolding by_itself
 bundled-few contest stages bundles places book =
@@ -79,7 +79,7 @@ pub bundled-filled : (contest : Contest) (history : History) (bundles : List Bun
 unfolding by_itself
 bundled-filled contest history bundles places book h = finished-elected contest by_itself history book.fair book.right h
 
--- a stage with its figures and its newly elected is what the law states for its action
+-- a stage with its figures and its newly elected candidates is the one that the law requires for its action
 pub figured-adds : (terms : Terms) (bundles : List Bundle) (old new : History) (action : Action) (bare : Stage) → IsFigured (contest_on terms bundles) old action bare → IsAdded terms old bare new →
     Adds (contest_on terms bundles) old action new
 figured-adds terms bundles old new action bare figured is_added =
@@ -96,14 +96,14 @@ figured-adds terms bundles old new action bare figured is_added =
       };
     }
 
--- the places after the action are those after its stage
+-- the places computed for the action are those after its stage
 pub places-adds : (contest : Contest) (old new : History) (action : Action) (bundles : List Bundle) → Adds contest old action new →
     places_after contest (begun action [] ∷ old) bundles ≡ places_after contest new bundles
 places-adds contest old new action bundles adds =
     ap (λ (a : Action). places_after contest (begun a [] ∷ old) bundles) (sym adds.of_action)
     ∙ ap (λ (h : History). places_after contest h bundles) (sym adds.one_more)
 
--- a book that advances remains one
+-- a book that advances remains a bundle book
 pub adds-bundled : (contest : Contest) (before : History) (lot : Option ℕ) (action : Action) (after : History) (bundles : List Bundle) (old new : List Placed) →
     IsBundled contest before bundles old → drawn contest before lot (due_after contest before) ≡ Some action →
     Adds contest before action after → new ≡ places_after contest after bundles → IsBundled contest after bundles new
@@ -122,7 +122,7 @@ own_lots contest handed [] right = tt
 own_lots contest handed (s ∷ before) right =
     (own_lots contest handed before right.0, record { was_due = drawn-own contest before (handed before s) (due_after contest before) s.action right.1.was_due; tells = right.1.tells })
 
--- stages that are right for some lots are right for those that they name themselves
+-- stages that are correct for some lots are correct for the lots that they themselves name
 pub some-own : (contest : Contest) (stages : History) → IsRightForSome contest stages → IsRightByItself contest stages
 some-own contest stages right = own_lots contest (λ before s. lot_for right.lots (length before + 1)) stages right.right
 
@@ -135,7 +135,7 @@ pub ruleset book_laws = (bundled-conserved, bundled-others, bundled-short)
 
 pub ruleset book_facts = (bundled-filled, adds-advances)
 
--- a lot that is due is among several, on borrowed stages
+-- a lot that is due is drawn among several candidates; stated for borrowed stages
 pub due-several : (contest : Contest) (lent stages : List Stage) (bundles : List Bundle) (places : List Placed) (due : Due) → lent ≡ stages → due ≡ due_after contest (reverse lent) →
     IsBundled contest (reverse stages) bundles places → IsAmongSeveral due
 due-several contest lent stages bundles places due same is book =

@@ -1,4 +1,4 @@
--- The worth of the papers of bundles is what the law sums over all papers.
+-- The worth of the papers of bundles equals the sum that the law takes over all papers.
 use Rattle.std.proofs.Common.{◌≡◌, ℕ, suc, zero, ◌+◌, ◌*◌, ◌≤◌, ◌||◌, Bool, true, false, cond, eqb, List, [], ◌∷◌, length, map, replicate, slice_index, Option, refl, sym, ap, ◌∙◌, arith}
 use Rattle.std.proofs.Common.{length-append}
 use Rattle.std.specs.List.{AllByRecursion, sum_by}
@@ -32,7 +32,7 @@ use Rattle.count.proofs.Law.ValueLemmas.{all_values, held, surplus-conserves}
 by_itself : History → Stage → Option ℕ
 by_itself before s = candidate_of s.action
 
--- a sum over the papers of bundles is that over the bundles, each times its number of papers
+-- a sum over the papers of bundles equals the sum over the bundles, each multiplied by its number of papers
 pub sum-papers : (f : List ℕ → ℕ) (b : Bundle) (bs : List Bundle) → sum_by f (papers_of (b ∷ bs)) ≡ b.1 * f b.0 + sum_by f (papers_of bs)
 sum-papers f b bs = sum_by-append f (replicate b.1 b.0) (papers_of bs) ∙ ap (λ n. n + sum_by f (papers_of bs)) (sum_by-replicate f b.1 b.0)
 
@@ -40,7 +40,7 @@ worth-papers : (f : Placed → ℕ) (at : List ℕ → Placed) (bundles : List B
 worth-papers f at [] = refl
 worth-papers f at (b ∷ bs) = ap (λ n. b.1 * f (at b.0) + n) (worth-papers f at bs) ∙ sym (sum-papers (λ p. f (at p)) b bs)
 
--- the same at the places of a contest's papers
+-- the same equation for the papers of a contest at their places
 worth-places : (f : Placed → ℕ) (contest : Contest) (stages : History) (bundles : List Bundle) (places : List Placed) → contest.papers ≡ papers_of bundles →
     places ≡ places_after contest stages bundles →
     worth_placed f places bundles ≡ sum_by (λ p. f (placed (place contest stages p))) contest.papers
@@ -85,7 +85,7 @@ holder-few places bundles sound few h = omega (arith, worth-sound (value_to h) p
 pub lost-few : (contest : Contest) (stages : History) → IsContest contest → IsRightByItself contest stages → newest_lost stages ≤ max_units
 lost-few contest stages fair right = (newest_small contest (λ h t. candidate_of t.action) stages [] fair right (omega arith)).lost_small
 
--- the sums of the holders are the votes of all numbers,
+-- the holders' sums are the votes for all candidate numbers,
 pub votes-figured : (contest : Contest) (before : History) (action : Action) (bundles : List Bundle) (moved : List Placed) (sums : List ℕ) → contest.papers ≡ papers_of bundles →
     moved ≡ places_after contest (begun action [] ∷ before) bundles →
     ((h : ℕ) → h ≤ max_candidates → slice_index sums h ≡ worth_placed (value_to h) moved bundles) →
@@ -94,7 +94,7 @@ votes-figured contest before action bundles moved sums papers are each =
     map-numbers (votes_from contest.quota before action sums) (votes_after contest (begun action [] ∷ before)) (λ c column.
     ap (λ n. cond (transfers action c || is_transferred before c) contest.quota n) (each c column.1 ∙ worth-held c contest (begun action [] ∷ before) bundles moved papers are))
 
--- and the non-transferable;
+-- and the non-transferable votes;
 pub none-figured : (contest : Contest) (before : History) (action : Action) (bundles : List Bundle) (moved : List Placed) (sums : List ℕ) → contest.papers ≡ papers_of bundles →
     moved ≡ places_after contest (begun action [] ∷ before) bundles →
     ((h : ℕ) → h ≤ max_candidates → slice_index sums h ≡ worth_placed (value_to h) moved bundles) →
@@ -125,16 +125,16 @@ lost-figured contest before action bundles places moved due are =
     ∙ ap (lost_from contest.quota before action (all_values contest before)) (worth-all contest (begun action [] ∷ before) bundles moved due.book.papers_are are)
     ∙ lost_at contest before action due.book.fair due.book.right due.due
 
--- if no bundle remains, the worth is zero
+-- if there is no bundle, the worth is zero
 pub worth-none : (f : Placed → ℕ) (places : List Placed) → worth_placed f places [] ≡ 0
 worth-none f [] = refl
 worth-none f (at ∷ places) = refl
 
--- when no bundle remains, the rest is zero
+-- if no bundle remains, the rest is worth zero
 pub worth-end : (f : Placed → ℕ) (rest : List Placed) (left : List Bundle) → left ≡ [] → worth_placed f rest left ≡ 0
 worth-end f rest left none = ap (worth_placed f rest) none ∙ worth-none f rest
 
--- at first every sum is zero
+-- initially every sum is zero
 pub no-sums : (n h : ℕ) → slice_index (replicate n 0) h ≡ 0
 no-sums zero h = refl
 no-sums (suc n) zero = refl

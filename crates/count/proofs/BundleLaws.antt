@@ -21,11 +21,11 @@ use Rattle.std.proofs.lemmas.Map.Lookups.{exact_bytes}
 use Rattle.count.specs.Bundles.{Bundle, list_cmp, papers_of, IsBundle, AreBundles}
 use Rattle.count.proofs.BundleLemmas.{number_of}
 
--- 1 for a paper with the list
+-- 1 for a paper with the given list, otherwise 0
 abbrev one_for : List ℕ → List ℕ → ℕ
 one_for list paper = cond (is_at (list_cmp list) paper) 1 0
 
--- the number of papers with a list is that of its bundle
+-- the number of papers with a given list is the number stored in its bundle
 counted_at : (list : List ℕ) (b : Bundle) (bs : List Bundle) (o : Ordering) → list_cmp list b.0 ≡ o → IsStrictlySortedBy list_cmp (keys_of (b ∷ bs)) →
     b.1 * cond (is_eq o) 1 0 + number_of list bs ≡ unwrap_or (cond (is_eq o) (Some b.1) (lookup (is_at (list_cmp list)) bs)) 0
 counted_at list b bs Less is rise = omega arith
@@ -43,7 +43,7 @@ counted list (b ∷ bs) rise =
     ∙ ap (λ n. b.1 * one_for list b.0 + n) (counted list bs (sorted_tail list_cmp b.0 (keys_of bs) rise))
     ∙ counted_at list b bs (list_cmp list b.0) refl rise
 
--- optional numbers of at least 1 are equal if they are with 0 for none
+-- optional numbers of at least 1 are equal if they are equal when `None` counts as 0
 same_number : (o p : Option ℕ) → IfSome o (λ n. 1 ≤ n) → IfSome p (λ n. 1 ≤ n) → unwrap_or o 0 ≡ unwrap_or p 0 → o ≡ p
 same_number None None some others same = refl
 same_number None (Some m) some others same = absurd (omega (arith, others, same))
@@ -54,23 +54,23 @@ same_number (Some n) (Some m) some others same = ap (λ k. Some k) same
 some_number : (list : List ℕ) (bs : List Bundle) → AreBundles bs → IfSome (lookup (is_at (list_cmp list)) bs) (λ n. 1 ≤ n)
 some_number list bs all = All-lookup (λ n. 1 ≤ n) (is_at (list_cmp list)) bs (λ k d l. (All-from_recursion IsBundle bs all.each k d l).0)
 
--- the number found for a list, if there is one
+-- the number found for the given list, if any
 abbrev found : List Bundle → List ℕ → Option ℕ
 found bs list = lookup (is_at (list_cmp list)) bs
 
 some-none : (n : ℕ) → Some n ≡ None → ⊥
 some-none n same = cc
 
--- the first is found for its list
+-- the number found for the first list is that of the first bundle,
 first_found : (b : Bundle) (bs : List Bundle) → found (b ∷ bs) b.0 ≡ Some b.1
 first_found b bs = lookup_head (is_at (list_cmp b.0)) b bs (ap is_eq (tied_itself nat_list_cmp_total b.0))
 
--- its list isn't found after it
+-- and the list isn't found after it
 not_behind : (list : List ℕ) (b : Bundle) (bs : List Bundle) → IsStrictlySortedBy list_cmp (keys_of (b ∷ bs)) → eq_by_cmp list_cmp list b.0 ≡ true → found bs list ≡ None
 not_behind list b bs rise is =
     lookup-none (is_at (list_cmp list)) bs (none_past_head {eq = eq_by_cmp list_cmp} (eq_by_cmp_equiv nat_list_cmp_total) list b bs (IsDistinct-from_sorted list_cmp (keys_of (b ∷ bs)) rise) is)
 
--- a list below the first isn't found
+-- a list below the first one isn't found
 not_below : (list : List ℕ) (b : Bundle) (bs : List Bundle) → IsStrictlySortedBy list_cmp (keys_of (b ∷ bs)) → list_cmp list b.0 ≡ Less → found (b ∷ bs) list ≡ None
 not_below list b bs rise is = lookup-none (is_at (list_cmp list)) (b ∷ bs) (none_below_head nat_list_cmp_total list b bs rise is)
 
@@ -83,7 +83,7 @@ same_heads b c bs cs Equal is rise others same = exact_bytes b.0 c.0 is
 same_heads b c bs cs Greater is rise others same =
     absurd (some-none c.1 (sym (first_found c cs) ∙ sym (same c.0) ∙ not_below c.0 b bs rise (nat_list_cmp_total.antisymm c.0 b.0 ∙ ap ordering_reverse is)))
 
--- and the same is found after them
+-- and the rest has the same numbers for each list
 same_tails : (b c : Bundle) (bs cs : List Bundle) (list : List ℕ) (here : Bool) → eq_by_cmp list_cmp list b.0 ≡ here → b.0 ≡ c.0 →
     IsStrictlySortedBy list_cmp (keys_of (b ∷ bs)) → IsStrictlySortedBy list_cmp (keys_of (c ∷ cs)) →
     found (b ∷ bs) list ≡ found (c ∷ cs) list → found bs list ≡ found cs list

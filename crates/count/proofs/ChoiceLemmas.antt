@@ -2,7 +2,7 @@
 use Rattle.std.proofs.Common.{◌≡◌, ℕ, ◌≤◌, ◌||◌, ◌&&◌, Bool, true, false, not, cond, eqb, refl, sym, ap, arith}
 use Rattle.std.proofs.lemmas.Bool.{eq-eqb, eqb-true}
 
--- what a conjunction or disjunction of tests states about each of them
+-- what a conjunction or disjunction of tests implies for each of them
 pub or_later : (a b : Bool) → b ≡ true → (a || b) ≡ true
 or_later true b h = refl
 or_later false b h = h
@@ -24,7 +24,7 @@ either_or true b x y h k o = ap (λ z. z || y) (h refl)
 either_or false b true y h k o = refl
 either_or false b false y h k o = k o
 
--- a value or 0 is at most the value
+-- either a value or 0 is at most the value
 pub within_value : (b : Bool) (v : ℕ) → cond b v 0 ≤ v
 within_value true v = omega arith
 within_value false v = omega arith

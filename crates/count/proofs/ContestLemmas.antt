@@ -1,4 +1,4 @@
--- The test of a contest, paper by paper.
+-- Testing a contest, paper by paper.
 use Rattle.std.proofs.Common.{◌≡◌, ℕ, suc, zero, ◌+◌, ◌<◌, ◌≤◌, List, [], ◌∷◌, ◌++◌, length, take, get_or, replicate, refl, sym, ◌∙◌, arith, subst, Bool, true}
 use Rattle.std.specs.List.{AllByRecursion}
 use Rattle.paper.specs.Columns.{IsCandidateSet}
@@ -6,7 +6,7 @@ use Rattle.votes.specs.Units.{max_seats, max_papers}
 use Rattle.count.specs.Bundles.{Bundle, IsBundle, papers_of}
 use Rattle.count.specs.Law.Contest.{AreForCandidates, contest_for, IsContest}
 
--- one more member, all members, and one of them
+-- a property of another member, of all members, and of one of them
 pub all-more : {X : Type 0} (P : X → Type 0) (xs : List X) (i : ℕ) (x : X) → i < length xs → x ≡ get_or xs i x → P x → AllByRecursion P (take i xs) → AllByRecursion P (take (i + 1) xs)
 all-more P [] i x within is here sofar = absurd (omega arith)
 all-more P (y ∷ ys) zero x within is here sofar = (subst P is here, tt)
@@ -25,7 +25,7 @@ pub contest-is : (candidates : List ℕ) (seats : ℕ) (papers : List (List ℕ)
 contest-is candidates seats papers set some few contested few_papers of =
     record { candidate_set = set; some_seats = some; few_seats = few; contested = contested; few_papers = few_papers; for_candidates = of; quota_is = refl }
 
--- if each bundle has a paper, a property holds for all papers exactly if it holds for each bundle's list
+-- if each bundle has a paper, a property holds for all papers if and only if it holds for each bundle's list
 all-replicated : (P : List ℕ → Type 0) (n : ℕ) (list : List ℕ) (rest : List (List ℕ)) → P list → AllByRecursion P rest → AllByRecursion P (replicate n list ++ rest)
 all-replicated P zero list rest one all = all
 all-replicated P (suc n) list rest one all = (one, all-replicated P n list rest one all)

@@ -1,4 +1,4 @@
--- What an action that is due can assume.
+-- What can be assumed about an action that is due.
 use Rattle.std.proofs.Common.{◌≡◌, ℕ, ◌<◌, ◌≤◌, ◌⊎◌, inl, inr, Bool, true, false, cond, nat_eq, List, [], ◌∷◌, sym, ap, ◌∙◌, arith, subst}
 use Rattle.std.specs.List.{list_any}
 use Rattle.paper.specs.Columns.{IsColumn}
@@ -21,7 +21,7 @@ pub record IsUnderWay (contest : Contest) (stages : History) (holdings : List Ho
   pub hold : HoldPapers contest stages holdings
   pub rankings : AreRankings contest.papers
 
--- what a surplus that is due can assume
+-- what can be assumed about a surplus that is due
 pub record IsLawful (contest : Contest) (stages : History) (c : ℕ) : Type 0 where
   pub column : IsColumn c
   pub above : contest.quota < newest_votes stages c
@@ -60,7 +60,7 @@ surplus-lawful contest (s ∷ before) c fair right due =
     let all = values-conserved contest (λ h t. candidate_of t.action) s before fair right in
     record { column = column; above = on.1; some = quota_some contest fair; few = omega (arith, own, within, all, fair.few_papers) }
 
--- only the first stage follows none
+-- only the first stage has no stage before it
 pub under-way : (contest : Contest) (stages : History) (holdings : List Holding) (action : Action) → IsBook contest stages holdings → IsDue contest stages action → (action ≡ First → ⊥) →
     IsUnderWay contest stages holdings
 under-way contest [] holdings action book due other = absurd (other (step-first contest due.lot action due.is))
@@ -74,7 +74,7 @@ not_first contest stages (inr on) = never _ on.is
     never true h = cc
     never false h = cc
 
--- the first stage follows none, and there are no holdings then
+-- the first stage has no stage before it, and there are no holdings then
 pub first-alone : (contest : Contest) (stages : History) (holdings : List Holding) → IsBook contest stages holdings → IsDue contest stages First → holdings ≡ []
 first-alone contest [] holdings book due = book.held
 first-alone contest (s ∷ before) holdings book due = absurd (not_first contest (s ∷ before) (step-is contest s before due.lot First due.is))

@@ -1,4 +1,4 @@
--- What a book records is what the law sums over all papers.
+-- What a book records equals the sums that the law takes over all papers.
 use Rattle.std.proofs.Common.{◌≡◌, ℕ, suc, zero, ◌++◌, ◌+◌, ◌*◌, ◌/◌, ◌≤◌, ◌||◌, ◌⊎◌, inl, inr, Bool, true, false, cond, eqb, List, [], ◌∷◌, length, map, Option, refl, sym, ap, ◌∙◌, arith, subst}
 use Rattle.std.specs.List.{sum_by, range_with_len}
 use Rattle.std.proofs.lemmas.Bool.{eqb-true}
@@ -29,7 +29,7 @@ use Rattle.count.proofs.Law.QuotaLemmas.{values-conserved, values-conserved-next
 use Rattle.count.proofs.ChoiceLemmas.{eqb_swap, or_false}
 use Rattle.count.proofs.Law.CandidateSums.{one-within}
 
--- for any holder of a paper, an action that passes on the papers of h leaves h none of the earlier ones
+-- whichever holder a paper has, an action that passes on the papers of h leaves h none of its earlier papers
 kept_value : (action : Action) (k h v : ℕ) (b t : Bool) → passes_on action h ≡ b → eqb k h ≡ t → let zero_ : ℕ = 0 in cond (passes_on action k) zero_ (cond t v 0) ≡ cond b zero_ (cond t v 0)
 kept_value action k h v b true e same = ap (λ c. cond c 0 v) (ap (passes_on action) (eqb-true k h same) ∙ e)
 kept_value action k h v b false e other = nothing (passes_on action k) b
@@ -66,7 +66,7 @@ kept-worth contest (s ∷ before) action h holdings under =
     ∙ sum_by-same _ _ contest.papers (λ p. let at = place contest (s ∷ before) p in kept_value action at.holder h at.value (passes_on action h) (eqb at.holder h) refl refl)
     ∙ none_or_all (passes_on action h) (λ p. value_with h (place contest (s ∷ before) p)) contest.papers
 
--- After an action h holds what the action transferred to h, and what h held before unless it was passed on.
+-- After an action, h holds what the action transferred to h, and what h held before unless it was passed on.
 held-after : (contest : Contest) (before : History) (s : Stage) (h : ℕ) (holdings new : List Holding) → AreHeld contest before holdings → IsMovedBy contest before s.action holdings new →
     held contest (s ∷ before) h ≡ worth_to h new + cond (passes_on s.action h) 0 (held contest before h)
 held-after contest before s h holdings new under is_moved =
@@ -113,7 +113,7 @@ newest_none : (contest : Contest) (handed : History → Stage → Option ℕ) (b
 newest_none contest handed [] right = sym (held-none contest 0)
 newest_none contest handed (s ∷ before) right = right.1.tells.non_transferable_told
 
--- the non-transferable after an action
+-- the non-transferable votes after an action
 non_transferable-are : (contest : Contest) (handed : History → Stage → Option ℕ) (before : History) (s : Stage) (holdings new : List Holding) → IsContest contest → IsRightBy contest handed before →
     IsDue contest before s.action →
     AreHeld contest before holdings → IsMovedBy contest before s.action holdings new → newest_non_transferable before + worth_to 0 new ≡ non_transferable_after contest (s ∷ before)
@@ -130,7 +130,7 @@ value_choice : (b : Bool) (h w : ℕ) (at : Place) → let m : Place = record { 
 value_choice true h w at = omega arith
 value_choice false h w at = omega arith
 
--- what a surplus transfers is worth what it moved
+-- the papers that a surplus transfers are worth what it moved
 surplus-gives : (contest : Contest) (before : History) (s : Stage) (c : ℕ) (holdings new : List Holding) → s.action ≡ Surplus c → HoldPapers contest before holdings →
     IsMovedBy contest before s.action holdings new →
     worth new ≡ value_passed_on contest s before c
@@ -168,11 +168,11 @@ map-range f g (suc n) few h =
     ∙ ap (λ l. l ++ f (n + 1) ∷ []) (map-range f g n (omega (arith, few)) h) ∙ ap (λ x. map g (range_with_len 1 n) ++ x ∷ []) one
     ∙ sym (map-range_with_len_more g 1 n (n + 1) (omega arith)) ∙ sym (ap (λ k. map g (range_with_len 1 k)) e)
 
--- functions that agree on candidate numbers make the same list of them
+-- functions that agree on candidate numbers yield the same list
 pub map-numbers : (f g : ℕ → ℕ) → ((c : ℕ) → IsColumn c → f c ≡ g c) → map f numbers ≡ map g numbers
 map-numbers f g h = map-range f g 30 (omega arith) h
 
--- what a stage records after an action is what the definitions state
+-- what a stage records after an action is what the definitions require
 pub records-adds : (terms : Terms) (papers : List (List ℕ)) (before after : History) (action : Action) (holdings new : List Holding) → IsBook (contest_of terms papers) before holdings →
     IsDue (contest_of terms papers) before action → IsMovedBy (contest_of terms papers) before action holdings new → Records terms before action new after
     → Adds (contest_of terms papers) before action after
@@ -210,7 +210,7 @@ votes_small_choice : (b : Bool) (q v n : ℕ) → q ≤ n → v ≤ n → cond b
 votes_small_choice true q v n h k = h
 votes_small_choice false q v n h k = k
 
--- no figure of a right history is above one vote for each of the maximum number of papers
+-- no figure of a correct history exceeds one vote for each of the maximum number of papers
 pub newest_small : (contest : Contest) (handed : History → Stage → Option ℕ) (before : History) (new : List Holding) → IsContest contest → IsRightBy contest handed before → worth new ≤ max_units →
     AreSmall before new
 newest_small contest handed [] new fair right small = record { votes_small = λ c some few. omega arith; non_transferable_small = omega arith; lost_small = omega arith; moved_small = small }
@@ -229,7 +229,7 @@ newest_small contest handed (s ∷ before) new fair right small =
       moved_small = small;
     }
 
--- nor is what an action moved
+-- the worth of what an action moved is small too
 pub moved-small : (contest : Contest) (before : History) (action : Action) (holdings new : List Holding) → IsBook contest before holdings → IsDue contest before action →
     IsMovedBy contest before action holdings new → AreSmall before new
 moved-small contest before action holdings new book due is_moved =
@@ -239,12 +239,12 @@ moved-small contest before action holdings new book due is_moved =
     let parts : all_values contest (bare ∷ before) ≡ worth new + total (kept_by (λ k rest v. v) action) holdings = is_moved (λ k rest v. v) bare refl in
     newest_small contest handed before new book.fair book.right (omega (arith, all, parts, book.fair.few_papers))
 
--- a surplus is of a candidate
+-- a surplus belongs to a candidate
 pub surplus-column : (contest : Contest) (stages : History) (holdings : List Holding) (action : Action) → IsBook contest stages holdings → IsDue contest stages action → (c : ℕ) →
     action ≡ Surplus c → IsColumn c
 surplus-column contest stages holdings action book due c is = (surplus-lawful contest stages c book.fair book.right (subst (IsDue contest stages) is due)).column
 
--- after the action the papers are in what it moved and in what it left
+-- after the action, the papers are those that it moved and those that it left
 pub held-next : (contest : Contest) (before after : History) (action : Action) (holdings new joined : List Holding) → IsMovedBy contest before action holdings new → AreRankings contest.papers →
     Adds contest before action after → ((f : ℕ → List ℕ → ℕ → ℕ) → total f joined ≡ total f new + total (kept_by f action) holdings) → AreHeld contest after joined
 held-next contest before after action holdings new joined is_moved rankings adds all =

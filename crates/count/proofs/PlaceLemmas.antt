@@ -1,4 +1,4 @@
--- The places of bundles: each is sound, and an action brings the bundle to the place that the law assigns.
+-- The places of bundles: each is sound, and an action moves the bundle to the place that the law assigns.
 use Rattle.std.proofs.Common.{◌≡◌, ℕ, ◌≤◌, Bool, true, false, cond, eqb, List, [], ◌∷◌, ◌++◌, drop, refl, sym, ap, ◌∙◌, arith}
 use Rattle.std.specs.List.{AllByRecursion}
 use Rattle.std.proofs.lemmas.List.{append-nil}
@@ -41,7 +41,7 @@ moved_small contest before (Surplus c) p at small =
 moved_small contest before (Exclude c) p at small = passed_small (eqb at.holder c) (next_available contest before c p) at.value at small small
 moved_small contest before (ExcludeLast c) p at small = small
 
--- no paper's value is above one vote
+-- no paper's value exceeds one vote
 value-small : (contest : Contest) (stages : History) (p : List ℕ) → (place contest stages p).value ≤ one_vote
 value-small contest [] p = omega arith
 value-small contest (s ∷ before) p = moved_small contest before s.action p (place contest before p) (value-small contest before p)
@@ -66,7 +66,7 @@ moved_few contest before (Surplus c) p at fair r few = passed_few (eqb at.holder
 moved_few contest before (Exclude c) p at fair r few = passed_few (eqb at.holder c) (next_available contest before c p) _ at (next_few contest before c p fair) few
 moved_few contest before (ExcludeLast c) p at fair r few = few
 
--- the holder of a paper has a candidate's number, or is no one
+-- the holder of a paper has a possible candidate number, or is no one
 holder-few : (contest : Contest) (stages : History) (p : List ℕ) → IsContest contest → IsRanking p → (place contest stages p).holder ≤ max_candidates
 holder-few contest [] p fair r = omega arith
 holder-few contest (s ∷ before) p fair r = moved_few contest before s.action p (place contest before p) fair r (holder-few contest before p fair r)
@@ -85,7 +85,7 @@ passed-one : (contest : Contest) (before : History) (c : ℕ) (rule : TransferRu
     passed_at (is_continuing contest before) rule c p (placed at) ≡ placed (passed_on contest before c p at (new_value rule at.value))
 passed-one contest before c rule p at = passed_choice (eqb at.holder c) (next_available contest before c p) (new_value rule at.value) at
 
--- an action that passes a candidate's papers on brings bundles to the places that the law assigns
+-- an action that passes on a candidate's papers moves bundles to the places that the law assigns
 passed-all : (contest : Contest) (before : History) (c : ℕ) (rule : TransferRule) (action : Action) (bundles : List Bundle) →
     ((p : List ℕ) (at : Place) → passed_on contest before c p at (new_value rule at.value) ≡ moved contest before action p at) →
     passed_places (is_continuing contest before) rule c (places_after contest before bundles) bundles ≡ places_after contest (begun action [] ∷ before) bundles
@@ -96,7 +96,7 @@ passed-all contest before c rule action (b ∷ bs) by =
     ap (λ (x : Placed). x ∷ passed_places (is_continuing contest before) rule c (places_after contest before bs) bs) here
     ∙ ap (λ (l : List Placed). placed (moved contest before action b.0 at) ∷ l) (passed-all contest before c rule action bs by)
 
--- two tests that agree on who continues have the same result
+-- two tests that agree on who continues give the same result
 passed-same : (p q : ℕ → Bool) (rule : TransferRule) (c : ℕ) (places : List Placed) (bundles : List Bundle) → ((d : ℕ) → p d ≡ q d) →
     passed_places p rule c places bundles ≡ passed_places q rule c places bundles
 passed-same p q rule c [] bundles same = refl
@@ -125,7 +125,7 @@ exclude-places contest before c continues places bundles same are =
     ∙ ap (λ (l : List Placed). passed_places (is_continuing contest before) AsReceived c l bundles) are
     ∙ passed-all contest before c AsReceived (Exclude c) bundles (λ p at. refl)
 
--- if no bundle remains, no place does
+-- if no bundle remains, no place remains
 pub passed-none : (continues : ℕ → Bool) (rule : TransferRule) (c : ℕ) (places : List Placed) → passed_places continues rule c places [] ≡ []
 passed-none continues rule c [] = refl
 passed-none continues rule c (at ∷ places) = refl

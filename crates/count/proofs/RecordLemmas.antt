@@ -18,7 +18,7 @@ last_set : (old pushed : List Stage) (bare full : Stage) → pushed ≡ old ++ b
 last_set old pushed bare full is =
     reverse-newest (set pushed (length old) full) old full (ap (λ (l : List Stage). set l (length old) full) is ∙ set-append_seam old bare [] full)
 
--- a bare stage is appended, and then its newly elected are filled in
+-- a bare stage is appended, and then its newly elected candidates are filled in
 pub added : (terms : Terms) (old pushed : List Stage) (bare : Stage) (newly : List ℕ) → pushed ≡ old ++ bare ∷ [] →
     newly ≡ filter (λ c. not (list_any (nat_eq c) (elected_after (contest_of terms []) (reverse old)))) (elected_after (contest_of terms []) (reverse pushed)) →
     IsAdded terms (reverse old) bare (reverse (set pushed (length old) (with_newly_elected bare newly)))

@@ -1,4 +1,4 @@
--- A paper's preferences from its holder's on.
+-- A paper's preferences, starting with the one for its holder.
 use Rattle.std.proofs.Common.{◌≡◌, ℕ, ◌≤◌, ◌==◌, Bool, true, false, cond, eqb, List, [], ◌∷◌, ◌++◌, drop, refl, sym, ap, ◌∙◌, ◌||◌, append_assoc, arith, subst}
 use Rattle.std.specs.List.{list_any}
 use Rattle.std.proofs.lemmas.Bool.{eq-eqb}
@@ -44,7 +44,7 @@ before_differs y (z ∷ zs) xs some none same = before_differs y zs xs some (lat
     later true b h = cc
     later false b h = h
 
--- in a ranking, a suffix is the list from its first element on
+-- in a ranking, a suffix is the list starting at the first element of that suffix
 rest_again_at : (before xs : List ℕ) → IsRanking (before ++ xs) → from_first (λ d. d == first_of xs) (before ++ xs) ≡ xs
 rest_again_at [] [] h = refl
 rest_again_at [] (x ∷ xs) h = at_equal x x _ _ refl
@@ -53,7 +53,7 @@ rest_again_at (y ∷ before) xs h = at_other y (first_of xs) _ _ (before_differs
 pub rest_again : (paper xs : List ℕ) → IsRanking paper → IsSuffix xs paper → from_first (λ d. d == first_of xs) paper ≡ xs
 rest_again paper xs h s = ap (from_first (λ d. d == first_of xs)) s.is ∙ rest_again_at s.before xs (subst IsRanking s.is h)
 
--- a paper that is passed on is at the preferences that remain
+-- a paper that is passed on has the remaining preferences
 pub rest_passed : (continues : ℕ → Bool) (paper : List ℕ) (test : ℕ → Bool) → IsRanking paper →
     let left : List ℕ = passed_to continues (from_first test paper) in from_first (λ d. d == first_of left) paper ≡ left
 rest_passed continues paper test h =

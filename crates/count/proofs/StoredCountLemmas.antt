@@ -27,7 +27,7 @@ use Rattle.count.proofs.OrderLemmas.{bundled-length, bundled-permutation, contes
 use Rattle.count.proofs.Law.CountLemmas.{next_reordered}
 use Rattle.count.proofs.Law.RightLemmas.{is_told, same_place, right_reordered}
 
--- the contest on the papers of the bundles
+-- the contest with the papers of the bundles
 on_bundles : Contest → List Bundle → Contest
 on_bundles contest bundles = reordered contest (papers_of bundles)
 
@@ -68,7 +68,7 @@ kept-terms contest history terms bundles places stages range kept =
     let same = for-on contest terms.candidates terms.seats bundles kept.fair kept.candidates_are kept.seats_are kept.bundles_are in
     range.quota_is (subst IsContest (sym same) (fair-on contest bundles kept.fair kept.bundles_are)) ∙ same
 
--- what the terms and stages of a stored count determine, for any papers, is the same for its contest
+-- what the terms and stages of a stored count determine for any papers is the same for its contest
 pub kept-tells : {X : Type 0} (tell : Contest → History → X) (x : X) (terms : Terms) (bundles : List Bundle) (places : List Placed) (stages lent : List Stage)
     (seen : StoredCountEntry) (contest : Contest) (history : History) →
     kept_of terms bundles places stages ≡ seen → lent ≡ stages → IsInRange terms bundles places stages → ((papers : List (List ℕ)) → x ≡ tell (contest_of terms papers) (reverse lent))
@@ -106,7 +106,7 @@ kept-bundled contest history kept bundles is =
       places_are = is.places_are ∙ sym (places-same contest (papers_of kept.bundles) history kept.bundles);
     }
 
--- so it is in the range of a count:
+-- so it is in range for a count:
 pub kept-sound : (contest : Contest) (history : History) (kept : StoredCountEntry) → AreBundles kept.bundles → IsStoredCountOf contest history kept → AllByRecursion IsSound kept.places
 kept-sound contest history kept bundles is =
     book-sound (reordered contest (papers_of kept.bundles)) history kept.bundles kept.places (kept-bundled contest history kept bundles is)
@@ -133,7 +133,7 @@ pub sound-nowhere : (bundles : List Bundle) → AllByRecursion IsSound (map (λ 
 sound-nowhere [] = tt
 sound-nowhere (b ∷ bs) = ((omega arith, omega arith), sound-nowhere bs)
 
--- terms made for candidates and seats are in range
+-- terms built for candidates and seats are in range
 pub own-terms : (candidates : List ℕ) (seats : ℕ) (terms : Terms) (bundles : List Bundle) → terms.candidates ≡ candidates → terms.seats ≡ seats →
     (IsContest (contest_for candidates seats (papers_of bundles)) → contest_on terms bundles ≡ contest_for candidates seats (papers_of bundles)) →
     IsContest (contest_for terms.candidates terms.seats (papers_of bundles)) → contest_on terms bundles ≡ contest_for terms.candidates terms.seats (papers_of bundles)
@@ -156,7 +156,7 @@ kept-first contest kept fair candidates_are seats_are bundles_are places_are sta
       stages_are = stages_are;
     }
 
--- the outcome of the next action on a stored count is what comes next in its contest
+-- the outcome of the next action on a stored count is the next step of its contest
 pub kept-next : (contest : Contest) (history : History) (lots : List (ℕ × ℕ)) (terms : Terms) (bundles : List Bundle) (places new_places : List Placed)
     (stages new_stages : List Stage) (action : Action) →
     IsInRange terms bundles places stages → IsStoredCountOf contest history (kept_of terms bundles places stages) →

@@ -19,7 +19,7 @@ pub sum_by-none : {X : Type 0} (f : X → ℕ) (xs : List X) → ((x : X) → f 
 sum_by-none f [] h = refl
 sum_by-none f (x ∷ xs) h = omega (arith, sum_by-cons f x xs, h x, sum_by-none f xs h)
 
--- the choice that a test of equality makes
+-- the choice made by an equality test
 pub at_equal : {X : Type 0} (a b : ℕ) (x y : X) → a ≡ b → cond (eqb a b) x y ≡ x
 at_equal a b x y h = ap (λ t. cond t x y) (eq-eqb a b h)
 

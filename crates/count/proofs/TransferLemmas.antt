@@ -22,7 +22,7 @@ use Rattle.count.proofs.SumLemmas.{sum_by-same, sum_by-add, sum_by-none, sum-ran
 use Rattle.count.proofs.RestLemmas.{rest_passed, rest_again, suffix-self}
 use Rattle.count.proofs.ChoiceLemmas.{eqb_swap}
 
--- a function after the papers of c are passed on, while the others stay
+-- a function applied after the papers of c are passed on, while the others stay
 abbrev after_passing : (ℕ → List ℕ → ℕ → ℕ) → ℕ → (ℕ → Bool) → TransferRule → ℕ → List ℕ → ℕ → ℕ
 after_passing f c cont rule h rest v = cond (eqb h c) (at_passed f cont rule rest v) (f h rest v)
 
@@ -37,7 +37,7 @@ passed_choice f contest before c rule paper at true r e =
     ap (λ (rest : List ℕ). f (first_of left) rest (new_value rule at.value)) (rest_passed (is_continuing contest before) paper (λ d. d == c) r)
     ∙ ap (λ (h : ℕ). at_passed f (is_continuing contest before) rule (from_first (λ d. d == h) paper) at.value) (sym same)
 
--- a paper that is passed on is at its remaining preferences, as a whole
+-- a paper that is passed on moves as a whole to its remaining preferences
 passed_at : (f : ℕ → List ℕ → ℕ → ℕ) (contest : Contest) (before : History) (c : ℕ) (rule : TransferRule) (paper : List ℕ) (at : Place) → IsRanking paper →
     at_place f paper (passed_on contest before c paper at (new_value rule at.value)) ≡ at_place (after_passing f c (is_continuing contest before) rule) paper at
 passed_at f contest before c rule paper at r = passed_choice f contest before c rule paper at (eqb at.holder c) r refl
@@ -48,7 +48,7 @@ split_choice true false x y e = cc
 split_choice false true x y e = cc
 split_choice false false x y e = omega arith
 
--- what is passed on and what stays together are everything
+-- what is passed on and what stays make up the total
 total-split : (f : ℕ → List ℕ → ℕ → ℕ) (c : ℕ) (cont : ℕ → Bool) (rule : TransferRule) (holdings : List Holding) →
     total (after_passing f c cont rule) holdings ≡ total_passed f c cont rule holdings + total (kept_by f (Exclude c)) holdings
 total-split f c cont rule holdings =
@@ -61,7 +61,7 @@ total-split f c cont rule holdings =
     ∙ sum_by-add (λ (q : Holding). total_of (λ rest v. cond (eqb q.holder c) (at_passed f cont rule rest v) 0) q.parcels.items)
     (λ (q : Holding). total_of (λ rest v. cond (eqb c q.holder) 0 (f q.holder rest v)) q.parcels.items) holdings
 
--- Each action moves the papers to their places after it. On an exclusion and a surplus all of a candidate's papers are transferred;
+-- Each action moves the papers to their places after it. On an exclusion or a surplus, all of a candidate's papers are transferred;
 pub moved-exclude : (contest : Contest) (before : History) (c : ℕ) (holdings new : List Holding) → AreRankings contest.papers → HoldPapers contest before holdings →
     ((f : ℕ → List ℕ → ℕ → ℕ) → total f new ≡ total_passed f c (is_continuing contest before) AsReceived holdings) → IsMovedBy contest before (Exclude c) holdings new
 moved-exclude contest before c holdings new rankings hold passed f s is =
@@ -84,7 +84,7 @@ moved-surplus contest before c holdings new rankings hold passed f s is =
     ∙ total-split f c (is_continuing contest before) rule holdings
     ∙ ap (λ n. n + total (kept_by f (Surplus c)) holdings) (sym (passed f))
 
--- at the first stage each paper is credited to its first preference, as a whole, and nothing was there before;
+-- at the first stage, each paper is credited as a whole to its first preference, and nothing was there before;
 pub moved-first : (contest : Contest) (before : History) (holdings new : List Holding) → AreRankings contest.papers → holdings ≡ [] →
     ((f : ℕ → List ℕ → ℕ → ℕ) → total f new ≡ sum_by (λ p. f (first_of p) p one_vote) contest.papers) → IsMovedBy contest before First holdings new
 moved-first contest before holdings new rankings none dealt f s is =
@@ -118,7 +118,7 @@ total-kept f action (q ∷ qs) =
     ∙ kept_choice f (passes_on action q.holder) q _ _ (total-kept f action qs)
     ∙ sym (sum_by-cons (λ (p : Holding). total_of (λ rest v. kept_by f action p.holder rest v) p.parcels.items) q qs)
 
--- the holdings that stay, followed by those that were made
+-- the holdings that stay, followed by the new ones
 pub kept-append : (f : ℕ → List ℕ → ℕ → ℕ) (action : Action) (holdings left made new : List Holding) →
     left ≡ filter (λ q. not (passes_on action q.holder)) holdings → new ≡ left ++ made → total f new ≡ total f made + total (kept_by f action) holdings
 kept-append f action holdings left made new is all =

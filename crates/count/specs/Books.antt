@@ -7,7 +7,7 @@ use Rattle.count.specs.Law.Places.{Place}
 use Rattle.count.specs.declared.placed.Placed.{Placed}
 use Rattle.count.specs.declared.terms.Terms.{Terms}
 
--- the contest of these terms and papers
+-- the contest with the given terms and papers
 abbrev pub contest_of : Terms → List (List ℕ) → Contest
 contest_of terms papers = record { candidates = terms.candidates; seats = terms.seats; quota = terms.quota; papers = papers }
 
@@ -16,17 +16,17 @@ abbrev pub AreRankings : List (List ℕ) → Type 0
 AreRankings [] = ⊤
 AreRankings (paper ∷ papers) = IsRanking paper × AreRankings papers
 
--- a count in progress, in contracts
+-- a count in progress, as contracts see it
 pub record Book : Type 0 where
   pub contest : Contest
   pub history : History
 
--- a count in progress on bundles, in contracts
+-- a count in progress on bundles, as contracts see it
 pub record BundledBook : Type 0 where
   pub contest : Contest
   pub history : History
   pub bundles : List Bundle
 
--- a place, as returned and accepted by a book by bundles
+-- a place, as a bundle book accepts and returns it
 abbrev pub placed : Place → Placed
 placed at = record { holder = at.holder; value = at.value }

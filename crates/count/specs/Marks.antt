@@ -1,4 +1,4 @@
--- What a stage shows of each candidate: the votes, and a mark.
+-- What a stage shows for each candidate: the votes, and a mark.
 use Rattle.std.specs.Prelude.{ℕ, ◌==◌, Bool, nat_eq, if◌then◌else◌, List, [], ◌∷◌, ◌++◌, map}
 use Rattle.std.specs.List.{list_any}
 use Rattle.count.specs.Law.Contest.{History, votes_at}
@@ -8,7 +8,7 @@ use Rattle.count.specs.declared.stages.Action.{Action}
 use Rattle.count.specs.declared.stages.Action.TheVariants.{First, Surplus, Exclude, ExcludeLast}
 use Rattle.count.specs.declared.stages.Stage.{Stage}
 
--- the numbers of the non-transferable, and of the loss by fractions
+-- the numbers for the non-transferable votes and for the loss by fractions
 abbrev pub no_candidate : ℕ
 no_candidate = 0
 
@@ -21,7 +21,7 @@ is_named stages c = list_any (λ (s : Stage). list_any (nat_eq c) s.elected) sta
 
 -- ---- marks
 
--- the candidate continues; also the mark of figures that aren't a candidate's
+-- the candidate continues; also the mark of figures that don't belong to a candidate
 abbrev pub continuing : ℕ
 continuing = 0
 
@@ -41,7 +41,7 @@ surplus_now = 3
 abbrev pub excluded_now : ℕ
 excluded_now = 4
 
--- the candidate is excluded at this stage so that the last vacancies are filled, and nothing is transferred
+-- the candidate is excluded at this stage to fill the last vacancies, and nothing is transferred
 abbrev pub excluded_last : ℕ
 excluded_last = 5
 
@@ -49,18 +49,18 @@ excluded_last = 5
 abbrev pub standing_mark : History → ℕ → ℕ
 standing_mark stages c = if is_named stages c then elected else if is_excluded stages c then excluded else continuing
 
--- the mark of c at the stage of an action: the action's if it is on c, otherwise the other mark
+-- the mark of c at the stage of the given action: that of the action if it acts on c, otherwise the other mark
 abbrev pub mark_by : Action → ℕ → ℕ → ℕ
 mark_by First c other = other
 mark_by (Surplus d) c other = if d == c then surplus_now else other
 mark_by (Exclude d) c other = if d == c then excluded_now else other
 mark_by (ExcludeLast d) c other = if d == c then excluded_last else other
 
--- the figure of c at the newest of some stages
+-- the figure of c at the newest stage
 abbrev pub figure_of : Stage → History → ℕ → Figure
 figure_of newest stages c = record { candidate = c; units = votes_at newest c; mark = mark_by newest.action c (standing_mark stages c) }
 
--- the figures of the newest of some stages: of the non-transferable, of each candidate in ascending order, and of the loss by fractions
+-- the figures of the newest stage: the non-transferable votes, each candidate in ascending order, and the loss by fractions
 abbrev pub figures_at : List ℕ → History → List Figure
 figures_at candidates [] = []
 figures_at candidates (s ∷ before) =

@@ -12,7 +12,7 @@ use crate::stages::{Action, Due, Stage};
 use paper::Columns;
 use thiserror::Error;
 
-/// The reason why a book didn't advance; the book is unchanged.
+/// The reason why a book didn't advance. The book is unchanged.
 #[derive(Clone, Copy, Debug, PartialEq, Eq, Error)]
 pub enum AdvanceError {
     /// 1: no vacancy remains.
@@ -21,7 +21,7 @@ pub enum AdvanceError {
     /// 2: a lot is due, and none was passed.
     #[error("lot needed")]
     LotNeeded,
-    /// 3: a lot is due, and the one passed isn't for any of the tied candidates.
+    /// 3: a lot is due, but the one passed names none of the tied candidates.
     #[error("lot not among the tied")]
     LotNotAmong,
     /// An allocation failed.
@@ -29,7 +29,7 @@ pub enum AdvanceError {
     Memory,
 }
 
-/// A count of a contest, stage by stage according to the Order: the stages done so far, and what is due.
+/// A count of a contest, stage by stage under the Order: the stages so far, and what is due.
 pub trait CountBook {
     /// The candidates, seats, quota and papers.
     ghost contest: { Self → Contest };
@@ -37,8 +37,8 @@ pub trait CountBook {
     /// The stages so far, newest first.
     ghost history: { Self → History };
 
-    /// Returns the stages so far, in order. They are right for the contest and for the lots that their own actions name. The votes
-    /// of each stage add up, and only candidates have votes. There are at most as many stages as candidates, plus one.
+    /// Returns the stages so far, in order. They are correct for the contest and for the lots that their own actions name.
+    /// The figures of each stage add up, and only candidates have votes. There is at most one stage per candidate, plus one.
     fn stages(&self) -> &[Stage]
         ensures is { reverse result.now ≡ history self.now }
         ensures right { IsRightByItself (contest self.now) (history self.now) }
@@ -46,28 +46,28 @@ pub trait CountBook {
         ensures others { OnlyCandidatesHaveVotes (contest self.now) (history self.now) }
         ensures short { IsShort (contest self.now) (history self.now) };
 
-    /// Returns what is due: an action; a lot among two or more candidates who are tied; or nothing, exactly if no vacancy remains. As
-    /// many candidates are then elected as there are seats ("Transfer of ballot papers"; "Exclusion of candidates"; "Filling of last
-    /// vacancies").
+    /// Returns what is due: an action; a lot among two or more tied candidates; or nothing, if and only if no vacancy remains. In the
+    /// last case as many candidates are elected as there are seats ("Transfer of ballot papers"; "Exclusion of candidates"; "Filling
+    /// of last vacancies").
     fn due(&self) -> Due
         ensures is { result ≡ due_after (contest self.now) (history self.now) }
         ensures fair { IsContest (contest self.now) }
         ensures several { IsAmongSeveral result }
         ensures filled { result ≡ Due.Finished → FillsSeats (contest self.now) (history self.now) };
 
-    /// Returns who is elected after the stages so far ("Quota"; "Filling of last vacancies").
+    /// Returns the candidates elected after the stages so far ("Quota"; "Filling of last vacancies").
     fn elected(&self) -> Columns
         ensures { result ≡ elected_after (contest self.now) (history self.now) };
 
-    /// Returns the action due, using the lot if one is needed; otherwise the lot is ignored. Error 1 if the count is finished, 2 if a
-    /// lot is due and none is passed, 3 if the lot is for a candidate who isn't tied. Moves no paper, and allocates nothing.
+    /// Returns the action that is due, using the lot if one is needed and ignoring it otherwise. Error 1 if the count is finished, 2
+    /// if a lot is due and none is passed, 3 if the lot names a candidate who isn't tied. Moves no paper, and allocates nothing.
     fn action_by(&self, lot: Option<u8>) -> Result<Action, AdvanceError>
         ensures ok { IfOk result (λ action. drawn (contest self.now) (history self.now) lot (due_after (contest self.now) (history self.now)) ≡ Some action) }
         ensures err { IfErr result (λ e. refusal lot (due_after (contest self.now) (history self.now)) ≡ Some e) };
 
-    /// Adds the one stage that is due, using the lot if one is needed; otherwise the lot is ignored.
+    /// Adds the one stage that is due, using the lot if one is needed and ignoring it otherwise.
     ///
-    /// Error 1 if the count is finished, 2 if a lot is due and none is passed, 3 if the lot is for a candidate who isn't tied; in
+    /// Error 1 if the count is finished, 2 if a lot is due and none is passed, 3 if the lot names a candidate who isn't tied; in
     /// these cases nothing is allocated. `Memory` if an allocation fails. The book is unchanged after every error.
     fn advance(&mut self, lot: Option<u8>) -> Result<(), AdvanceError>
         ensures same { contest self.new ≡ contest self.old }

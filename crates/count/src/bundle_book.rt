@@ -1,4 +1,4 @@
-//! A count by bundles.
+//! A count in bundles.
 
 ghost use Rattle.std.specs.Prelude.{◌≡◌, ◌<◌, ℕ, List, [], map, reverse, length, slice_index_or, IfOk};
 ghost use Rattle.count.specs.Books.{placed};
@@ -22,8 +22,8 @@ use paper::Columns;
 use std::alloc::{AllocError, Global};
 use std::marker::Model;
 
-/// A count that stores equal papers as one bundle, with one holder and at one value. This is sound because the rules read nothing
-/// of a paper but its preferences. So the cost of a stage depends on the number of bundles, not of papers.
+/// A count that stores equal papers as one bundle, with one holder and one value. This is sound because the rules depend on nothing
+/// in a paper but its preferences. The cost of a stage therefore depends on the number of bundles, not on the number of papers.
 #[derive(Drop)]
 pub struct BundleBook<'a> {
     alloc: Global,
@@ -45,8 +45,9 @@ impl<'a> Model for BundleBook<'a> {
     ghost invariant = { λ a. IsBundled (contest_on a.terms a.bundles.now) (reverse a.stages.items) a.bundles.now a.places.items };
 }
 
-/// The law of a count by bundles, for its callers. The bundles of some papers represent exactly these papers, in another order.
-/// If a contest can be held on the papers, it can be held on those of the bundles, with the same stages for any lots.
+/// States the law of counting in bundles, for its callers. The bundles of given papers represent exactly those papers, in
+/// another order. If a contest can be held with the papers, it can be held with those of the bundles, with the same stages for any
+/// lots.
 #[tactic(auto, using(crate::proofs::OrderLemmas::bundled_alike))]
 pub fn bundles_count_alike()
     ensures papers { (papers : List (List ℕ)) → IsPermutation papers (papers_of (bundled papers)) }
@@ -57,10 +58,10 @@ pub fn bundles_count_alike()
 {}
 
 impl<'a> BundleBook<'a> {
-    /// Returns a count without stages; `AllocError` if an allocation fails.
+    /// Returns a count before its first stage; `AllocError` if an allocation fails.
     ///
-    /// Requires more candidates than seats, 1 to `MAX_SEATS` seats, and preferences only for candidates; `bundles_can_be_counted` is the
-    /// test.
+    /// Requires more candidates than seats, 1 to `MAX_SEATS` seats, and preferences only for candidates; `bundles_can_be_counted`
+    /// checks this.
     pub fn new(
         alloc: Global,
         candidates: Columns,
@@ -80,10 +81,11 @@ impl<'a> BundleBook<'a> {
         })
     }
 
-    /// Resumes a count with its stages so far, and the places of its bundles after them.
+    /// Resumes a count from its stages so far and the places of its bundles after them.
     ///
-    /// The requirements of `new` for candidates, seats and preferences apply here too. The stages must be right for these papers and
-    /// some lots. The places must be those of the bundles after these stages, in the same order. `AllocError` if an allocation fails.
+    /// The requirements of `new` on candidates, seats and preferences apply here too. The stages must be correct for these papers
+    /// and some lots. The places must be those of the bundles after these stages, in the order of the bundles. `AllocError` if an
+    /// allocation fails.
     pub fn resume(
         alloc: Global,
         candidates: Columns,
@@ -109,8 +111,8 @@ impl<'a> BundleBook<'a> {
         })
     }
 
-    /// Returns the places of the bundles after the stages so far, in the order of the bundles. With these and the stages another book
-    /// can resume. The bundles are still those of the papers.
+    /// Returns the places of the bundles after the stages so far, in the order of the bundles. Another book can resume from these
+    /// places and the stages. The bundles are still those of the papers.
     pub fn places(&self) -> &[Placed]
         ensures places { result.now ≡ map (λ b. placed (place_of self.now.contest self.now.history b.0)) self.now.bundles }
         ensures bundles { (bundles : List Bundle) → AreBundles bundles → IsPermutation (papers_of bundles) self.now.contest.papers → bundles ≡ self.now.bundles }
@@ -118,7 +120,7 @@ impl<'a> BundleBook<'a> {
         &self.places
     }
 
-    /// Returns the place of a bundle after the stages so far.
+    /// Returns the place of bundle `i` after the stages so far.
     pub fn place(&self, i: usize) -> Placed
         requires { i < length self.now.bundles }
         ensures { result ≡ placed (place_of self.now.contest self.now.history (slice_index_or self.now.bundles i ([], 0)).0) }

@@ -1,6 +1,6 @@
 //! Equal papers stored once, in a tree that maps each list of preferences to the number of papers with it. A bundle is looked up by
-//! its list, and iteration is in the order of the lists. The total number of papers is stored next to the tree, and costs no
-//! iteration.
+//! its list, and iteration is in the order of the lists. The total number of papers is stored next to the tree, so it is known
+//! without iterating.
 
 ghost use Rattle.std.specs.Prelude.{◌≡◌, ℕ, ◌+◌, ◌<◌, ◌≤◌, List, [], ◌∷◌, ◌++◌, length, replicate, slice_get, Some, OnOk, OnErr};
 ghost use Rattle.std.specs.List.Sorted.{IsPermutation};
@@ -15,7 +15,7 @@ use std::collections::btree_map::Iter;
 use std::marker::Model;
 
 /// Equal papers stored once, modelled as the list of their bundles: each list of preferences with the number of papers that have it,
-/// at least 1, in the order of the lists. They contain at most `MAX_PAPERS` papers.
+/// at least 1, in the order of the lists. The total is at most `MAX_PAPERS` papers.
 #[derive(Drop)]
 pub struct Bundles {
     lists: BTreeMap<Prefs, u32>,
@@ -35,7 +35,7 @@ impl Model for Bundles {
 }
 
 impl Bundles {
-    /// Returns no bundles. Allocates nothing.
+    /// Returns an empty set of bundles. Allocates nothing.
     pub fn new(alloc: Global) -> Bundles
         ensures { result ≡ [] }
     {
@@ -55,8 +55,8 @@ impl Bundles {
         self.add_papers(list, 1)
     }
 
-    /// Adds one or more equal papers; the total may be at most `MAX_PAPERS`. Allocates only for a new list; if that fails, nothing is
-    /// changed.
+    /// Adds one or more equal papers; the total must not exceed `MAX_PAPERS`. Allocates only for a new list; if that fails, nothing
+    /// is changed.
     pub fn add_papers(&mut self, list: Prefs, papers: u32) -> Result<(), AllocError>
         requires some { 1 ≤ papers }
         requires few { length (papers_of self.old) + papers ≤ max_papers }
@@ -64,7 +64,7 @@ impl Bundles {
         ensures adds { OnOk result (IsPermutation (replicate papers list ++ papers_of self.old) (papers_of self.new)) }
         ensures err { OnErr result (self.new ≡ self.old) }
     {
-        // the clauses of `first` tell the proof that the list is a nonempty ranking
+        // called for its postconditions: they tell the proof that the list is a nonempty ranking
         let _ = list.first();
         add_to(&mut self.lists, list, papers)?;
         self.papers += papers;
@@ -87,8 +87,8 @@ impl Bundles {
         self.lists.len()
     }
 
-    /// Returns the bundle at a place in the order of the lists: its list and its number of papers. Walks from the first bundle; to
-    /// visit all of them, use `iter`.
+    /// Returns the bundle at the given position in the order of the lists: its list and its number of papers. Walks from the first
+    /// bundle; to visit all of them, use `iter`.
     pub fn get(&self, i: usize) -> (&Prefs, u32)
         requires { i < length self.now }
         ensures { slice_get self.now i ≡ Some (result.0.now, result.1) }
@@ -108,7 +108,7 @@ impl Bundles {
     }
 }
 
-/// Adds equal papers to a tree. `AllocError` if an allocation fails; the tree is then unchanged.
+/// Adds equal papers to the tree. `AllocError` if an allocation fails; the tree is then unchanged.
 fn add_to(lists: &mut BTreeMap<Prefs, u32>, list: Prefs, papers: u32) -> Result<(), AllocError>
     requires { length (papers_of lists.old.entries) + papers ≤ max_papers }
     ensures ok { OnOk result (lists.new.entries ≡ with_papers lists.old.entries list papers) }

@@ -1,4 +1,4 @@
-//! Whether a count can be held.
+//! Checking whether a count can be held.
 
 ghost use Rattle.std.specs.Prelude.{◌≡◌, ◌↔◌, ◌≤◌, ◌<◌, true, length, IsTrue};
 ghost use Rattle.votes.specs.Units.{max_seats};
@@ -11,7 +11,7 @@ use crate::bundles::Bundles;
 use paper::{Columns, Prefs, Standing};
 use votes::{MAX_PAPERS, MAX_SEATS};
 
-/// Returns whether all preferences of a paper are for continuing candidates.
+/// Returns whether all preferences on the paper are for continuing candidates.
 fn is_for(standing: &Standing, preferences: &[u8]) -> bool
     ensures { IsTrue result ↔ AllByRecursion (λ c. is_continuing standing.now c ≡ true) preferences.now }
 {
@@ -23,7 +23,7 @@ fn is_for(standing: &Standing, preferences: &[u8]) -> bool
     true
 }
 
-/// Returns whether all preferences of all papers are for candidates, with one lookup each, in the standing in which all candidates
+/// Returns whether all preferences on all papers are for candidates, with one lookup each, in the standing in which all candidates
 /// continue.
 fn are_for_candidates(candidates: &Columns, papers: &[Prefs]) -> bool
     ensures { IsTrue result ↔ AreForCandidates candidates.now papers.now }
@@ -37,7 +37,7 @@ fn are_for_candidates(candidates: &Columns, papers: &[Prefs]) -> bool
     true
 }
 
-/// Returns whether all preferences of all papers of some bundles are for candidates, list by list.
+/// Returns whether all preferences on all papers of the given bundles are for candidates. Checks each list once.
 fn lists_are_for_candidates(candidates: &Columns, bundles: &Bundles) -> bool
     ensures { IsTrue result ↔ AreForCandidates candidates.now (papers_of bundles.now) }
 {
@@ -60,8 +60,8 @@ fn is_contested(candidates: &Columns, seats: u8) -> bool
     candidates.len() > usize::from(seats)
 }
 
-/// Returns whether a count can be held: 1 to `MAX_SEATS` seats, more candidates than seats, at most `MAX_PAPERS` papers, and
-/// preferences only for candidates. The limits are the office's own; within them the "Quota" and all votes are exact.
+/// Returns whether a count can be held: 1 to `MAX_SEATS` seats, more candidates than seats, at most `MAX_PAPERS` papers,
+/// and preferences only for candidates. These limits are the office's own; within them the "Quota" and all votes are exact.
 #[tactic(auto, using(crate::proofs::ContestLemmas::contests))]
 pub fn can_be_counted(candidates: &Columns, seats: u8, papers: &[Prefs]) -> bool
     ensures { IsTrue result ↔ IsContest (contest_for candidates.now seats papers.now) }
@@ -73,7 +73,7 @@ pub fn can_be_counted(candidates: &Columns, seats: u8, papers: &[Prefs]) -> bool
     are_for_candidates(candidates, papers)
 }
 
-/// The same for the papers of bundles, which are at most `MAX_PAPERS`: each list is checked once.
+/// Returns whether a count can be held on the papers of bundles, which are at most `MAX_PAPERS`. Checks each list once.
 #[tactic(auto, using(crate::proofs::ContestLemmas::contests))]
 pub fn bundles_can_be_counted(candidates: &Columns, seats: u8, bundles: &Bundles) -> bool
     ensures { IsTrue result ↔ IsContest (contest_for candidates.now seats (papers_of bundles.now)) }

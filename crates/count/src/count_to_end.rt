@@ -17,20 +17,20 @@ use std::alloc::AllocError;
 pub enum CountEnd {
     /// No vacancy remains ("Filling of last vacancies").
     Finished,
-    /// A lot is needed for this stage, counted from 1, among these candidates, and none is recorded.
+    /// A lot is needed among the candidates in `among` for stage `stage`, counted from 1, and none is recorded.
     LotNeeded { stage: u8, among: Columns },
-    /// A lot is needed for this stage, counted from 1, and the recorded one isn't for any of the tied candidates.
+    /// A lot is needed for stage `stage`, counted from 1, but the recorded one names none of the tied candidates.
     LotNotAmong { stage: u8 },
 }
 
-/// Returns the candidate that the lot for a stage names.
+/// Returns the candidate that the lot for the given stage names.
 pub fn lot_at(lots: &[(u8, u8)], stage: u8) -> Option<u8>
     ensures { result ≡ lot_for lots.now stage }
 {
     lots.iter().find(|lot| lot.0 == stage).map(|lot| lot.1)
 }
 
-/// Adds the stage due, if there is one.
+/// Adds the stage that is due, if there is one.
 fn advanced<B: CountBook>(book: &mut B, lot: Option<u8>) -> Result<Option<CountEnd>, AllocError>
     requires { refusal lot (due_after (B.contest book.old) (B.history book.old)) ≡ None }
     ensures same { B.contest book.new ≡ B.contest book.old }
@@ -44,7 +44,7 @@ fn advanced<B: CountBook>(book: &mut B, lot: Option<u8>) -> Result<Option<CountE
     }
 }
 
-/// Adds the stage due, or returns the reason why there is none.
+/// Adds the stage that is due, or returns the reason why there is none.
 #[tactic(auto, using(crate::proofs::Law::DueLemmas::due_lot))]
 pub fn step<B: CountBook>(book: &mut B, lots: &[(u8, u8)]) -> Result<Option<CountEnd>, AllocError>
     ensures same { B.contest book.new ≡ B.contest book.old }
@@ -70,12 +70,13 @@ pub fn step<B: CountBook>(book: &mut B, lots: &[(u8, u8)]) -> Result<Option<Coun
     }
 }
 
-/// Adds stages until the count is finished, or an unrecorded lot is needed.
+/// Adds stages until the count is finished or needs a lot that isn't recorded.
 ///
-/// A lot is a pair of a stage, counted from 1, and the candidate that it names. If two are for one stage, the first counts. The stages
-/// so far must be right for these lots. The book then has the whole count: every list of stages that is right for the same lots and
-/// papers, in any order, is a prefix of it, and every complete count equals it. Of two right lists one is a prefix of the other.
-/// If an allocation fails, the book has the stages added so far: they are right, and the earlier ones are a prefix of them.
+/// A lot is a pair of a stage, counted from 1, and the candidate that it names. If two are for the same stage, the first one is
+/// used. The stages so far must be correct for these lots. The book then has the whole count: every list of stages that is correct
+/// for the same lots and papers, in any order, is a prefix of it, and every complete count equals it. Of two correct lists, one is a
+/// prefix of the other. If an allocation fails, the book has the stages added so far: they are correct, and the earlier stages are a
+/// prefix of them.
 #[tactic(auto, using(crate::proofs::Law::RightLemmas::beginnings))]
 pub fn run_count<B: CountBook>(book: &mut B, lots: &[(u8, u8)]) -> Result<CountEnd, AllocError>
     requires { IsRight (B.contest book.old) lots.now (B.history book.old) }

@@ -1,4 +1,4 @@
-//! What is due after some stages.
+//! What is due after given stages.
 
 ghost use Rattle.std.specs.Prelude.{◌≡◌, ℕ, ◌<◌, List, [], length, reverse, IfOk, IfErr, Some};
 ghost use Rattle.count.specs.Law.Count.{due_by};
@@ -15,7 +15,7 @@ use crate::terms::Terms;
 use crate::ties::{highest, lowest};
 use paper::Columns;
 
-/// Returns the exclusion of a candidate.
+/// Returns the exclusion of the given candidate.
 fn exclusion(terms: &Terms, stages: &[Stage], c: u8) -> Action
     ensures { result ≡ exclusion_of (contest_of terms.now []) (reverse stages.now) c }
 {
@@ -25,7 +25,7 @@ fn exclusion(terms: &Terms, stages: &[Stage], c: u8) -> Action
     Action::Exclude(c)
 }
 
-/// Returns the action on a candidate, by what the group was chosen for.
+/// Returns the action on the given candidate, depending on why the group was chosen.
 fn action_on(terms: &Terms, stages: &[Stage], kind: TiedFor, c: u8) -> Action
     ensures { result ≡ action_on_of (contest_of terms.now []) (reverse stages.now) kind c }
 {
@@ -35,7 +35,7 @@ fn action_on(terms: &Terms, stages: &[Stage], kind: TiedFor, c: u8) -> Action
     }
 }
 
-/// Returns the action on the only candidate of a group, otherwise a lot among its members.
+/// Returns the action on the only candidate of a group, or otherwise a lot among its members.
 #[tactic(auto, using(crate::proofs::Law::DueLemmas::among_sizes))]
 fn among(terms: &Terms, stages: &[Stage], kind: TiedFor, group: &Columns) -> Due
     requires few { length stages.now < 255 }
@@ -51,7 +51,7 @@ fn among(terms: &Terms, stages: &[Stage], kind: TiedFor, group: &Columns) -> Due
     }
 }
 
-/// Returns what is due while vacancies remain, if this group has surpluses.
+/// Returns what is due while vacancies remain, given the group of candidates with a surplus.
 #[tactic(auto, using(crate::proofs::Law::DueLemmas::due_sizes))]
 fn due_for(terms: &Terms, stages: &[Stage], group: &Columns) -> Due
     requires few { length stages.now < 255 }
@@ -64,7 +64,7 @@ fn due_for(terms: &Terms, stages: &[Stage], group: &Columns) -> Due
     among(terms, stages, TiedFor::Surplus, &highest(stages, group))
 }
 
-/// Returns what is due after some stages. Independent of the papers, which aren't read.
+/// Returns what is due after the given stages. Doesn't read the papers.
 pub fn due(terms: &Terms, stages: &[Stage]) -> Due
     requires few { length stages.now < 255 }
     ensures { (papers : List (List ℕ)) → result ≡ due_after (contest_of terms.now papers) (reverse stages.now) }
@@ -81,14 +81,14 @@ pub fn due(terms: &Terms, stages: &[Stage]) -> Due
     }
 }
 
-/// Returns the elected candidates. Independent of the papers, which aren't read.
+/// Returns the elected candidates. Doesn't read the papers.
 pub fn elected_with(terms: &Terms, stages: &[Stage]) -> Columns
     ensures { (papers : List (List ℕ)) → result ≡ elected_after (contest_of terms.now papers) (reverse stages.now) }
 {
     elected(terms, stages)
 }
 
-/// Returns the action due, with this lot. Independent of the papers, which aren't read.
+/// Returns the action that is due, given the lot. Doesn't read the papers.
 pub fn action_by(terms: &Terms, stages: &[Stage], lot: Option<u8>) -> Result<Action, AdvanceError>
     requires few { length stages.now < 255 }
     ensures ok { IfOk result (λ a. (papers : List (List ℕ)) → drawn (contest_of terms.now papers) (reverse stages.now) lot (due_after (contest_of terms.now papers) (reverse stages.now)) ≡ Some a) }
@@ -109,7 +109,7 @@ pub fn action_by(terms: &Terms, stages: &[Stage], lot: Option<u8>) -> Result<Act
     }
 }
 
-/// Returns the next action by the recorded lots, if there is one. Independent of the papers, which aren't read.
+/// Returns the next action with the recorded lots, if there is one. Doesn't read the papers.
 #[tactic(auto, using(crate::proofs::Law::CountLemmas::refused_none))]
 pub fn next_action(terms: &Terms, stages: &[Stage], lots: &[(u8, u8)]) -> Option<Action>
     requires few { length stages.now < 255 }
@@ -121,7 +121,7 @@ pub fn next_action(terms: &Terms, stages: &[Stage], lots: &[(u8, u8)]) -> Option
     }
 }
 
-/// Returns what is due by the recorded lots. Independent of the papers, which aren't read.
+/// Returns what is due, given the recorded lots. Doesn't read the papers.
 pub fn due_with(terms: &Terms, stages: &[Stage], lots: &[(u8, u8)]) -> Due
     requires few { length stages.now < 255 }
     ensures { (papers : List (List ℕ)) → result ≡ due_by (contest_of terms.now papers) lots.now (reverse stages.now) }

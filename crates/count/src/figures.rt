@@ -1,4 +1,4 @@
-//! The figures that a stage shows, one for each candidate, and parsing stages from them.
+//! The figures that a stage shows, one per candidate, and the parsing of stages from them.
 
 ghost use Rattle.std.specs.Prelude.{◌≡◌, ℕ, ◌+◌, ◌≤◌, [], ◌∷◌, ◌++◌, length, map, reverse, IfOk, IfSome, IsSome, OnOk};
 ghost use Rattle.paper.specs.Columns.{max_candidates};
@@ -14,13 +14,13 @@ use paper::{Columns, MAX_CANDIDATES};
 use std::alloc::{AllocError, Global};
 use votes::Votes;
 
-/// The number of the non-transferable among a stage's figures.
+/// The number for the non-transferable votes among a stage's figures.
 pub const NO_CANDIDATE: u32 = 0;
 
-/// The number of the loss by fractions among a stage's figures.
+/// The number for the loss by fractions among a stage's figures.
 pub const FRACTIONS: u32 = 99;
 
-/// The mark of a continuing candidate, and of figures that aren't a candidate's.
+/// The mark of a continuing candidate, and of figures that don't belong to a candidate.
 const CONTINUING: u32 = 0;
 
 /// The mark of an elected candidate.
@@ -35,12 +35,12 @@ const SURPLUS_NOW: u32 = 3;
 /// The mark of a candidate excluded at this stage, whose papers are transferred.
 const EXCLUDED_NOW: u32 = 4;
 
-/// The mark of a candidate excluded at this stage so that the last vacancies are filled.
+/// The mark of a candidate excluded at this stage to fill the last vacancies.
 const EXCLUDED_LAST: u32 = 5;
 
 /// A figure of a stage: a candidate's votes, in units, and mark. Marks are 0 continuing, 1 elected, 2 excluded earlier, 3 elected
 /// with the surplus transferred at this stage, 4 excluded at this stage with transfer, 5 excluded at this stage without. The
-/// figures of the non-transferable, `NO_CANDIDATE`, and of the loss by fractions, `FRACTIONS`, have mark 0.
+/// figures of the non-transferable votes, `NO_CANDIDATE`, and of the loss by fractions, `FRACTIONS`, have mark 0.
 #[derive(Clone, Copy, PartialEq, Eq)]
 pub struct Figure {
     pub candidate: u32,
@@ -48,14 +48,14 @@ pub struct Figure {
     pub mark: u32,
 }
 
-/// Returns whether a candidate was named as elected at some stage.
+/// Returns whether the given candidate was named as elected at some stage.
 fn is_named(stages: &[Stage], c: u8) -> bool
     ensures { result ≡ is_named_of (reverse stages.now) c }
 {
     stages.iter().any(|stage| stage.elected.has(c))
 }
 
-/// Returns the mark of a candidate at a stage that doesn't act on the candidate.
+/// Returns the mark of the given candidate at a stage that doesn't act on the candidate.
 fn standing_mark(stages: &[Stage], c: u8) -> u32
     ensures { result ≡ standing_mark_of (reverse stages.now) c }
 {
@@ -68,7 +68,8 @@ fn standing_mark(stages: &[Stage], c: u8) -> u32
     CONTINUING
 }
 
-/// Returns the mark of a candidate at the stage of an action: the action's if it is on the candidate, otherwise the other mark.
+/// Returns the mark of the given candidate at the stage of the action: that of the action if it acts on the candidate, otherwise the
+/// other mark.
 fn mark_by(action: &Action, c: u8, other: u32) -> u32
     ensures { result ≡ mark_by_of action.now c other }
 {
@@ -80,7 +81,7 @@ fn mark_by(action: &Action, c: u8, other: u32) -> u32
     }
 }
 
-/// Returns the figure of a candidate at the newest of some stages.
+/// Returns the figure of the given candidate at the newest stage.
 fn figure_of(newest: &Stage, stages: &[Stage], c: u8) -> Figure
     requires some { 1 ≤ c }
     requires few { c ≤ max_candidates }
@@ -93,8 +94,8 @@ fn figure_of(newest: &Stage, stages: &[Stage], c: u8) -> Figure
     }
 }
 
-/// Returns the figures of the last of some stages: of the non-transferable, of each candidate in ascending order, and of the loss by
-/// fractions. Empty if there is no stage. `AllocError` if an allocation fails.
+/// Returns the figures of the last stage: the non-transferable votes, each candidate in ascending order, and the loss by fractions.
+/// Empty if there is no stage. `AllocError` if an allocation fails.
 pub fn figures_of(
     alloc: Global,
     candidates: &Columns,
@@ -122,7 +123,7 @@ pub fn figures_of(
     Ok(figures)
 }
 
-/// Returns whether a mark is that of an elected candidate.
+/// Returns whether the mark is that of an elected candidate.
 fn is_elected_mark(mark: u32) -> bool
     ensures { result ≡ is_elected_mark_of mark }
 {
@@ -143,7 +144,7 @@ fn elected_in(candidates: &Columns, figures: &[Figure]) -> Columns
     chosen
 }
 
-/// Returns the votes of all numbers; none for those that aren't candidates.
+/// Returns the votes for all candidate numbers; 0 for those that no candidate has.
 fn votes_in(candidates: &Columns, figures: &[Figure]) -> [Votes; MAX_CANDIDATES]
     requires { length figures.now ≡ length candidates.now }
     ensures { (f : ℕ → Figure) → figures.now ≡ map f candidates.now → result ≡ votes_shown f candidates.now }
@@ -155,7 +156,7 @@ fn votes_in(candidates: &Columns, figures: &[Figure]) -> [Votes; MAX_CANDIDATES]
     votes
 }
 
-/// Returns the action that a candidate's mark shows, if it shows one.
+/// Returns the action that the candidate's mark shows, if any.
 fn action_by(mark: u32, c: u8) -> Option<Action>
     ensures { result ≡ action_by_mark mark c }
 {
@@ -167,7 +168,7 @@ fn action_by(mark: u32, c: u8) -> Option<Action>
     }
 }
 
-/// Returns the action that the candidates' marks show; if none does, the action of the first stage.
+/// Returns the action that the candidates' marks show, or the action of the first stage if none shows one.
 fn action_in(candidates: &Columns, figures: &[Figure]) -> Action
     requires { length figures.now ≡ length candidates.now }
     ensures { (f : ℕ → Figure) → figures.now ≡ map f candidates.now → result ≡ action_shown f candidates.now }
@@ -181,8 +182,7 @@ fn action_in(candidates: &Columns, figures: &[Figure]) -> Action
     Action::First
 }
 
-/// Appends the stage that its figures show. The elected candidates are those after the earlier stages, and are updated to those
-/// after this one.
+/// Appends the stage that the figures show. Updates the elected candidates from those after the earlier stages to those after this one.
 fn push_stage(
     candidates: &Columns,
     figures: &[Figure],
@@ -201,7 +201,7 @@ fn push_stage(
     stages.push(Stage {
         action: action_in(candidates, shown),
         votes: votes_in(candidates, shown),
-        // the elected stay elected, so those not elected before are newly elected
+        // elected candidates stay elected, so those who weren't elected before are newly elected
         elected: without(&now, elected),
         non_transferable: Votes::from_units(figures[0].units),
         lost: Votes::from_units(figures[last].units),
@@ -210,9 +210,9 @@ fn push_stage(
     Ok(())
 }
 
-/// Returns the stages with these figures, in order. Each stage has two figures more than there are candidates; `None` if there are
-/// too few or too many figures for that. The figures of a count with these candidates yield all its stages. Other figures yield
-/// whatever their marks and units mean. `AllocError` if an allocation fails.
+/// Returns the stages with the given figures, in order. Each stage has one figure per candidate, plus two; `None` if the number of
+/// figures doesn't match this. The figures of a count with these candidates yield all its stages; other figures yield whatever
+/// their marks and units mean. `AllocError` if an allocation fails.
 pub fn stages_of_figures(
     alloc: Global,
     candidates: &Columns,

@@ -1,10 +1,10 @@
 //! The Order's count by the single transferable vote, stage by stage.
 //!
-//! A [`CountBook`] is a count in progress: the stages done, what is [`Due`], and [`CountBook::advance`], which adds the one stage
-//! that is due. [`ParcelBook`] stores the papers in parcels, as a teller does. [`BundleBook`] stores equal papers as one of
-//! [`Bundles`], each [`Placed`] with one holder, and can resume another such count. [`StoredCount`] resumes a stored count, one
-//! stage at a time, wherever it was read from. [`run_count`] counts to the end with the recorded lots, and [`count_to`] counts
-//! a number of stages. [`due_by`] and [`dues_to`] return what is due by those lots.
+//! A [`CountBook`] is a count in progress: the completed stages, what is [`Due`], and [`CountBook::advance`], which adds the one
+//! stage that is due. [`ParcelBook`] stores the papers in parcels, as a teller does. [`BundleBook`] stores equal papers in
+//! [`Bundles`], each [`Placed`] with one holder, and can resume another count in bundles. [`StoredCount`] resumes a stored count
+//! one stage at a time, wherever it was read from. [`run_count`] counts to the end with the recorded lots, and [`count_to`] counts
+//! a given number of stages. [`due_by`] and [`dues_to`] return what is due, given those lots.
 //!
 //! ```text
 //! if can_be_counted(&candidates, seats, &papers) {
@@ -15,12 +15,12 @@
 //! ```
 #![tactic(auto)]
 
-// what a count is held on, and its stages
+// the terms of a count, and its stages
 mod bundles;
 mod contest;
 mod stages;
 mod terms;
-// the Order's rules about stages: who is elected, who is tied, what is due
+// the Order's rules for stages: who is elected, who is tied, what is due
 mod due;
 mod elected;
 mod ties;
@@ -28,14 +28,14 @@ mod ties;
 mod book;
 mod count_to_end;
 mod so_far;
-// papers in parcels, and how they are passed on
+// papers in parcels, and how papers are passed on
 mod moving;
 mod parcel;
 mod sorting_papers;
-// what a stage records of them
+// the figures that a stage records for parcels
 mod parcel_figures;
 mod stage_adding;
-// the book that stores them
+// the book that stores parcels
 mod parcel_act;
 mod parcel_book;
 // bundles of equal papers, their places and worth, and the book that stores them
@@ -46,7 +46,7 @@ mod placed;
 mod places;
 // the figures that a stage shows
 mod figures;
-// a count that resumes from what was stored of it
+// a count that resumes from stored data
 mod stored_count;
 
 pub use book::{AdvanceError, CountBook};

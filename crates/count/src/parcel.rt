@@ -5,7 +5,7 @@ ghost use Rattle.votes.specs.Units.{one_vote};
 
 use votes::Votes;
 
-/// Papers that were received at one value: of each, the preferences from its holder's on.
+/// Papers received at one value: for each, its preferences starting with the one for its holder.
 #[derive(Drop)]
 pub struct Parcel<'a> {
     pub value: Votes,
@@ -13,7 +13,7 @@ pub struct Parcel<'a> {
     ghost small: { value ≤ one_vote },
 }
 
-/// The parcels that one stage brought to a candidate, or to no one if the number is 0.
+/// The parcels that a candidate received at one stage, or that no one holds if the number is 0.
 #[derive(Drop)]
 pub struct Holding<'a> {
     pub holder: u8,

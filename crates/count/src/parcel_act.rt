@@ -1,4 +1,4 @@
-//! Adding the stage of the action due.
+//! Adding the stage of the action that is due.
 
 ghost use Rattle.std.specs.Prelude.{◌≡◌, ℕ, reverse, OnOk, OnErr};
 ghost use Rattle.count.specs.Advance.{Adds, IsDue};
@@ -13,8 +13,8 @@ use crate::terms::Terms;
 use paper::Prefs;
 use std::alloc::{AllocError, Global};
 
-/// Moves the papers as required by the action that is due, and adds its stage. `AllocError` if an allocation fails. All allocations
-/// precede the first move, so holdings and stages are then unchanged.
+/// Moves the papers as the due action requires, and adds its stage. `AllocError` if an allocation fails: since all allocations
+/// precede the first move, holdings and stages are then unchanged.
 pub fn act<'a>(
     alloc: Global,
     terms: &Terms,

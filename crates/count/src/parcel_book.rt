@@ -1,4 +1,4 @@
-//! A count by parcels.
+//! A count in parcels.
 
 ghost use Rattle.std.specs.Prelude.{◌≡◌, [], IfOk};
 ghost use Rattle.count.specs.Law.Contest.{contest_for, IsContest};
@@ -14,8 +14,8 @@ use std::alloc::{AllocError, Global};
 use std::marker::Model;
 use votes::quota;
 
-/// A count whose papers are sorted into parcels, as in "Transfer of ballot papers" and "Exclusion of candidates". Each parcel borrows
-/// preferences, from that for their holder on, at the value at which they were received.
+/// A count whose papers are sorted into parcels, as in "Transfer of ballot papers" and "Exclusion of candidates". A parcel borrows
+/// the preferences of each paper, starting with the one for its holder, and has the value at which they were received.
 #[derive(Drop)]
 pub struct ParcelBook<'a> {
     alloc: Global,
@@ -38,10 +38,10 @@ impl<'a> Model for ParcelBook<'a> {
 }
 
 impl<'a> ParcelBook<'a> {
-    /// Returns a count without stages; `AllocError` if an allocation fails.
+    /// Returns a count before its first stage; `AllocError` if an allocation fails.
     ///
     /// Requires more candidates than seats, 1 to `MAX_SEATS` seats, preferences only for candidates, and at most `MAX_PAPERS` papers;
-    /// `can_be_counted` is the test.
+    /// `can_be_counted` checks this.
     pub fn new(
         alloc: Global,
         candidates: Columns,

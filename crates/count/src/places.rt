@@ -23,7 +23,7 @@ use paper::{MAX_CANDIDATES, Prefs, Standing, available_from};
 use std::alloc::{AllocError, Global};
 use votes::{MAX_PAPERS, ONE_VOTE, Votes};
 
-/// The maximum number of units that can be credited: one vote for each of the maximum number of papers.
+/// The maximum number of units that can be credited: one vote for each of `MAX_PAPERS` papers.
 const MAX_UNITS: u64 = ONE_VOTE * MAX_PAPERS as u64;
 
 /// Returns the places of all bundles before the first stage: no holder, no value. `AllocError` if an allocation fails.
@@ -40,7 +40,7 @@ pub fn no_places(alloc: Global, bundles: &Bundles) -> Result<Vec<Placed>, AllocE
     Ok(none)
 }
 
-/// Returns how many preferences precede the one for a candidate.
+/// Returns the number of preferences before the one for the given candidate.
 fn count_before(preferences: &[u8], c: u8) -> usize
     ensures is { result ≡ prefix_len (λ d. not (d == c)) preferences.now }
     ensures within { result ≤ length preferences.now }
@@ -48,15 +48,15 @@ fn count_before(preferences: &[u8], c: u8) -> usize
     preferences.iter().take_while(|d| **d != c).count()
 }
 
-/// Returns the preferences from the one for a candidate on; empty if there is none.
+/// Returns the preferences starting with the one for the given candidate; empty if there is none.
 fn from_holder<'a>(preferences: &'a [u8], c: u8) -> &'a [u8]
     ensures { result.now ≡ from_first (λ d. d == c) preferences.now }
 {
     &preferences[count_before(preferences, c)..]
 }
 
-/// Returns the new place of equal papers that pass from a candidate, if the candidate holds them: their next available preference, at
-/// the value that a rule makes of theirs. Other papers stay.
+/// Returns the place of equal papers after the given candidate's papers are passed on. If the candidate holds them, they move to
+/// their next available preference, at the value that the rule computes from theirs; otherwise they stay.
 fn passed_place(
     list: &Prefs,
     at: &Placed,
@@ -78,7 +78,7 @@ fn passed_place(
     }
 }
 
-/// Returns the places of all bundles after a candidate's papers are passed on. `AllocError` if an allocation fails.
+/// Returns the places of all bundles after the given candidate's papers are passed on. `AllocError` if an allocation fails.
 fn passed_places(
     alloc: Global,
     bundles: &Bundles,
@@ -104,7 +104,8 @@ fn passed_places(
     Ok(passed)
 }
 
-/// Returns the places of all bundles by first preference, each paper as one vote. `AllocError` if an allocation fails.
+/// Returns the places of all bundles when each is credited to its first preference, one vote per paper. `AllocError` if an
+/// allocation fails.
 fn dealt_places(alloc: Global, bundles: &Bundles) -> Result<Vec<Placed>, AllocError>
     ensures is { IfOk result (λ dealt. dealt.items ≡ first_places bundles.now) }
     ensures sound { IfOk result (λ dealt. AllByRecursion IsSound dealt.items) }
@@ -119,7 +120,7 @@ fn dealt_places(alloc: Global, bundles: &Bundles) -> Result<Vec<Placed>, AllocEr
     Ok(dealt)
 }
 
-/// Returns the share of the votes credited to a candidate that is transferred with the surplus. `None` if the candidate has no more
+/// Returns the share of the candidate's credited votes that is transferred with the surplus. `None` if the candidate has no more
 /// than the quota, or more than one vote for each of `MAX_PAPERS` papers.
 fn share_of(quota: Votes, stages: &[Stage], c: u8) -> Option<TransferRule>
     ensures rule { IfSome result IsTransferRule }
@@ -163,7 +164,7 @@ fn places_by_surplus(
     }
 }
 
-/// Returns the places of all bundles after an action; the old ones are unchanged. `AllocError` if an allocation fails.
+/// Returns the places of all bundles after the given action; the old ones are unchanged. `AllocError` if an allocation fails.
 pub fn moved_places(
     alloc: Global,
     terms: &Terms,

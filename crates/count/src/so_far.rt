@@ -1,4 +1,4 @@
-//! A count up to one of its stages, by the recorded lots.
+//! A count up to one of its stages, with the recorded lots.
 
 ghost use Rattle.std.specs.Prelude.{◌≡◌, ◌+◌, ◌≤◌, ℕ, List, [], map, length, OnOk, OnErr, IfOk};
 ghost use Rattle.std.specs.List.{range_with_len};
@@ -13,7 +13,7 @@ use crate::count_to_end::{lot_at, step};
 use crate::stages::Due;
 use std::alloc::{AllocError, Global};
 
-/// Adds the next stage by the recorded lots, if there is one.
+/// Adds the next stage with the recorded lots, if there is one.
 #[tactic(auto, using(crate::proofs::Law::CountLemmas::stages_next))]
 fn advance_by<B: CountBook>(book: &mut B, lots: &[(u8, u8)]) -> Result<(), AllocError>
     ensures same { B.contest book.new ≡ B.contest book.old }
@@ -24,11 +24,12 @@ fn advance_by<B: CountBook>(book: &mut B, lots: &[(u8, u8)]) -> Result<(), Alloc
     Ok(())
 }
 
-/// Counts a number of stages, or as many as there are: a new book then has those stages of the count.
+/// Counts a given number of stages, or as many as there are: a new book then has those stages of the count.
 ///
-/// A lot is a pair of a stage, counted from 1, and the candidate that it names; if two are for one stage, the first counts. These
-/// stages are right for the lots, and the only right ones; the order of the papers makes no difference. `AllocError` if an
-/// allocation fails; the book then has the stages added so far, at most as many as requested, and they are right.
+/// A lot is a pair of a stage, counted from 1, and the candidate that it names; if two are for the same stage, the first one is
+/// used. These stages are correct for the lots, and the only correct ones; the order of the papers makes no difference.
+/// `AllocError` if an allocation fails; the book then has the stages added so far, at most as many as requested, and they are
+/// correct.
 #[tactic(auto, using(crate::proofs::Law::CountLemmas::stages_counted), unfolding(crate::specs::Law::Count::stages_to))]
 pub fn count_to<B: CountBook>(
     book: &mut B,
@@ -51,8 +52,8 @@ pub fn count_to<B: CountBook>(
     Ok(())
 }
 
-/// Returns what is due by the recorded lots: the next action, otherwise the lot that the count waits for, or nothing. Moves no
-/// paper, and allocates nothing.
+/// Returns what is due, given the recorded lots: the next action, or the lot that the count is waiting for, or nothing. Moves
+/// no paper, and allocates nothing.
 #[tactic(auto, using(crate::proofs::Law::DueLemmas::due_lot, crate::proofs::Law::CountLemmas::due_lots))]
 pub fn due_by<B: CountBook>(book: &B, lots: &[(u8, u8)]) -> Due
     ensures { result ≡ due_by_lots (B.contest book.now) lots.now (B.history book.now) }
@@ -67,9 +68,9 @@ pub fn due_by<B: CountBook>(book: &B, lots: &[(u8, u8)]) -> Due
     }
 }
 
-/// Returns what is due before each of a number of stages, and after them, with any recorded lots; a new book then has those
-/// stages. `AllocError` if an allocation fails; the book then has the stages added so far, at most as many as requested, and they
-/// are right.
+/// Counts a given number of stages with the recorded lots, and returns what is due before each of them and after the last; a new
+/// book then has those stages. A lot is returned as due even if it is recorded. `AllocError` if an allocation fails; the book then
+/// has the stages added so far, at most as many as requested, and they are correct.
 #[tactic(auto, using(crate::proofs::Law::CountLemmas::stages_counted), unfolding(crate::specs::Law::Count::stages_to))]
 pub fn dues_to<B: CountBook>(
     alloc: Global,

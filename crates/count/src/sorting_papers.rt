@@ -1,4 +1,4 @@
-//! Sorting papers to their holders, in parcels of equal value.
+//! Sorting papers by holder, into parcels of equal value.
 
 ghost use Rattle.std.specs.Prelude.{◌≡◌, ℕ, ◌+◌, ◌<◌, ◌≤◌, List, vec_len, OnOk, IfOk};
 ghost use Rattle.std.specs.List.{sum_by};
@@ -15,10 +15,10 @@ use paper::{MAX_CANDIDATES, Prefs, Standing, available_from};
 use std::alloc::{AllocError, Global};
 use votes::{ONE_VOTE, Votes, transfer_value};
 
-/// The number of holders: each number that a candidate can have, and 0 for no one.
+/// The number of holders: each possible candidate number, and 0 for no one.
 pub const HOLDERS: usize = MAX_CANDIDATES + 1;
 
-/// Returns the first of some preferences, or 0.
+/// Returns the first preference, or 0 if there is none.
 pub fn first_preference(rest: &[u8]) -> u8
     ensures { result ≡ first_of rest.now }
 {
@@ -28,7 +28,7 @@ pub fn first_preference(rest: &[u8]) -> u8
     }
 }
 
-/// Returns empty holdings for no one and for each number.
+/// Returns empty holdings: one for no one, and one for each number.
 fn empty_holdings<'a>(alloc: Global) -> Result<Vec<Holding<'a>>, AllocError>
     ensures len { IfOk result (λ holdings. vec_len holdings ≡ holder_count) }
     ensures numbered { IfOk result (λ holdings. AreNumbered 0 holdings.items) }
@@ -44,7 +44,7 @@ fn empty_holdings<'a>(alloc: Global) -> Result<Vec<Holding<'a>>, AllocError>
     Ok(holdings)
 }
 
-/// Starts a parcel with one paper.
+/// Starts a parcel with the given paper.
 fn start_parcel<'a>(
     alloc: Global,
     parcels: &mut Vec<Parcel<'a>>,
@@ -60,7 +60,7 @@ fn start_parcel<'a>(
     Ok(())
 }
 
-/// Adds a paper to the last parcel if that has its value, otherwise to a new one.
+/// Adds a paper to the last parcel if it has the same value, otherwise to a new parcel.
 fn add_paper<'a>(
     alloc: Global,
     parcels: &mut Vec<Parcel<'a>>,
@@ -82,7 +82,7 @@ fn add_paper<'a>(
     Ok(())
 }
 
-/// Credits a paper to the holder of its first preference, or to no one.
+/// Credits a paper to the candidate who is its first preference, or to no one.
 fn give<'a>(
     alloc: Global,
     holdings: &mut Vec<Holding<'a>>,
@@ -102,7 +102,7 @@ fn give<'a>(
     Ok(())
 }
 
-/// Passes papers on to their next available preferences, at a value.
+/// Passes papers on to their next available preferences, at the given value.
 #[tactic(auto, using(crate::proofs::ParcelTotals::known_holders))]
 fn pass_papers<'a>(
     alloc: Global,
@@ -162,7 +162,7 @@ fn pass_parcels<'a>(
     Ok(())
 }
 
-/// Returns the holdings of a candidate's papers after they are passed on.
+/// Returns the holdings of the given candidate's papers after they are passed on.
 pub fn pass_on<'a>(
     alloc: Global,
     holdings: &[Holding<'a>],
@@ -183,7 +183,7 @@ pub fn pass_on<'a>(
     Ok(moved)
 }
 
-/// Returns the holdings by first preference, each paper as one vote.
+/// Returns the holdings when each paper is credited to its first preference, as one vote.
 #[tactic(auto, using(crate::proofs::FirstLemmas::first_facts))]
 pub fn first_holdings<'a>(
     alloc: Global,

@@ -4,7 +4,7 @@ use paper::{Columns, MAX_CANDIDATES};
 use std::fmt;
 use votes::Votes;
 
-/// What is done at a stage; candidates are identified by their numbers, 1 to `MAX_CANDIDATES`.
+/// The action of a stage; candidates are identified by their numbers, 1 to `MAX_CANDIDATES`.
 #[derive(Clone, Copy, Debug, PartialEq, Eq)]
 pub enum Action {
     /// Each paper is credited to its first preference, as one vote ("Transfer of ballot papers").
@@ -13,8 +13,7 @@ pub enum Action {
     Surplus(u8),
     /// A candidate is excluded, and the candidate's papers are transferred ("Exclusion of candidates").
     Exclude(u8),
-    /// A candidate is excluded so that the last vacancies are filled; nothing is transferred
-    /// ("Filling of last vacancies").
+    /// A candidate is excluded to fill the last vacancies; nothing is transferred ("Filling of last vacancies").
     ExcludeLast(u8),
 }
 
@@ -34,23 +33,23 @@ impl fmt::Display for Action {
     }
 }
 
-/// A stage that is done: its action, and the resulting figures.
+/// A completed stage: its action, and the resulting figures.
 #[derive(Clone, Copy, Debug, PartialEq, Eq)]
 pub struct Stage {
     pub action: Action,
-    /// The votes of candidate c at index c - 1 ("Transfer of ballot papers"), at most one for each paper, and 0 for numbers that
-    /// aren't candidates.
+    /// The votes of candidate c at index c - 1 ("Transfer of ballot papers"), at most one per paper, and 0 for numbers that aren't
+    /// candidates.
     pub votes: [Votes; MAX_CANDIDATES],
     /// The candidates newly elected at this stage ("Quota"; "Filling of last vacancies").
     pub elected: Columns,
-    /// The values of the papers without a next preference, for all stages up to this one ("Transfer of ballot papers"), at most one
-    /// vote for each paper.
+    /// The total value of the papers without a next preference, over all stages up to this one ("Transfer of ballot papers"), at
+    /// most one vote per paper.
     pub non_transferable: Votes,
-    /// The loss by fractions on surpluses, for all stages up to this one ("Transfer values"), at most one vote for each paper.
+    /// The loss by fractions on surpluses, over all stages up to this one ("Transfer values"), at most one vote per paper.
     pub lost: Votes,
 }
 
-/// What candidates are tied for.
+/// The kind of tie between candidates.
 #[derive(Clone, Copy, PartialEq, Eq)]
 pub enum TiedFor {
     /// Equal highest surpluses ("Transfer of ballot papers").
@@ -59,13 +58,13 @@ pub enum TiedFor {
     Exclusion,
 }
 
-/// What is due next in a count.
+/// The next step of a count.
 #[derive(Clone, Copy, PartialEq, Eq)]
 pub enum Due {
     /// An action is due.
     Act(Action),
-    /// A lot must be drawn for this stage, counted from 1, among two or more candidates whose votes were equal at all stages
-    /// ("Transfer of ballot papers"; "Exclusion of candidates").
+    /// A lot must be drawn for stage `stage`, counted from 1, among two or more candidates whose votes were equal at all
+    /// stages ("Transfer of ballot papers"; "Exclusion of candidates").
     Lot {
         stage: u8,
         kind: TiedFor,

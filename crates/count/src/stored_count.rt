@@ -1,4 +1,4 @@
-//! A count that resumes from what was stored of it.
+//! A count that resumes from stored data.
 
 ghost use Rattle.std.specs.Prelude.{◌≡◌, ◌+◌, ◌*◌, ◌<◌, ◌≤◌, ◌↔◌, [], reverse, length, IfOk, IfSome, IsSome, IsTrue};
 ghost use Rattle.std.specs.List.{AllByRecursion};
@@ -25,18 +25,18 @@ use std::alloc::{AllocError, Global};
 use std::marker::Model;
 use votes::ONE_VOTE;
 
-/// The outcome of one more stage.
+/// The outcome of adding a stage.
 #[derive(Drop)]
 pub struct NextStage {
-    /// The place of each bundle after it, in the order of the bundles.
+    /// The place of each bundle after the stage, in the order of the bundles.
     pub places: Vec<Placed>,
     /// All stages, the new one last.
     pub stages: Vec<Stage>,
 }
 
-/// A stored count, from which counting resumes: its bundles, their places, and the stages so far. No stage is counted again. What
-/// was read from storage may be anything if the storage is faulty, so only its ranges are required, and these are checked. The
-/// results are right if the stored data is that of a count.
+/// A stored count, from which counting resumes: its bundles, their places, and the stages so far. No stage is counted again. Faulty
+/// storage may return anything, so only the ranges of the stored data are required, and these are checked. The results are correct
+/// if the stored data is that of a count.
 #[derive(Drop)]
 pub struct StoredCount {
     terms: Terms,
@@ -57,7 +57,7 @@ impl Model for StoredCount {
 }
 
 impl StoredCount {
-    /// Returns a count before its first stage: its bundles have no holder and no value. `AllocError` if an allocation fails.
+    /// Returns a count before its first stage, in which the bundles have no holder and no value.
     pub fn begin(
         alloc: Global,
         candidates: Columns,
@@ -76,8 +76,9 @@ impl StoredCount {
         })
     }
 
-    /// Returns a stored count; `None` if it is out of the range of any count. It then has more stages than a count can have, a holder
-    /// above `MAX_CANDIDATES`, a value above one vote, or a loss at the newest stage above one vote per paper. Allocates nothing.
+    /// Returns a stored count, or `None` if its data is out of range for any count. This means more stages than a count can have, a
+    /// holder above `MAX_CANDIDATES`, a value above one vote, or a loss at the newest stage above one vote per paper. Allocates
+    /// nothing.
     pub fn resume(
         candidates: Columns,
         seats: u8,
@@ -129,7 +130,7 @@ impl StoredCount {
         &self.stages
     }
 
-    /// Returns what is due by the recorded lots: the next action, otherwise the lot that the count waits for, or nothing.
+    /// Returns what is due given the recorded lots: the next action, or the lot that the count is waiting for, or nothing.
     pub fn due_by(&self, lots: &[(u8, u8)]) -> Due
         ensures { (contest : Contest) (history : History) → IsStoredCountOf contest history self.now → result ≡ due_by_lots contest lots.now history }
     {
@@ -143,8 +144,8 @@ impl StoredCount {
         elected_with(&self.terms, &self.stages)
     }
 
-    /// Returns the outcome of the stage that is due by the recorded lots. That stage is the only one that can follow. `None` exactly
-    /// if no action is due. `AllocError` if an allocation fails.
+    /// Returns the outcome of the stage that is due given the recorded lots. That stage is the only one that can follow. `None`
+    /// if and only if no action is due. `AllocError` if an allocation fails.
     pub fn next_stage(
         &self,
         alloc: Global,
@@ -171,7 +172,7 @@ impl StoredCount {
     }
 }
 
-/// Returns whether the holder is a number that a candidate can have, or 0, and the value is at most one vote.
+/// Returns whether the holder is a possible candidate number or 0, and the value is at most one vote.
 fn is_sound(at: &Placed) -> bool
     ensures { IsTrue result ↔ IsSound at.now }
 {
@@ -190,8 +191,8 @@ fn are_sound(places: &[Placed]) -> bool
     true
 }
 
-/// Returns whether stored data is in the range of a count with these candidates and bundles: its places are sound, there are no
-/// more stages than possible, and no more is lost than one vote per paper.
+/// Returns whether stored data is in range for a count with the given candidates and bundles: its places are sound, there are no
+/// more stages than possible, and the loss is at most one vote per paper.
 fn is_in_range(candidates: &Columns, bundles: &Bundles, places: &[Placed], stages: &[Stage]) -> bool
     ensures sound { IsTrue result → AllByRecursion IsSound places.now }
     ensures few { IsTrue result → length stages.now < 255 }

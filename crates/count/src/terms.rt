@@ -1,4 +1,4 @@
-//! What a count is held on.
+//! The terms of a count.
 
 ghost use Rattle.std.specs.Prelude.{◌≡◌, ◌<◌};
 ghost use Rattle.count.specs.Bundles.{papers_of, AreBundles};
@@ -17,7 +17,7 @@ pub struct Terms {
     pub quota: Votes,
 }
 
-/// Returns the terms of a contest on the papers of bundles. For a number of seats that no contest has, the quota is that of the
+/// Returns the terms of a contest with the papers of bundles. If no contest has this number of seats, the quota is that for the
 /// nearest possible number.
 pub fn terms_on(candidates: Columns, seats: u8, bundles: &Bundles) -> Terms
     ensures candidates { result.candidates ≡ candidates }

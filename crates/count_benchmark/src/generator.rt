@@ -13,7 +13,7 @@ impl Generator {
         Generator { state: 2463534242 }
     }
 
-    /// Returns a number below a bound.
+    /// Returns a number below the given bound.
     pub fn below(&mut self, bound: u32) -> u32
         requires { 0 < bound }
         ensures { result < bound }
@@ -24,7 +24,7 @@ impl Generator {
         self.state % bound
     }
 
-    /// Returns the numbers 1 to 10 in some order, and how many of them a paper lists.
+    /// Returns the numbers 1 to 10 in random order, and how many of them a paper lists.
     pub fn next_paper(&mut self) -> ([u8; 10], usize)
         ensures { result.1 ≤ 10 }
     {

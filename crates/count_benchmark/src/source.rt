@@ -4,21 +4,21 @@ use crate::generator::Generator;
 use paper::Prefs;
 use std::alloc::{AllocError, Global};
 
-/// A source of papers: made up independently, or drawn from some lists.
+/// A source of papers, which are either generated independently or drawn from a fixed number of lists.
 #[derive(Drop)]
 pub struct PaperSource {
     generator: Generator,
     lists: Vec<Prefs>,
 }
 
-/// Returns a paper made up by a generator.
+/// Returns a generated paper.
 fn made_up(generator: &mut Generator) -> Option<Prefs> {
     let (order, len) = generator.next_paper();
     Prefs::from_slice(&order[..len])
 }
 
 impl PaperSource {
-    /// Returns a source that draws from a number of lists; if that is 0, every paper is made up.
+    /// Returns a source that draws from the given number of lists; if the number is 0, every paper is generated.
     pub fn new(alloc: Global, lists: u32) -> Result<PaperSource, AllocError> {
         let mut generator = Generator::new();
         let mut made = Vec::new(alloc);

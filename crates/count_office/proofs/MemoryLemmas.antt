@@ -1,4 +1,4 @@
--- A database in memory alone: reads return what was written, and it is empty at first.
+-- A database that exists only in memory: reads return what was written, and it is empty at first.
 use Rattle.std.proofs.Common.{◌≡◌, refl}
 use Rattle.sqlite_trees.specs.View.{doubt}
 use Rattle.sqlite_trees.specs.declared.memory.MemStore.{MemStore}

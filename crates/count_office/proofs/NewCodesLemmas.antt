@@ -1,4 +1,4 @@
--- What is printed of the order for new codes.
+-- What the order for new codes prints.
 use Rattle.std.proofs.Common.{◌≡◌, ◌+◌, ◌-◌, Bool, [], None, Option, Some, ap, inl, inr, refl, subst, ℕ}
 use Rattle.codes.specs.Making.{ClerksEntry}
 use Rattle.codes.specs.declared.fault.CodesError.{CodesError}
@@ -8,12 +8,12 @@ use Rattle.desk.specs.Pages.{Outputs, Page, Shows, Tells, codes_page}
 use Rattle.count_office.specs.NewCodes.{IsPageOfNewCodes, made_page}
 use Rattle.count_office.specs.Serving.{untaken}
 
--- a page that was shown, and is one of the order, is told
+-- the page that was printed is the order's, if it is one of the pages that the order may print
 pub told_as : (old new : Outputs) (status : ℕ) (named : Option ClerksEntry) (with_office : Bool) (page : Page) → Shows old new page status → IsPageOfNewCodes named with_office page
     → Tells old new status (λ _ page. IsPageOfNewCodes named with_office page)
 told_as old new status named with_office page shown is = record { page = page; cut = shown.0; shown = shown.1; is = is }
 
--- why there are none goes to the error output alone
+-- the reason why there are no codes is printed only to the error output
 pub untaken_silent : (why : CodesError) → (untaken why).out ≡ []
 untaken_silent codes_error.Memory = refl
 untaken_silent (codes_error.Fault fault) = refl
@@ -22,7 +22,7 @@ untaken_silent (codes_error.Fault fault) = refl
 pub none_named : (named : Option ClerksEntry) (with_office : Bool) → None ≡ named → IsPageOfNewCodes named with_office (codes_page NoClerks)
 none_named named with_office is = subst (λ (n : Option ClerksEntry). IsPageOfNewCodes n with_office (codes_page NoClerks)) is refl
 
--- codes were made for as many clerks as are named
+-- codes were made for all of the clerks named
 pub made_for : (named : Option ClerksEntry) (clerks : ClerksEntry) (with_office : Bool) (count : ℕ) → Some clerks ≡ named → count ≡ clerks.last + 1 - clerks.first
     → IsPageOfNewCodes named with_office (made_page with_office count)
 made_for named clerks with_office count is counted =

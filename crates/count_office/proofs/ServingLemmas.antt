@@ -1,4 +1,4 @@
--- The outcome of the order to serve, once its office was opened.
+-- The outcome of the order to serve, after its office was opened.
 use Rattle.std.proofs.Common.{◌≡◌, ◌∙◌, ◌⊎◌, ap, inl, inr, refl, subst, sym, ℕ, List}
 use Rattle.std.specs.Prelude.{Bool, IfSome, Option, Result, option_map}
 use Rattle.sqlite.specs.Held.{Held}
@@ -6,38 +6,45 @@ use Rattle.sqlite.specs.State.{State}
 use Rattle.connections.specs.Streams.{Stream}
 use Rattle.connections.specs.Tables.{NetworkEntry}
 use Rattle.office.specs.Values.{OfficeValue}
-use Rattle.wire.specs.Origins.{given_by}
+use Rattle.wire.specs.Gates.{PublicEntry}
+use Rattle.wire.specs.Origins.{origin_setting}
 use Rattle.desk.specs.declared.lines.Failure.{Failure}
 use Rattle.server.specs.Settings.{ServerSettingsEntry}
 use Rattle.server.specs.declared.serve_error.ServeError.{ServeError}
 use Rattle.server.specs.declared.server_settings.FileNumbers.{FileNumbers}
 use Rattle.count_office.specs.Hosts.{CodeFiles}
-use Rattle.count_office.specs.Serving.{IsGateFor, AreSettingsFor, IsOpenedFrom, IsServed, IsShut, IsElsewhereSame, MayServe, ServesAtNetwork, TellsOutcome, gate_at, settings_with, outcome_by, path_in}
+use Rattle.count_office.specs.Serving.{IsGateFor, AreSettingsFor, IsOpenedFrom, IsServed, IsShut, IsElsewhereSame, MayServe, ServesAtNetwork, TellsOutcome, gate_at, settings_with}
+use Rattle.count_office.specs.Serving.{outcome_by, path_in, public_in}
 use Rattle.count_office.specs.declared.gate.GateFiles.{GateFiles}
 use Rattle.count_office.specs.declared.serving.Serving.{Serving}
 
--- the settings have the origin, the gate and a file
+-- the settings consist of the given origin, gate and file, and of what is shown in public
 abbrev pub IsGivenBy : Serving → Option GateFiles → Option FileNumbers → ServerSettingsEntry → Type 0
 IsGivenBy serving gate_files numbers settings =
-    (settings ≡ settings_with (given_by serving.origin) (option_map gate_at gate_files) settings.file settings.whole) × IfSome numbers (λ known. settings.file ≡ known)
+    (settings ≡ settings_with (origin_setting serving.origin) (option_map gate_at gate_files) (public_in serving) settings.file settings.whole) × IfSome numbers (λ known. settings.file ≡ known)
 
 given_for : (serving : Serving) (codes_at : CodeFiles) (gate_files : Option GateFiles) (numbers : Option FileNumbers) (settings : ServerSettingsEntry)
     → IsGateFor codes_at (path_in serving) (option_map gate_at gate_files) → IsGivenBy serving gate_files numbers settings → AreSettingsFor serving codes_at numbers settings
 given_for serving codes_at gate_files numbers settings gate (is, file) = record {
   origin = ap (λ (g : ServerSettingsEntry). g.clients.origin) is;
   gate = subst (IsGateFor codes_at (path_in serving)) (sym (ap (λ (g : ServerSettingsEntry). g.clients.gate) is)) gate;
+  public = ap (λ (g : ServerSettingsEntry). g.clients.public) is;
   file = file;
 }
 
 -- the office was served on a network that was opened on a port and closed again
-pub served_on : {L S : Type 0} (serving : Serving) (gate_files : Option GateFiles) (numbers : Option FileNumbers) (file : FileNumbers) (whole : Option Bool)
+pub served_on : {L S : Type 0} (serving : Serving) (gate_files : Option GateFiles) (public : Option PublicEntry) (numbers : Option FileNumbers) (file : FileNumbers) (whole : Option Bool)
     (stream : Stream L) (state_of : Held S → State)
     (before opened later : ℕ → NetworkEntry L) (first last : NetworkEntry L) (old new : OfficeValue S) (ends : Result (Unit {0}) ServeError)
     → opened ≡ before → first ≡ before serving.port → later serving.port ≡ last → IsElsewhereSame serving.port opened later → IfSome numbers (λ known. file ≡ known)
-    → ServesAtNetwork (settings_with (given_by serving.origin) (option_map gate_at gate_files) file whole) stream state_of first last serving.connections old new ends
+    → public ≡ public_in serving
+    → ServesAtNetwork (settings_with (origin_setting serving.origin) (option_map gate_at gate_files) public file whole) stream state_of first last serving.connections old new ends
     → MayServe (IsGivenBy serving gate_files numbers) stream state_of serving.port before later serving.connections old new (outcome_by ends)
-served_on serving gate_files numbers file whole stream state_of before opened later first last old new ends same began closed elsewhere is_file served =
-    let settings = settings_with (given_by serving.origin) (option_map gate_at gate_files) file whole in
+served_on serving gate_files public numbers file whole stream state_of before opened later first last old new ends same began closed elsewhere is_file shown given =
+    let settings = settings_with (origin_setting serving.origin) (option_map gate_at gate_files) (public_in serving) file whole in
+    let by = λ (its : Option PublicEntry). ServesAtNetwork (settings_with (origin_setting serving.origin) (option_map gate_at gate_files) its file whole) stream state_of first last serving.connections
+    old new ends in
+    let served = subst by shown given in
     let at = λ (one other : NetworkEntry _). ServesAtNetwork settings stream state_of one other serving.connections old new ends in
     inr (
       settings,

@@ -11,6 +11,7 @@ use Rattle.connections.specs.Streams.{Stream}
 use Rattle.connections.specs.Tables.{NetworkEntry}
 use Rattle.keying_page.specs.Page.{page_text, policy_text}
 use Rattle.console_page.specs.Page.{page_text as console_text, policy_text as console_policy}
+use Rattle.screen_page.specs.Page.{page_text as screen_text, policy_text as screen_policy}
 use Rattle.register.specs.Machine.{after}
 use Rattle.register.specs.Offices.{OfficeState, empty_office}
 use Rattle.register.specs.declared.command.Request.{Request}
@@ -19,11 +20,11 @@ use Rattle.tables.specs.Presence.{IsOurs}
 use Rattle.tables.specs.Reading.{FailsBy, OnlyReads}
 use Rattle.tables.specs.declared.fault.Fault.{Fault}
 use Rattle.tables.specs.declared.fault.Fault.TheVariants as fault
-use Rattle.store.specs.Openings.{IsLeftAt, IsToldBy}
+use Rattle.store.specs.Openings.{IsLeftAt, IsFaultOf}
 use Rattle.office.specs.Answers.{IsOpenAt}
 use Rattle.office.specs.Values.{OfficeValue}
-use Rattle.wire.specs.Gates.{GateEntry, PageEntry}
-use Rattle.wire.specs.Origins.{given_by}
+use Rattle.wire.specs.Gates.{GateEntry, PageEntry, PublicEntry, public_entry}
+use Rattle.wire.specs.Origins.{origin_setting}
 use Rattle.desk.specs.Pages.{Page, codes_page, failed}
 use Rattle.desk.specs.declared.lines.Failure.{Failure}
 use Rattle.desk.specs.declared.lines.Failure.TheVariants.{Office, Output}
@@ -35,12 +36,13 @@ use Rattle.server.specs.declared.serve_error.ServeError.TheVariants as ended
 use Rattle.server.specs.declared.server_settings.FileNumbers.{FileNumbers}
 use Rattle.count_office.specs.Hosts.{CodeFiles, IsReadAs}
 use Rattle.count_office.specs.declared.gate.GateFiles.{GateFiles}
+use Rattle.count_office.specs.declared.public.PublicTexts.{PublicTexts}
 use Rattle.count_office.specs.declared.serving.Serving.{Serving}
 use Rattle.count_office.specs.declared.serving.ServeSettings.{ServeSettings}
 
 -- ---- the settings of the office
 
--- a gate of codes, of the page on which clerks key, and of the console
+-- a gate with the given codes, the page on which clerks key, and the console
 abbrev pub gate_with : Codes → PageEntry → PageEntry → GateEntry
 gate_with own page console = record { holders = holders_of own; page = page; office = office_of own; console = console }
 
@@ -48,19 +50,19 @@ gate_with own page console = record { holders = holders_of own; page = page; off
 abbrev pub page_with : List ℕ → List ℕ → PageEntry
 page_with text policy = record { text = text; policy = policy }
 
--- the gate of these files
+-- the gate made from the given files
 abbrev pub gate_at : GateFiles → GateEntry
 gate_at gate_files =
     gate_with gate_files.codes (page_with (string_bytes gate_files.page) (string_bytes gate_files.policy))
     (page_with (string_bytes gate_files.console) (string_bytes gate_files.console_policy))
 
--- The gate: none if no file of codes is named; else the codes that were read at its path, with the page on which clerks key, and the officer's console.
+-- The gate: none if no file of codes is named; otherwise the codes that were read from that file, the page on which clerks key, and the officer's console.
 abbrev pub IsGateFor : CodeFiles → Option (List ℕ) → Option GateEntry → Type 0
 IsGateFor codes_at None gate = gate ≡ None
 IsGateFor codes_at (Some path) gate = (own : Codes) × IsReadAs (codes_at path) (Ok own)
     × (gate ≡ Some (gate_with own (page_with page_text policy_text) (page_with console_text console_policy)))
 
--- why there is no gate although a file is named: its codes couldn't be read
+-- why there is no gate even though a file is named: its codes couldn't be read
 abbrev pub IsUngated : CodeFiles → Option (List ℕ) → CodesError → Type 0
 IsUngated codes_at None why = ⊥
 IsUngated codes_at (Some path) why = IsReadAs (codes_at path) (Err why)
@@ -69,23 +71,37 @@ IsUngated codes_at (Some path) why = IsReadAs (codes_at path) (Err why)
 abbrev pub path_in : Serving → Option (List ℕ)
 path_in serving = option_map (λ path. path.now) serving.codes
 
--- the settings with an origin, a gate, a file, and whether that file is known to be whole throughout
-abbrev pub settings_with : Option (List ℕ) → Option GateEntry → FileNumbers → Option Bool → ServerSettingsEntry
-settings_with origin gate file whole = record { clients = record { origin = origin; gate = gate }; file = file; whole = whole }
+-- what is shown in public under a given title; the page for the screen in the hall is always the same
+abbrev pub public_with : List ℕ → PublicEntry
+public_with title = record { title = title; screen = page_with screen_text screen_policy }
+
+-- what is shown in public, made from the given texts
+abbrev pub public_at : PublicTexts → PublicEntry
+public_at texts = record { title = texts.title.now; screen = page_with (string_bytes texts.screen) (string_bytes texts.policy) }
+
+-- what the order to serve shows in public: nothing without a title
+abbrev pub public_in : Serving → Option PublicEntry
+public_in serving = option_map (λ title. public_with title.now) serving.public
+
+-- the settings, given an origin, a gate, what is shown in public, a file, and whether that file is permanently known to be whole
+abbrev pub settings_with : Option (List ℕ) → Option GateEntry → Option PublicEntry → FileNumbers → Option Bool → ServerSettingsEntry
+settings_with origin gate public file whole = record { clients = record { origin = origin; gate = gate; public = public }; file = file; whole = whole }
 
 -- the settings of the server
 abbrev pub server_settings_of : ServeSettings → Option Bool → ServerSettingsEntry
-server_settings_of settings whole = settings_with (given_by settings.serving.origin) (option_map gate_at settings.gate_files.now) settings.file whole
+server_settings_of settings whole =
+    settings_with (origin_setting settings.serving.origin) (option_map gate_at settings.gate_files.now) (option_map public_entry settings.public) settings.file whole
 
--- The settings for the order to serve: the origin that it names, the gate for the file of codes that it names, and the file of the office.
+-- The settings for the order to serve: the origin that the order names, the gate for the file of codes that it names, what it shows in public, and the file of the office.
 pub record AreSettingsFor (serving : Serving) (codes_at : CodeFiles) (numbers : Option FileNumbers) (settings : ServerSettingsEntry) : Type 0 where
-  pub origin : settings.clients.origin ≡ given_by serving.origin
+  pub origin : settings.clients.origin ≡ origin_setting serving.origin
   pub gate : IsGateFor codes_at (path_in serving) settings.clients.gate
+  pub public : settings.clients.public ≡ public_in serving
   pub file : IfSome numbers (λ known. settings.file ≡ known)
 
 -- ---- an open office on a network
 
--- An open office was served on a network, with this result.
+-- An open office was served on a network, with the given result.
 pub record ServesAtNetwork {L S : Type 0} (settings : ServerSettingsEntry) (stream : Stream L) (state_of : Held S → State) (before later : NetworkEntry L) (most : Option ℕ)
     (old new : OfficeValue S) (ends : Result (Unit {0}) ServeError) : Type 0 where
   pub serves : ServesConnections settings stream state_of before later most old new ends
@@ -93,7 +109,7 @@ pub record ServesAtNetwork {L S : Type 0} (settings : ServerSettingsEntry) (stre
   pub closed : old.closed ≡ true → new ≡ old
   pub clean : HasCleanDisk (state_of new.held) → HasCleanDisk (state_of old.held)
 
--- the failure that is printed for a result
+-- the failure to print for a result
 abbrev pub failure_by : ServeError → Failure
 failure_by ended.Memory = Office fault.Memory
 failure_by ended.Network = Output
@@ -103,11 +119,12 @@ abbrev pub outcome_by : Result (Unit {0}) ServeError → Result (Unit {0}) Failu
 outcome_by (Ok end) = Ok end
 outcome_by (Err why) = Err (failure_by why)
 
--- on every other port no connection was accepted or closed
+-- no connection was accepted or closed on any other port
 abbrev pub IsElsewhereSame : {L : Type 0} → ℕ → (ℕ → NetworkEntry L) → (ℕ → NetworkEntry L) → Type 0
 IsElsewhereSame port before later = (other : ℕ) → other ≢ port → later other ≡ before other
 
--- The network on a port couldn't be opened: no connection was accepted, and the office is as it was. Or it was served there, with these settings, and on no other port.
+-- The network on a port couldn't be opened, or an allocation failed: no connection was accepted, and the office is as it was. Or the office was served on that port,
+-- with the given settings, and on no other port.
 abbrev pub MayServe : {L S : Type 0} → (ServerSettingsEntry → Type 0) → Stream L → (Held S → State) → ℕ → (ℕ → NetworkEntry L) → (ℕ → NetworkEntry L) → Option ℕ
     → OfficeValue S → OfficeValue S → Result (Unit {0}) Failure → Type 0
 MayServe AreSettings stream state_of port before later most old new outcome =
@@ -117,17 +134,17 @@ MayServe AreSettings stream state_of port before later most old new outcome =
 
 -- ---- the order to serve
 
--- why codes are refused, or not made
+-- why codes were refused or weren't made
 abbrev pub untaken : CodesError → Page
 untaken read_error.Memory = failed (Office fault.Memory)
 untaken (read_error.Fault why) = codes_page why
 
--- what is printed for an outcome on the error output, and the status: nothing and 0, or the failure and 3
+-- what is printed to the error output for an outcome, and the status: nothing and 0, or the failure and 3
 abbrev pub TellsOutcome : (List ℕ → ℕ → ℕ → Type 0) → Type 0 → ℕ → Result (Unit {0}) Failure → Type 0
 TellsOutcome Tells Quiet status (Ok end) = Quiet × (status ≡ 0)
 TellsOutcome Tells Quiet status (Err failure) = Tells (failed failure).err 3 status
 
--- The codes couldn't be read: no connection was accepted, and the one to the database is as it was.
+-- The codes couldn't be read: no connection was accepted, and the connection to the database is unchanged.
 pub record IsUnread {L S : Type 0} (Tells : List ℕ → ℕ → ℕ → Type 0) (status : ℕ) (serving : Serving) (codes_at : CodeFiles) (before later : ℕ → NetworkEntry L) (old new : Held S) : Type 0 where
   pub why : CodesError
   pub unread : IsUngated codes_at (path_in serving) why
@@ -135,22 +152,22 @@ pub record IsUnread {L S : Type 0} (Tells : List ℕ → ℕ → ℕ → Type 0)
   pub nobody : later ≡ before
   pub same : new ≡ old
 
--- The office couldn't be opened: no connection was accepted, and the database is as it was. The fault is one for which an opening fails there.
+-- The office couldn't be opened: no connection was accepted, and the database is unchanged. The fault is one that opening can fail with in that state.
 pub record IsUnopened {L S : Type 0} (Tells : List ℕ → ℕ → ℕ → Type 0) (status : ℕ) (state_of : Held S → State) (before later : ℕ → NetworkEntry L) (old new : Held S) : Type 0 where
   pub why : Fault
   pub told : Tells (failed (Office why)).err 3 status
   pub nobody : later ≡ before
   pub reads : OnlyReads (state_of old) (state_of new)
-  pub is : HasCleanDisk (state_of new) → (db : Database) → IsOurs db.schema → RestsAt db (state_of old) → IsToldBy db why
+  pub is : HasCleanDisk (state_of new) → (db : Database) → IsOurs db.schema → RestsAt db (state_of old) → IsFaultOf db why
   pub cause : HasCleanDisk (state_of new) → (db : Database) → RestsAt db (state_of old) → (s : OfficeState) → IsLeftAt s db → FailsBy (state_of old) (state_of new) why
 
--- The office of this connection was opened, at the state in its database, and nothing changed.
+-- The office on the given connection was opened, in the state that its database had, and nothing changed.
 pub record IsOpenedFrom {S : Type 0} (state_of : Held S → State) (conn : Held S) (office : OfficeValue S) : Type 0 where
   pub is_open : office.closed ≡ false
   pub reads : OnlyReads (state_of conn) (state_of office.held)
   pub at : HasCleanDisk (state_of office.held) → (db : Database) → RestsAt db (state_of conn) → (s : OfficeState) → IsLeftAt s db → IsOpenAt s office.closed (state_of office.held)
 
--- The office was opened, but its network couldn't be: no connection was accepted, and the office is as it was opened.
+-- The office was opened, but its network couldn't be opened: no connection was accepted, and the office is as it was when it was opened.
 pub record IsShut {L S : Type 0} (Tells : List ℕ → ℕ → ℕ → Type 0) (status : ℕ) (state_of : Held S → State) (before later : ℕ → NetworkEntry L) (old new : Held S) : Type 0 where
   pub office : OfficeValue S
   pub opened : IsOpenedFrom state_of old office
@@ -159,8 +176,8 @@ pub record IsShut {L S : Type 0} (Tells : List ℕ → ℕ → ℕ → Type 0) (
   pub nobody : later ≡ before
   pub same : new ≡ office.held
 
--- The office was opened and served on its network, with these settings. If the database had the state after earlier requests, this holds for these and those that
--- arrived.
+-- The office was opened, and served on its network with the given settings. If the database had the state after earlier requests, what is kept of those and of the
+-- requests that arrived is as specified.
 pub record IsServed {L S : Type 0} (Tells : List ℕ → ℕ → ℕ → Type 0) (Quiet : Type 0) (status : ℕ) (AreSettings : ServerSettingsEntry → Type 0) (stream : Stream L) (state_of : Held S → State)
     (port : ℕ) (before later : ℕ → NetworkEntry L) (most : Option ℕ) (old new : Held S) : Type 0 where
   pub office : OfficeValue S

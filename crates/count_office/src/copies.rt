@@ -1,4 +1,4 @@
-//! A copy of the office in new files of this machine, of an office that an order opened or of one that is being served.
+//! Copying an office to new files on this machine: an office opened by an order, or one that is being served.
 
 ghost use Rattle.std.specs.Prelude.{◌≡◌, ◌-◌, ◌^◌, ◌<◌, IsSomeAnd};
 ghost use Rattle.sqlite.specs.Closing.{IsCopied};
@@ -21,7 +21,7 @@ use store::Fault;
 use store::fault::fault_of;
 use streams::Sink;
 
-/// Makes a copy of the office at a path where nothing exists yet. The office is only read.
+/// Makes a copy of the office at a path where nothing exists yet. Only reads the office.
 pub fn copy<S: Alter, O: Sink, E: Sink>(
     rt: &HostRuntime,
     mut conn: Connection<S>,
@@ -33,18 +33,18 @@ pub fn copy<S: Alter, O: Sink, E: Sink>(
     requires err { E.failed err.old < 2 ^ 64 - 1 }
     ensures { OnlyReads (state S.Store conn) (state S.Store result.1) }
 {
-    let fresh = match NewFile::make(rt, path) {
-        Ok(fresh) => fresh,
+    let new_file = match NewFile::make(rt, path) {
+        Ok(new_file) => new_file,
         Err(failure) => return (tell_failure(failure, err), conn),
     };
     match Connection::open_from(rt, path, false, Wary) {
         Ok(made) => {
-            let status = fill(rt, &fresh, &mut conn, made, out, err);
+            let status = fill(rt, &new_file, &mut conn, made, out, err);
             (status, conn)
         }
         Err((error, left)) => {
             if !is_busy(&error) {
-                fresh.clear(rt);
+                new_file.clear(rt);
             }
             drop(left);
             (tell_failure(failure_of(error), err), conn)
@@ -52,7 +52,7 @@ pub fn copy<S: Alter, O: Sink, E: Sink>(
     }
 }
 
-/// Returns the failure that is printed if a copy can't be made; running out of memory is reported as usual.
+/// Returns the failure to print if a copy can't be made. An out-of-memory error is reported as such.
 fn failure_of(error: sqlite::Error) -> Failure {
     match fault_of(error) {
         Fault::Memory => Failure::Office(Fault::Memory),
@@ -60,24 +60,24 @@ fn failure_of(error: sqlite::Error) -> Failure {
     }
 }
 
-/// Returns why no copy is begun in files that were made for it, if none is: another program has meanwhile made an office in them,
-/// which is left there; or they can't be examined.
-fn why_not_begun(rt: &HostRuntime, fresh: &NewFile) -> Option<Failure> {
-    match fresh.hold_none(rt) {
+/// Returns why the copy must not be written to the files that were made for it; `None` if it may be. Either another program has
+/// since made an office in them, which is left there; or the files can't be examined.
+fn why_not_begun(rt: &HostRuntime, new_file: &NewFile) -> Option<Failure> {
+    match new_file.hold_none(rt) {
         Ok(true) => None,
         Ok(false) => Some(Failure::CopyTaken),
         Err(_) => {
-            fresh.clear(rt);
+            new_file.clear(rt);
             Some(Failure::CopyFailed)
         }
     }
 }
 
-/// Closes the files that were made for a copy, according to what they are known to contain. If no copy is reported, they are removed
-/// while they are locked. With status 0 the database file alone is the copy.
+/// Closes the files that were made for a copy, depending on what is known about their contents. If no copy is reported, removes
+/// them while they are still locked. With status 0, the database file alone is the copy.
 fn finish<D: Disk + Drop, E: Sink>(
     rt: &HostRuntime,
-    fresh: &NewFile,
+    new_file: &NewFile,
     made: Connection<FileStore<D>>,
     status: u8,
     state: CopyState,
@@ -89,7 +89,7 @@ fn finish<D: Disk + Drop, E: Sink>(
 {
     match state {
         CopyState::Whole => {}
-        CopyState::Untouched | CopyState::Unknown => fresh.remove(rt),
+        CopyState::Untouched | CopyState::Unknown => new_file.remove(rt),
     }
     if status != 0 {
         let _ = close(made);
@@ -98,10 +98,10 @@ fn finish<D: Disk + Drop, E: Sink>(
     closed_copy(made, err).0
 }
 
-/// Copies the office of an open connection to files that were made for the copy, and closes them.
+/// Copies the office on an open connection to the files that were made for the copy, and closes them.
 fn fill<S: Alter, D: Disk + Drop, O: Sink, E: Sink>(
     rt: &HostRuntime,
-    fresh: &NewFile,
+    new_file: &NewFile,
     conn: &mut Connection<S>,
     mut made: Connection<FileStore<D>>,
     out: &mut O,
@@ -111,17 +111,17 @@ fn fill<S: Alter, D: Disk + Drop, O: Sink, E: Sink>(
     requires err { E.failed err.old < 2 ^ 64 - 1 }
     ensures { OnlyReads (state S.Store conn.old) (state S.Store conn.new) }
 {
-    if let Some(failure) = why_not_begun(rt, fresh) {
+    if let Some(failure) = why_not_begun(rt, new_file) {
         return tell_failure(failure, err);
     }
     let (status, state) = copy_office(rt.alloc(), conn, &mut made, out, err);
-    finish(rt, fresh, made, status, state, err)
+    finish(rt, new_file, made, status, state, err)
 }
 
-/// Copies an open office, which stays open, to files that were made for the copy, and closes them.
+/// Copies an open office, which stays open, to the files that were made for the copy, and closes them.
 fn fill_open<S: Alter, D: Disk + Drop, O: Sink, E: Sink>(
     rt: &HostRuntime,
-    fresh: &NewFile,
+    new_file: &NewFile,
     office: &mut Office<S>,
     mut made: Connection<FileStore<D>>,
     out: &mut O,
@@ -134,14 +134,14 @@ fn fill_open<S: Alter, D: Disk + Drop, O: Sink, E: Sink>(
     ensures stays { WhenOpenAt (state S.Store) office.old office.new (λ s. IsReadAt s office.new.closed (state S.Store office.new.held)) }
     ensures clean { HasCleanDisk (state S.Store office.new.held) → HasCleanDisk (state S.Store office.old.held) }
 {
-    if let Some(failure) = why_not_begun(rt, fresh) {
+    if let Some(failure) = why_not_begun(rt, new_file) {
         return tell_failure(failure, err);
     }
     let (status, state) = copy_open(rt.alloc(), office, &mut made, out, err);
-    finish(rt, fresh, made, status, state, err)
+    finish(rt, new_file, made, status, state, err)
 }
 
-/// Makes a copy of the open office at a path where nothing exists yet. The office stays open, and is only read.
+/// Makes a copy of the open office at a path where nothing exists yet. The office stays open and is only read.
 pub fn copy_served<S: Alter, O: Sink, E: Sink>(
     rt: &HostRuntime,
     office: &mut Office<S>,
@@ -156,15 +156,15 @@ pub fn copy_served<S: Alter, O: Sink, E: Sink>(
     ensures stays { WhenOpenAt (state S.Store) office.old office.new (λ s. IsReadAt s office.new.closed (state S.Store office.new.held)) }
     ensures clean { HasCleanDisk (state S.Store office.new.held) → HasCleanDisk (state S.Store office.old.held) }
 {
-    let fresh = match NewFile::make(rt, path) {
-        Ok(fresh) => fresh,
+    let new_file = match NewFile::make(rt, path) {
+        Ok(new_file) => new_file,
         Err(failure) => return tell_failure(failure, err),
     };
     match Connection::open_from(rt, path, false, Wary) {
-        Ok(made) => fill_open(rt, &fresh, office, made, out, err),
+        Ok(made) => fill_open(rt, &new_file, office, made, out, err),
         Err((error, left)) => {
             if !is_busy(&error) {
-                fresh.clear(rt);
+                new_file.clear(rt);
             }
             drop(left);
             tell_failure(failure_of(error), err)
@@ -172,8 +172,8 @@ pub fn copy_served<S: Alter, O: Sink, E: Sink>(
     }
 }
 
-/// Closes a copy, so that its database file is complete, and returns the status: 0, or 3 if its log can't be copied into it, which is
-/// reported.
+/// Closes a copy, which completes its database file, and returns the status: 0; or 3 if the log can't be copied into the
+/// database file, which is reported.
 fn closed_copy<D: Disk + Drop, E: Sink>(
     made: Connection<FileStore<D>>,
     err: &mut E,

@@ -1,8 +1,9 @@
-//! A database file that this program locks before `sqlite` opens it, and until it is closed.
+//! A database file that this program locks before `sqlite` opens it, and keeps locked until it is closed.
 //!
-//! `sqlite` checks that a file is the one at its path before it takes its own lock, and not again after it. Another program that made
-//! the file, but no office in it, may remove it in between: `sqlite` would then continue in a file without a path. So each order takes
-//! a lock of its own first, and checks the path after it. A program that removes a file holds that lock too.
+//! `sqlite` checks that a file is the one at its path before it takes its own lock, but not again afterwards. In between,
+//! another program that created the file, but no office in it, may remove it. `sqlite` would then continue to use a file
+//! without a path. So each order first takes its own lock, and then checks the path. A program that removes a file also holds
+//! that lock.
 
 use os::RangeLock;
 use std::fs::{self, File, OpenOptions};
@@ -10,48 +11,48 @@ use std::io::{self, ErrorKind};
 use std::os::fd::AsRawFd;
 use std::os::unix::fs::{MetadataExt, OpenOptionsExt};
 
-/// The byte that is locked: the one after those that SQLite locks, on a page that no database uses.
+/// The byte to lock: the one after the bytes that SQLite locks, on a page that no database uses.
 const LOCKED: u64 = (1 << 30) + 512;
 
-/// Files that `sqlite` opens never have the descriptors of the standard streams: one of these may have been closed, and output to it
-/// would be written into the file.
+/// The highest descriptor of the standard streams. Files that `sqlite` opens never get such a descriptor: one of the streams
+/// may have been closed, and output to it would be written to the file.
 const LAST_STREAM: i32 = 2;
 
-/// The file of a database, locked.
+/// The file of a database, locked by this program.
 #[derive(Drop)]
 pub struct FileLock {
     file: File,
 }
 
 impl FileLock {
-    /// Locks the file at a path. An error is that it can't be locked, or that another program has locked it; or that the path no
-    /// longer leads to the file, or another path does too.
+    /// Locks the file at a path. Fails if the file can't be locked, if another program has locked it, if the path no longer
+    /// leads to the file, or if another path leads to it too.
     pub fn take(rt: &HostRuntime, path: &str) -> io::Result<FileLock> {
-        // a pipe or a device isn't opened, since that may block
+        // Pipes and devices aren't opened, because opening them may block.
         if !fs::symlink_metadata(rt, path)?.is_file() {
             return Err(ErrorKind::Unsupported.into());
         }
-        let held = FileLock::opened(rt, path, OpenOptions::new().read(true).write(true))?;
-        held.lock()?;
-        let (own, named) = (held.file.metadata()?, fs::symlink_metadata(rt, path)?);
+        let lock = FileLock::opened(rt, path, OpenOptions::new().read(true).write(true))?;
+        lock.lock()?;
+        let (own, named) = (lock.file.metadata()?, fs::symlink_metadata(rt, path)?);
         if own.dev() == named.dev() && own.ino() == named.ino() && own.nlink() == 1 {
-            Ok(held)
+            Ok(lock)
         } else {
             Err(ErrorKind::Unsupported.into())
         }
     }
 
-    /// Makes a file at a path where nothing exists, not even a link, and locks it. If it can't be locked it is removed, unless another
-    /// program has locked it.
+    /// Creates a file at a path where nothing exists, not even a link, and locks it. If the file can't be locked, it is
+    /// removed, unless another program has locked it.
     pub fn make(rt: &HostRuntime, path: &str, mode: u32) -> io::Result<FileLock> {
         let mut options = OpenOptions::new();
         options.read(true).write(true).create_new(true).mode(mode);
-        let held = FileLock::opened(rt, path, &options)?;
-        match held.lock() {
-            Ok(()) => Ok(held),
+        let lock = FileLock::opened(rt, path, &options)?;
+        match lock.lock() {
+            Ok(()) => Ok(lock),
             Err(error) => {
                 if error.kind() != ErrorKind::WouldBlock {
-                    held.remove_empty(rt, path);
+                    lock.remove_empty(rt, path);
                 }
                 Err(error)
             }
@@ -80,7 +81,7 @@ impl FileLock {
         }
     }
 
-    /// Removes the file from the path where it was made, if it can now be locked and is empty.
+    /// Removes the file from the path where it was created, if it can be locked now and is empty.
     fn remove_empty(&self, rt: &HostRuntime, path: &str) {
         let is_locked_and_empty = self.lock().is_ok()
             && self.file.metadata().is_ok_and(|found| found.len() == 0);

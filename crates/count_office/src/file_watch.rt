@@ -1,11 +1,11 @@
 //! Whether the files of an office that is being served are still at their paths.
 //!
-//! `sqlite` writes through the descriptors that it opened. If a file is removed or replaced, it continues to write into a file without
-//! a path, and everything confirmed from then on is lost once the program ends. The descriptors don't show that, so the paths are
-//! checked.
+//! `sqlite` writes through the descriptors that it opened. If a file is removed or replaced, `sqlite` continues to write to a
+//! file without a path, and everything confirmed after that is lost when the program ends. The descriptors don't reveal this,
+//! so the paths are checked.
 //!
-//! Neither file becomes shorter while the office is served: a checkpoint writes pages into the database and restarts the log in place;
-//! the log is truncated only when the office is opened, and when it is closed.
+//! Neither file gets shorter while the office is served. A checkpoint writes pages into the database, and the log is then
+//! overwritten in place; the log is truncated only when the office is opened and when it is closed.
 
 ghost use Rattle.std.specs.Prelude.{◌≡◌, ◌≤◌, true};
 
@@ -25,7 +25,7 @@ struct Seen {
     length: u64,
 }
 
-/// The database and the log of an open office, as they were last seen.
+/// The database and the log of an open office, as last seen.
 #[derive(Drop)]
 pub struct FileWatch<'a> {
     found: &'a PathState,
@@ -34,7 +34,8 @@ pub struct FileWatch<'a> {
     is_told: Cell<bool>,
 }
 
-/// Returns the file at a path; `None` if there is none, or a link, or it can't be examined.
+/// Returns the identity and the length of the file at a path; `None` if there is no file, if it is a link, or if it can't be
+/// examined.
 fn seen_at(rt: &HostRuntime, path: &str) -> Option<Seen> {
     let found = fs::symlink_metadata(rt, path).ok()?;
     if !found.is_file() {
@@ -47,14 +48,14 @@ fn seen_at(rt: &HostRuntime, path: &str) -> Option<Seen> {
     })
 }
 
-/// Returns whether a file is the one that was seen before, and wasn't truncated.
+/// Returns whether a file is the one seen before and hasn't been truncated.
 fn continues(before: Seen, now: Seen) -> bool
     ensures { result ≡ true → (now.device ≡ before.device) × (now.inode ≡ before.inode) × (before.length ≤ now.length) }
 {
     now.device == before.device && now.inode == before.inode && now.length >= before.length
 }
 
-/// Checks again whether the file at a path is the one that was last seen there, and wasn't truncated.
+/// Checks again whether the file at a path is the one last seen there and hasn't been truncated.
 fn is_still_at(rt: &HostRuntime, path: &str, last: &Cell<Seen>) -> bool {
     let Some(now) = seen_at(rt, path) else {
         return false;
@@ -67,11 +68,12 @@ fn is_still_at(rt: &HostRuntime, path: &str, last: &Cell<Seen>) -> bool {
 }
 
 impl<'a> FileWatch<'a> {
-    /// Returns the files of an office that was just opened; `None` if they no longer exist, or aren't the locked ones.
-    pub fn of(rt: &HostRuntime, found: &'a PathState, held: &FileLock) -> Option<FileWatch<'a>> {
+    /// Returns a watch on the files of an office that has just been opened; `None` if the files no longer exist or aren't the
+    /// locked ones.
+    pub fn of(rt: &HostRuntime, found: &'a PathState, lock: &FileLock) -> Option<FileWatch<'a>> {
         let database = seen_at(rt, found.database())?;
         let log = seen_at(rt, found.log())?;
-        let (device, inode) = held.numbers().ok()?;
+        let (device, inode) = lock.numbers().ok()?;
         if database.device != device || database.inode != inode {
             return None;
         }
@@ -88,8 +90,8 @@ impl<'a> FileWatch<'a> {
         self.found.database()
     }
 
-    /// Returns whether both files are still at their paths, are the same, and weren't truncated since the last check. The first time
-    /// they aren't, a line on the error output says so.
+    /// Returns whether both files are still at their paths, are the same files, and haven't been truncated since the last
+    /// check. The first time that this isn't so, prints a line to the error output.
     pub fn is_whole(&self, rt: &HostRuntime) -> bool {
         let is_whole = is_still_at(rt, self.found.database(), &self.database)
             && is_still_at(rt, self.found.log(), &self.log);

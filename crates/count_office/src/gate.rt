@@ -19,7 +19,7 @@ pub struct GateFiles {
     pub console_policy: String,
 }
 
-/// Reads the file of codes at a path, and makes the pages and their policies. Returns `None` if no path is given.
+/// Reads the file of codes at a path, and builds the pages and their policies. Returns `None` if no path is given.
 pub fn read_gate_files<H: Host>(
     alloc: Global,
     host: &H,
@@ -45,7 +45,7 @@ pub fn read_gate_files<H: Host>(
     }))
 }
 
-/// Returns the gate with these codes and pages; `None` if there are none.
+/// Returns the gate with the given codes and pages; `None` if there are none.
 pub fn gate_of(gate_files: &Option<GateFiles>) -> Option<Gate<'_>>
     ensures { option_map gate_entry result ≡ option_map gate_at gate_files.now }
 {

@@ -1,6 +1,7 @@
-//! This machine as a host: a port of its loopback addresses, and the socket next to the database that is served.
+//! This machine as a host: a port at its loopback addresses, and the socket next to the database that is served.
 //!
-//! No contract can say what a socket or a file contains, so nothing is promised here. `serving.rt` says what is served on any host.
+//! No contract can say what a socket or a file contains, so nothing is promised here. `serving.rt` states what is served on any
+//! host.
 
 ghost use Rattle.std.specs.Prelude.{◌≡◌, ◌≢◌, None, ℕ};
 ghost use Rattle.sockets.specs.declared.socket.Socket.{Socket};
@@ -23,16 +24,17 @@ use std::io;
 use std::io::{ErrorKind, Write};
 use store::Fault;
 
-/// This machine, the database that is served, the socket next to it, and the standard streams that are held open meanwhile.
+/// This machine, the database that is served, the socket next to it, and the standard streams that are held open while serving.
 #[derive(Drop)]
 pub struct Localhost<'a> {
     place: LockedDatabase<'a>,
-    beside: Option<OrderSocket>,
+    socket: Option<OrderSocket>,
     streams: Option<Vec<File>>,
 }
 
-/// Listens on a port of this machine's loopback addresses and, if there is one, on the socket for orders next to the database. Fails
-/// if one of the addresses is in use: no clause can say which are bound, and `tools/try both-addresses` tests it.
+/// Listens on a port at this machine's loopback addresses and, if there is one, on the socket for orders next to the database.
+/// Fails if the port is in use at either address. No contract can say which addresses are bound; `tools/try both-addresses`
+/// tests it.
 fn listen<'a>(
     rt: &'a HostRuntime,
     port: u32,
@@ -46,7 +48,7 @@ fn listen<'a>(
     Ok(SocketNetwork { poller, clock: rt })
 }
 
-/// Returns the failure that is printed when the network can't be opened.
+/// Returns the failure to print when the network can't be opened.
 fn listening_failure(error: &io::Error) -> Failure {
     match error.kind() {
         ErrorKind::OutOfMemory => Failure::Office(Fault::Memory),
@@ -54,14 +56,14 @@ fn listening_failure(error: &io::Error) -> Failure {
     }
 }
 
-/// Prints on the error output that there is no socket for orders. If it can't be printed, the office serves all the same.
-fn say_no_socket(rt: &HostRuntime, error: &io::Error) {
-    let mut told = rt.stderr();
+/// Prints to the error output that there is no socket for orders. The office is served even if this can't be printed.
+fn warn_no_socket(rt: &HostRuntime, error: &io::Error) {
+    let mut stderr = rt.stderr();
     let why = reason_of(error);
-    let _ = writeln!(told, "no socket for orders beside the database: {why}");
+    let _ = writeln!(stderr, "no socket for orders next to the database: {why}");
 }
 
-/// Returns numbers separated by commas.
+/// Returns the numbers, separated by commas.
 fn list_of(alloc: Global, numbers: &[u32]) -> Result<String, AllocError> {
     let mut list = String::new(alloc);
     for number in numbers {
@@ -73,22 +75,22 @@ fn list_of(alloc: Global, numbers: &[u32]) -> Result<String, AllocError> {
     Ok(list)
 }
 
-/// Prints a line on standard error if codes of clerks are weak. If it can't be printed, the office serves all the same.
+/// Prints a line to standard error if any clerks' codes are weak. The office is served even if this can't be printed.
 fn warn_of_weak(rt: &HostRuntime, codes: &Codes) {
     let weak = codes.weak_clerks();
     if weak.is_empty() {
         return;
     }
     if let Ok(clerks) = list_of(rt.alloc(), weak) {
-        let mut told = rt.stderr();
+        let mut stderr = rt.stderr();
         let _ = writeln!(
-            told,
+            stderr,
             "codes of clerks {clerks} are short, and may be guessed: make new ones with 'count-office DB codes FILE 1-40'"
         );
     }
 }
 
-/// Opens the network on a port, and looks up the file of the office at a place.
+/// Opens the network on a port, and looks up the file of the locked database.
 fn open_at<'a>(
     place: LockedDatabase<'a>,
     port: u32,
@@ -99,10 +101,10 @@ fn open_at<'a>(
         Ok(network) => network,
         Err(error) => return Err(listening_failure(&error)),
     };
-    let Ok((device, inode)) = place.held.numbers() else {
+    let Ok((device, inode)) = place.lock.numbers() else {
         return Err(Failure::Office(Fault::Store));
     };
-    let Some(file_watch) = FileWatch::of(rt, place.found, place.held) else {
+    let Some(file_watch) = FileWatch::of(rt, place.found, place.lock) else {
         return Err(Failure::FileGone);
     };
     Ok(Opened {
@@ -113,26 +115,26 @@ fn open_at<'a>(
 }
 
 impl<'a> Localhost<'a> {
-    /// Returns this machine, for the database at a place.
+    /// Returns this machine as a host, for a locked database.
     pub fn at(place: LockedDatabase<'a>) -> Localhost<'a> {
         Localhost {
             place,
-            beside: None,
+            socket: None,
             streams: None,
         }
     }
 
-    /// Creates the order socket next to the database. If that fails, prints a line to the error output; no order can then be sent
-    /// to the server.
-    fn listen_beside(&mut self) -> Option<UnixListener> {
+    /// Creates the order socket next to the database. If that fails, prints a line to the error output; then no orders can be
+    /// sent to the server.
+    fn listen_for_orders(&mut self) -> Option<UnixListener> {
         let rt = self.place.rt;
         match OrderSocket::listen(rt, self.place.found.database()) {
-            Ok((beside, orders)) => {
-                self.beside = Some(beside);
+            Ok((socket, orders)) => {
+                self.socket = Some(socket);
                 Some(orders)
             }
             Err(error) => {
-                say_no_socket(rt, &error);
+                warn_no_socket(rt, &error);
                 None
             }
         }
@@ -140,8 +142,8 @@ impl<'a> Localhost<'a> {
 
     /// Removes the socket next to the database, and closes the streams that were held open.
     fn clear(&mut self) {
-        if let Some(beside) = self.beside.take() {
-            beside.remove(self.place.rt);
+        if let Some(socket) = self.socket.take() {
+            socket.remove(self.place.rt);
         }
         self.streams = None;
     }
@@ -172,7 +174,7 @@ impl<'a> Host for Localhost<'a> {
             Ok(streams) => self.streams = Some(streams),
             Err(error) => return Err(listening_failure(&error)),
         }
-        let orders = self.listen_beside();
+        let orders = self.listen_for_orders();
         let opened = open_at(self.place, port, orders);
         if opened.is_err() {
             self.clear();

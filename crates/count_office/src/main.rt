@@ -1,12 +1,12 @@
-//! The program `count-office`: it parses its words to an order and performs it on the database DB.
+//! The program `count-office`: it parses its words as an order, and performs the order on the database DB.
 //!
-//! The crate `desk` parses the words and performs the order. This crate supplies the file that DB names, the one that the order names,
-//! those that a script names, and the two standard outputs.
+//! The crate `desk` parses the words and performs the order. This crate provides the file that DB names, the files that the
+//! order or a script names, and the two standard outputs.
 //!
-//! `main` opens the outputs, [`run`] reads the words, and [`follow_words`] parses them to an order. `perform_with_retries` of `order_run.rt` attempts
-//! the order, again and again while another program has locked the file. `attempt` checks what is at the path, and `lock_and_perform` locks
-//! the file, or sends the order to the program that serves it. Under the lock `perform_locked` and `open_and_perform` open the database, and
-//! [`dispatch_order`] performs the order there.
+//! `main` opens the outputs, [`run`] reads the words, and [`follow_words`] parses them as an order. `perform_with_retries` in
+//! `order_run.rt` attempts the order, repeatedly while another program has locked the file. `attempt` checks what is at the
+//! path, and `lock_and_perform` locks the file or sends the order to the program that serves it. Under the lock,
+//! `perform_locked` and `open_and_perform` open the database, and [`dispatch_order`] performs the order on it.
 //!
 //! ```text
 //! count-office town.db init
@@ -33,7 +33,7 @@ ghost use Rattle.sqlite.specs.Closing.{IsCopied};
 // the words of an order, and the files that it names
 mod codes_file;
 mod order_files;
-// the path of a database, what is there, and its lock
+// the path of a database, what exists there, and its lock
 mod file_lock;
 mod notices;
 mod order_run;
@@ -45,8 +45,9 @@ mod order_socket;
 mod gate;
 mod host;
 mod localhost;
+mod public;
 mod serving;
-// what else is done while the office is served: copies, the journal, and a look at its files
+// what else is done while the office is served: copies, the journal, and checks of its files
 mod copies;
 mod file_watch;
 mod new_file;
@@ -76,17 +77,18 @@ use std::{env, io};
 use store::Fault;
 use streams::{Counted, Sink};
 
-/// A locked database: its path as given, what is there, and its file; and what was read of the order's files before, if anything was.
+/// A locked database: its path as given, what exists there, and its file; and those of the order's files that have already been
+/// read, if any.
 #[derive(Clone, Copy)]
 pub struct LockedDatabase<'a> {
     pub rt: &'a HostRuntime,
     pub path: &'a str,
     pub found: &'a PathState,
-    pub held: &'a FileLock,
+    pub lock: &'a FileLock,
     pub brought: &'a Option<OrderFiles>,
 }
 
-/// Returns the words from DB on.
+/// Returns the program's words, from DB on.
 fn given_words(rt: &HostRuntime) -> Result<Vec<String>, WordsFault> {
     let all = match env::args(rt) {
         Ok(all) => all,
@@ -106,12 +108,12 @@ fn not_text(alloc: Global) -> WordsFault {
     }
 }
 
-/// Returns whether a person sees the error output but not the replies to a file's records.
+/// Returns whether a person can see the error output, but not the replies to the records in a file.
 fn wants_progress(rt: &HostRuntime, task: &Task<'_>) -> bool {
     task.file().is_some() && rt.stderr().is_terminal() && !rt.stdout().is_terminal()
 }
 
-/// Performs a task on an open connection to the office, with the files that it names.
+/// Performs a task on an open connection to the office, using the files that the task names.
 fn perform_with_progress<S: Alter, O: Sink, E: Sink>(
     paths: LocalFolder<'_>,
     task: &Task<'_>,
@@ -131,7 +133,7 @@ fn perform_with_progress<S: Alter, O: Sink, E: Sink>(
     perform(rt.alloc(), task, conn, &paths, out, err)
 }
 
-/// Performs an order on an open connection to the office at a place. An order to serve is performed on the host.
+/// Performs an order on an open connection to the office in a locked database. An order to serve is performed on the host.
 fn dispatch_order<H: Host, S: Alter, O: Sink, E: Sink>(
     place: LockedDatabase<'_>,
     host: &mut H,
@@ -146,7 +148,7 @@ fn dispatch_order<H: Host, S: Alter, O: Sink, E: Sink>(
     ensures journals { order.now ≡ Order.Journal → (let outputs = outputs_of O.taken O.failed E.taken E.failed in Tells (outputs out.old err.old) (outputs out.new err.new) result.0
         (λ _ page. HasCleanDisk (state S.Store result.1) → ((db : Database) → RestsAt db (state S.Store conn) → (s : OfficeState) → IsLeftAt s db → IsJournalTold s page)
         × IsToldElsewhere page (state S.Store conn) (state S.Store result.1))) }
-    ensures serves { (serving : Serving) → order.now ≡ Order.Serve serving.port serving.connections serving.origin serving.codes
+    ensures serves { (serving : Serving) → order.now ≡ Order.Serve serving.port serving.connections serving.origin serving.codes serving.public
         → (out.new ≡ out.old) × ServesOrder (IsErrorTold E.taken E.failed err.old err.new) (err.new ≡ err.old) result.0 serving (H.codes_at host.old) (H.file host.old)
         (stream_of H.Sockets.Stream.held H.Sockets.Stream.taken H.Sockets.Stream.failed) (state S.Store) (H.known host.old) (H.known host.new) conn result.1 }
 {
@@ -164,12 +166,14 @@ fn dispatch_order<H: Host, S: Alter, O: Sink, E: Sink>(
             connections,
             origin,
             codes,
+            public,
         } => {
             let serving = Serving {
                 port: *port,
                 connections: *connections,
                 origin: *origin,
                 codes: *codes,
+                public: *public,
             };
             serve(rt.alloc(), host, serving, conn, err)
         }
@@ -190,8 +194,8 @@ fn dispatch_order<H: Host, S: Alter, O: Sink, E: Sink>(
     }
 }
 
-/// Prints the journal of the office, once it was replayed in an empty office in memory. The office is only read. Nothing is assumed of
-/// that memory: what is printed with status 0 makes exactly this office.
+/// Prints the journal of the office, after replaying it in an empty office in memory. Only reads the office. Nothing is assumed
+/// about that memory. If the status is 0, replaying what was printed produces exactly this office.
 fn journal<S: Alter, O: Sink, E: Sink>(
     rt: &HostRuntime,
     mut conn: Connection<S>,
@@ -222,8 +226,8 @@ fn is_busy(error: &sqlite::Error) -> bool {
     matches!(error, sqlite::Error::SqliteFailure(ErrorCode::DatabaseBusy))
 }
 
-/// Copies the log into the database file, so that DB alone is the office, even after a stop, and returns both files. If that fails,
-/// what was answered is still in the log.
+/// Copies the log into the database file and returns both files. DB alone is then the office, even after a stop. If copying
+/// fails, the log still contains everything that was answered.
 fn close<D: Disk + Drop>(conn: Connection<FileStore<D>>) -> Option<Files<D>>
     ensures copied { IfSome result (λ files. AreClean D.Disk files.log files.db → IsCopied conn files) }
 {
@@ -236,13 +240,13 @@ fn close<D: Disk + Drop>(conn: Connection<FileStore<D>>) -> Option<Files<D>>
     }
 }
 
-/// Performs what the words from DB on ask for, and returns the status.
+/// Does what the given words, starting with DB, ask for, and returns the status.
 fn follow_words<O: Sink, E: Sink>(rt: &HostRuntime, words: &[&str], out: &mut O, err: &mut E) -> u8
     requires out { O.failed out.old < 2 ^ 64 - 1 }
     requires err { E.failed err.old < 2 ^ 64 - 1 }
 {
     match order(rt.alloc(), &*words) {
-        // making codes needs no database
+        // Making codes needs no database.
         Ok(
             Order::Codes {
                 path,
@@ -270,7 +274,8 @@ fn follow_words<O: Sink, E: Sink>(rt: &HostRuntime, words: &[&str], out: &mut O,
     }
 }
 
-/// Prints the help of an order. A word that names no order is DB; the help of all orders is then printed.
+/// Prints the help for an order. If the word isn't the name of an order, it is read as DB, and the help for all orders is
+/// printed.
 fn tell_help_of<O: Sink, E: Sink>(rt: &HostRuntime, name: &str, out: &mut O, err: &mut E) -> u8
     requires out { O.failed out.old < 2 ^ 64 - 1 }
     requires err { E.failed err.old < 2 ^ 64 - 1 }
@@ -284,8 +289,8 @@ fn tell_help_of<O: Sink, E: Sink>(rt: &HostRuntime, name: &str, out: &mut O, err
     }
 }
 
-/// Performs what the program's words ask for, and returns the status. Help, including that of an order, and the version are also
-/// printed without a database.
+/// Does what the program's words ask for, and returns the status. Help (including the help for a single order) and the version
+/// are printed even without a database.
 fn run<O: Sink, E: Sink>(rt: &HostRuntime, out: &mut O, err: &mut E) -> u8
     requires out { O.failed out.old < 2 ^ 64 - 1 }
     requires err { E.failed err.old < 2 ^ 64 - 1 }

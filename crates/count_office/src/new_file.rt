@@ -1,4 +1,4 @@
-//! The file of a copy, made where nothing exists yet, and removed again if no copy results.
+//! The file of a copy. It is created only if nothing has that name yet, and removed again if no copy results.
 
 use crate::file_lock::FileLock;
 use crate::path_state::{LOG_ENDINGS, MIN_OFFICE, RIGHTS, is_no_file, length_at};
@@ -7,16 +7,16 @@ use std::fs;
 use std::io::{self, ErrorKind};
 use store::Fault;
 
-/// The file of a copy, which was made here and is locked from then on, and its log, which `sqlite` makes with the file's permissions
-/// when it opens it.
+/// The file of a copy, which this program has created and keeps locked; and its log, which `sqlite` creates with the file's
+/// permissions when it opens the file.
 #[derive(Drop)]
 pub struct NewFile {
     database: String,
     log: String,
-    held: FileLock,
+    lock: FileLock,
 }
 
-/// Returns why a file wasn't made.
+/// Returns why a file wasn't created.
 fn failure_of(error: &io::Error) -> Failure {
     match error.kind() {
         ErrorKind::AlreadyExists => Failure::CopyTaken,
@@ -25,7 +25,7 @@ fn failure_of(error: &io::Error) -> Failure {
     }
 }
 
-/// Checks that nothing has the name of a log of a database at a path, not even a link.
+/// Checks that nothing, not even a link, has the name of a log for the database at a path.
 fn has_no_log(rt: &HostRuntime, path: &str, ending: &str) -> Result<(), Failure> {
     let Ok(log) = format!(in rt.alloc(); "{path}{ending}") else {
         return Err(Failure::Office(Fault::Memory));
@@ -38,9 +38,9 @@ fn has_no_log(rt: &HostRuntime, path: &str, ending: &str) -> Result<(), Failure>
 }
 
 impl NewFile {
-    /// Makes the file of a copy at a path where nothing exists, not even a link, with permissions for its owner alone. If something
-    /// exists already (`CopyTaken`), or the file can't be made, nothing is left. A name that `sqlite` treats as a log or as no file is
-    /// refused.
+    /// Creates the file of a copy at a path where nothing exists, not even a link, with permissions for its owner only. If
+    /// something already exists (`CopyTaken`), or the file can't be created, nothing is left behind. Refuses a name that
+    /// `sqlite` treats as a log, or as something other than a file.
     pub fn make(rt: &HostRuntime, path: &str) -> Result<NewFile, Failure> {
         if is_no_file(path) || LOG_ENDINGS.iter().any(|ending| path.ends_with(*ending)) {
             return Err(Failure::CopyFailed);
@@ -54,29 +54,29 @@ impl NewFile {
         ) else {
             return Err(Failure::Office(Fault::Memory));
         };
-        let held = FileLock::make(rt, path, RIGHTS).map_err(|error| failure_of(&error))?;
+        let lock = FileLock::make(rt, path, RIGHTS).map_err(|error| failure_of(&error))?;
         Ok(NewFile {
             database,
             log,
-            held,
+            lock,
         })
     }
 
-    /// Returns whether both are too short for an office, as `sqlite` makes them when it opens them: then no other program has made an
-    /// office in them. An error is that their length can't be determined.
+    /// Returns whether the two files together are too short for an office, as they are when `sqlite` has just opened them. If
+    /// so, no other program has made an office in them. Fails if their length can't be determined.
     pub fn hold_none(&self, rt: &HostRuntime) -> io::Result<bool> {
         let database = length_at(rt, self.database.as_str())?.unwrap_or(0);
         let log = length_at(rt, self.log.as_str())?.unwrap_or(0);
         Ok(database.saturating_add(log) < MIN_OFFICE)
     }
 
-    /// Removes both. They must be known to contain nothing but the copy.
+    /// Removes both files. They must be known to contain nothing but the copy.
     pub fn remove(&self, rt: &HostRuntime) {
         let _ = fs::remove_file(rt, self.log.as_str());
         let _ = fs::remove_file(rt, self.database.as_str());
     }
 
-    /// Removes both if they are known to be too short for an office.
+    /// Removes both files if they are known to be too short, together, for an office.
     pub fn clear(&self, rt: &HostRuntime) {
         if matches!(self.hold_none(rt), Ok(true)) {
             self.remove(rt);

@@ -1,24 +1,24 @@
-//! Lines on the error output for the person who gave an order, in addition to what the order prints. If they can't be written, the
-//! order is performed all the same.
+//! Lines on the error output for the person who gave an order, in addition to what the order prints. The order is performed
+//! even if these lines can't be written.
 
 use std::fs;
 use std::io::{IsTerminal, Write};
 use std::os::unix::fs::MetadataExt;
 
-/// The permissions of group and others to read or write a file.
+/// The permission bits that let the group and others read or write a file.
 const RIGHTS_OF_OTHERS: u32 = 0o066;
 
-/// What has locked a database, so that no other order can open it.
+/// What has locked a database and prevents other orders from opening it.
 #[derive(Clone, Copy)]
 pub enum LockHolder {
     /// Another order of this program, which may be `serve`.
     Order,
-    /// Another program, with SQLite's locks.
+    /// Another program, using SQLite's locks.
     Program,
 }
 
 impl LockHolder {
-    /// Returns it in words, to follow a database's path and a colon.
+    /// Returns the text that describes the holder; it follows a database's path and a colon.
     fn text(self) -> &'static str {
         match self {
             LockHolder::Order => "another order holds it",
@@ -27,28 +27,28 @@ impl LockHolder {
     }
 }
 
-/// Prints on a terminal what an order waits for.
-pub fn say_waiting(rt: &HostRuntime, path: &str, holder: LockHolder) {
-    let mut told = rt.stderr();
-    if told.is_terminal() {
+/// Prints what an order is waiting for, if the error output is a terminal.
+pub fn warn_waiting(rt: &HostRuntime, path: &str, holder: LockHolder) {
+    let mut stderr = rt.stderr();
+    if stderr.is_terminal() {
         let why = holder.text();
-        let _ = writeln!(told, "waiting for {path}: {why}");
+        let _ = writeln!(stderr, "waiting for {path}: {why}");
     }
 }
 
-/// Prints what an order waited for without success.
-pub fn say_waited(rt: &HostRuntime, path: &str, holder: LockHolder) {
-    let mut told = rt.stderr();
+/// Prints what an order has waited for in vain.
+pub fn warn_waited(rt: &HostRuntime, path: &str, holder: LockHolder) {
+    let mut stderr = rt.stderr();
     let why = holder.text();
-    let _ = writeln!(told, "waited ten seconds for {path}: {why}");
+    let _ = writeln!(stderr, "waited ten seconds for {path}: {why}");
 }
 
-/// Prints that the log of a database belongs to a user who may not write the database.
-pub fn say_foreign_log(rt: &HostRuntime, path: &str) {
-    let mut told = rt.stderr();
+/// Prints that the log of a database belongs to a user who may not write to the database.
+pub fn warn_foreign_log(rt: &HostRuntime, path: &str) {
+    let mut stderr = rt.stderr();
     let _ = writeln!(
-        told,
-        "{path}-wal belongs to another account than {path}, and isn't read"
+        stderr,
+        "{path}-wal doesn't belong to the owner of {path}, so it isn't read"
     );
 }
 
@@ -57,10 +57,11 @@ fn is_open_to_others(rt: &HostRuntime, path: &str) -> bool {
     fs::metadata(rt, path).is_ok_and(|found| found.mode() & RIGHTS_OF_OTHERS != 0)
 }
 
-/// Prints on a terminal that the permissions of a database or its log let other users read or write it, if they do.
-pub fn say_if_open_to_others(rt: &HostRuntime, path: &str) {
-    let mut told = rt.stderr();
-    if !told.is_terminal() {
+/// If the permissions of a database or its log let other users read or write it, prints a line that says so, provided that the
+/// error output is a terminal.
+pub fn warn_if_open_to_others(rt: &HostRuntime, path: &str) {
+    let mut stderr = rt.stderr();
+    if !stderr.is_terminal() {
         return;
     }
     let Ok(log) = format!(in rt.alloc(); "{path}-wal") else {
@@ -68,7 +69,7 @@ pub fn say_if_open_to_others(rt: &HostRuntime, path: &str) {
     };
     if is_open_to_others(rt, path) || is_open_to_others(rt, log.as_str()) {
         let _ = writeln!(
-            told,
+            stderr,
             "{path} is open to other accounts on this machine; 'chmod 600 {path} {log}' closes it"
         );
     }

@@ -1,4 +1,5 @@
-//! An order on a database that another program serves. It is sent to that program, and the reply is printed as it arrives.
+//! An order for a database that another program serves. The order is sent to that program, and the reply is printed as it
+//! arrives.
 
 ghost use Rattle.std.specs.Prelude.{◌≡◌, ◌≢◌, ◌-◌, ◌^◌, ◌<◌, ◌≤◌, Err, IfOk, IfSome, Ok, OnErr, length, true};
 ghost use Rattle.order_protocol.specs.Messages.{PieceFits, PiecesFit, message_part_entries, message_part_entry};
@@ -19,10 +20,10 @@ use std::{env, fs};
 use store::Fault;
 use streams::{Sink, put_all};
 
-/// The maximum number of bytes of a frame that are read at once.
+/// The maximum number of bytes to read from a frame at once.
 const CHUNK: usize = 8192;
 
-/// Returns a word or a file as a part of a message; None if it is longer than a message may be.
+/// Returns a word or a file as part of a message; `None` if it is longer than a message may be.
 fn piece_of(part: &OrderPart) -> Option<MessagePart<'_>>
     ensures { IfSome result (λ piece. PieceFits (message_part_entry piece)) }
 {
@@ -40,8 +41,12 @@ fn piece_of(part: &OrderPart) -> Option<MessagePart<'_>>
     }
 }
 
-/// Returns words or files as parts of a message; None if one is longer than a message may be, or there are too many.
-fn fitting(alloc: Global, parts: &[OrderPart]) -> Result<Option<Vec<MessagePart<'_>>>, AllocError>
+/// Returns the words or files as parts of a message; `None` if one of them is longer than a message may be, or if there are too
+/// many.
+fn fitting_parts(
+    alloc: Global,
+    parts: &[OrderPart],
+) -> Result<Option<Vec<MessagePart<'_>>>, AllocError>
     ensures { IfOk result (λ found. IfSome found (λ pieces. PiecesFit (message_part_entries pieces.items))) }
 {
     let mut pieces = Vec::new(alloc);
@@ -57,18 +62,18 @@ fn fitting(alloc: Global, parts: &[OrderPart]) -> Result<Option<Vec<MessagePart<
     Ok(Some(pieces))
 }
 
-/// Returns words or files as parts of a message, or why they can't be sent.
+/// Returns the words or files as parts of a message, or why they can't be sent.
 fn pieces_of(alloc: Global, parts: &[OrderPart]) -> Result<Vec<MessagePart<'_>>, Fault>
     ensures { IfOk result (λ pieces. PiecesFit (message_part_entries pieces.items)) }
 {
-    match fitting(alloc, parts) {
+    match fitting_parts(alloc, parts) {
         Ok(Some(pieces)) => Ok(pieces),
         Ok(None) => Err(Fault::Store),
         Err(AllocError) => Err(Fault::Memory),
     }
 }
 
-/// Returns the message of an order on the database at a path, or why there is none.
+/// Returns the message with an order for the database at a path, or why there is none.
 fn message_of(
     rt: &HostRuntime,
     database: &str,
@@ -107,25 +112,25 @@ fn frame_in(stream: &mut UnixStream) -> io::Result<FrameHead> {
     read_frame_head(head).ok_or(io::Error::from(ErrorKind::InvalidData))
 }
 
-/// Why nothing more is printed.
+/// Why printing a reply ended early.
 #[derive(Clone, Copy)]
-enum WhyReplyEnded {
+enum ReplyError {
     /// The server closed the connection, or sent something invalid.
     Server,
-    /// The output fails.
+    /// The output failed.
     Output,
     /// An allocation for a line failed.
     Memory,
 }
 
-/// What was received for the two outputs and isn't printed yet: for each the beginning of a line.
+/// What has been received for the two outputs but not printed yet: for each, the beginning of a line.
 #[derive(Drop)]
-struct Unfinished {
+struct PartialLines {
     out: Vec<u8>,
     err: Vec<u8>,
 }
 
-/// Returns how many of these bytes form complete lines.
+/// Returns how many of the given bytes make up complete lines.
 fn whole_lines(bytes: &[u8]) -> usize
     ensures { result ≤ length bytes.now }
 {
@@ -138,18 +143,18 @@ fn whole_lines(bytes: &[u8]) -> usize
     whole
 }
 
-/// Appends bytes to a line that isn't complete yet, prints the lines that are now complete, and keeps the rest. So a reply that breaks
-/// off prints no partial line.
-fn print_lines<O: Sink>(line: &mut Vec<u8>, bytes: &[u8], out: &mut O) -> Result<(), WhyReplyEnded>
+/// Appends bytes to an incomplete line, prints the lines that are now complete, and keeps the rest. If a reply is cut off, no
+/// partial line is printed.
+fn print_lines<O: Sink>(line: &mut Vec<u8>, bytes: &[u8], out: &mut O) -> Result<(), ReplyError>
     requires { O.failed out.old < 2 ^ 64 - 1 }
-    ensures { result ≢ Err WhyReplyEnded.Output → O.failed out.new ≡ O.failed out.old }
+    ensures { result ≢ Err ReplyError.Output → O.failed out.new ≡ O.failed out.old }
 {
     if line.extend_from_slice(bytes).is_err() {
-        return Err(WhyReplyEnded::Memory);
+        return Err(ReplyError::Memory);
     }
     let whole = whole_lines(line.as_slice());
     if put_all(out, &line[..whole]).is_err() {
-        return Err(WhyReplyEnded::Output);
+        return Err(ReplyError::Output);
     }
     let rest = line.len() - whole;
     line.rotate_left(whole);
@@ -157,22 +162,22 @@ fn print_lines<O: Sink>(line: &mut Vec<u8>, bytes: &[u8], out: &mut O) -> Result
     Ok(())
 }
 
-/// Prints this many bytes as they arrive, line by line.
+/// Prints the given number of bytes as they arrive, line by line.
 fn print_output_frame<O: Sink>(
     stream: &mut UnixStream,
     len: u32,
     line: &mut Vec<u8>,
     out: &mut O,
-) -> Result<(), WhyReplyEnded>
+) -> Result<(), ReplyError>
     requires { O.failed out.old < 2 ^ 64 - 1 }
-    ensures { result ≢ Err WhyReplyEnded.Output → O.failed out.new ≡ O.failed out.old }
+    ensures { result ≢ Err ReplyError.Output → O.failed out.new ≡ O.failed out.old }
 {
     let mut left = len as usize;
     let mut room = [0; CHUNK];
     while left > 0 {
         let wanted = left.min(CHUNK);
         match stream.read(&mut room[..wanted]) {
-            Ok(0) | Err(_) => return Err(WhyReplyEnded::Server),
+            Ok(0) | Err(_) => return Err(ReplyError::Server),
             Ok(count) => {
                 print_lines(line, &room[..count], out)?;
                 left -= count;
@@ -182,44 +187,44 @@ fn print_output_frame<O: Sink>(
     Ok(())
 }
 
-/// Prints this many bytes for the error output as they arrive. Returns whether the error output accepted them.
+/// Prints the given number of bytes to the error output as they arrive. Returns whether the error output accepted them.
 fn print_error<E: Sink>(
     stream: &mut UnixStream,
     len: u32,
     line: &mut Vec<u8>,
     err: &mut E,
-) -> Result<bool, WhyReplyEnded>
+) -> Result<bool, ReplyError>
     requires { E.failed err.old < 2 ^ 64 - 1 }
     ensures unfailed { result ≡ Ok true → E.failed err.new ≡ E.failed err.old }
     ensures err { OnErr result (E.failed err.new ≡ E.failed err.old) }
 {
     match print_output_frame(stream, len, line, err) {
         Ok(()) => Ok(true),
-        Err(WhyReplyEnded::Output) => Ok(false),
-        Err(WhyReplyEnded::Server) => Err(WhyReplyEnded::Server),
-        Err(WhyReplyEnded::Memory) => Err(WhyReplyEnded::Memory),
+        Err(ReplyError::Output) => Ok(false),
+        Err(ReplyError::Server) => Err(ReplyError::Server),
+        Err(ReplyError::Memory) => Err(ReplyError::Memory),
     }
 }
 
-/// Returns the status of an order from its last frame, after printing the rest of that frame on the error output, and what remains of
-/// a line of either output. If the error output fails, the status is 3.
+/// Returns the status of an order from its last frame, after printing the rest of that frame to the error output, along with
+/// any incomplete line of either output. If the error output fails, the status is 3.
 fn print_end_frame<O: Sink, E: Sink>(
     stream: &mut UnixStream,
     len: u32,
-    unfinished: &mut Unfinished,
+    unfinished: &mut PartialLines,
     out: &mut O,
     err: &mut E,
-) -> Result<u8, WhyReplyEnded>
+) -> Result<u8, ReplyError>
     requires out { O.failed out.old < 2 ^ 64 - 1 }
     requires err { E.failed err.old < 2 ^ 64 - 1 }
     ensures { OnErr result (E.failed err.new ≡ E.failed err.old) }
 {
     let mut status = [0];
     if stream.read_exact(&mut status).is_err() {
-        return Err(WhyReplyEnded::Server);
+        return Err(ReplyError::Server);
     }
     if put_all(out, unfinished.out.as_slice()).is_err() {
-        return Err(WhyReplyEnded::Output);
+        return Err(ReplyError::Output);
     }
     if !print_error(stream, len.saturating_sub(1), &mut unfinished.err, err)? {
         return Ok(3);
@@ -230,19 +235,19 @@ fn print_end_frame<O: Sink, E: Sink>(
     }
 }
 
-/// Prints the reply to an order line by line as it arrives, from its first frame on, and returns its status.
+/// Prints the reply to an order, line by line as it arrives, starting with its first frame, and returns the order's status.
 fn print_frames<O: Sink, E: Sink>(
     alloc: Global,
     stream: &mut UnixStream,
     first: FrameHead,
     out: &mut O,
     err: &mut E,
-) -> Result<u8, WhyReplyEnded>
+) -> Result<u8, ReplyError>
     requires out { O.failed out.old < 2 ^ 64 - 1 }
     requires err { E.failed err.old < 2 ^ 64 - 1 }
     ensures { OnErr result (E.failed err.new ≡ E.failed err.old) }
 {
-    let mut unfinished = Unfinished {
+    let mut unfinished = PartialLines {
         out: Vec::new(alloc),
         err: Vec::new(alloc),
     };
@@ -259,10 +264,10 @@ fn print_frames<O: Sink, E: Sink>(
         }
         frame = match frame_in(stream) {
             Ok(next) => next,
-            Err(_) => return Err(WhyReplyEnded::Server),
+            Err(_) => return Err(ReplyError::Server),
         };
     }
-    Err(WhyReplyEnded::Server)
+    Err(ReplyError::Server)
 }
 
 /// Sends a message, preceded by its length.
@@ -273,7 +278,7 @@ fn send(stream: &mut UnixStream, message: &[u8]) -> io::Result<()> {
 
 /// The reply to an order: its connection, and its first frame.
 #[derive(Drop)]
-pub struct FrameReader {
+pub struct OrderReply {
     stream: UnixStream,
     first: FrameHead,
 }
@@ -282,25 +287,26 @@ pub struct FrameReader {
 #[derive(Drop)]
 pub enum Sent {
     /// A server has begun to reply.
-    Begun(FrameReader),
-    /// No program serves the database; or the server closed the connection before it had read all of the order, so it can't have
-    /// performed it.
+    Replying(OrderReply),
+    /// No program serves the database; or the server closed the connection before it had read the whole order, and so can't
+    /// have performed it.
     Unread,
-    /// The order wasn't sent, for this fault; or the server disconnected after it had read the order, and may have performed it.
+    /// The order wasn't sent, because of this fault; or the server disconnected after it had read the order, and may have
+    /// performed it.
     Failed(Fault),
 }
 
-/// Waits for the first frame of the reply. A connection that is reset is one that the server closed before it had read all of the
+/// Waits for the first frame of the reply. If the connection is reset, the server closed it before it had read the whole
 /// message.
 fn reply_in(mut stream: UnixStream) -> Sent {
     match frame_in(&mut stream) {
-        Ok(first) => Sent::Begun(FrameReader { stream, first }),
+        Ok(first) => Sent::Replying(OrderReply { stream, first }),
         Err(error) if error.kind() == ErrorKind::ConnectionReset => Sent::Unread,
         Err(_) => Sent::Failed(Fault::Store),
     }
 }
 
-/// Sends an order on the database at a path to the program that serves it, and waits for the first frame of the reply.
+/// Sends an order for the database at a path to the program that serves it, and waits for the first frame of the reply.
 pub fn send_order(rt: &HostRuntime, database: &str, order_files: &OrderFiles) -> Sent {
     let Some(mut stream) = order_socket::reach(rt, database) else {
         return Sent::Unread;
@@ -309,27 +315,27 @@ pub fn send_order(rt: &HostRuntime, database: &str, order_files: &OrderFiles) ->
         Ok(message) => message,
         Err(fault) => return Sent::Failed(fault),
     };
-    // A server that stops reading may have replied why, so the reply is read all the same.
+    // Even a server that stops reading may have said why in a reply, so the reply is read in any case.
     let _ = send(&mut stream, &message);
     reply_in(stream)
 }
 
-/// Prints the rest of a reply, and returns the order's status. If the server disconnects before the end, it prints fault 102: the
-/// order should be sent again.
+/// Prints the rest of a reply, and returns the order's status. If the server disconnects before the end, prints fault 102; the
+/// order should then be sent again.
 pub fn print_reply<O: Sink, E: Sink>(
     alloc: Global,
-    reply: FrameReader,
+    reply: OrderReply,
     out: &mut O,
     err: &mut E,
 ) -> u8
     requires out { O.failed out.old < 2 ^ 64 - 1 }
     requires err { E.failed err.old < 2 ^ 64 - 1 }
 {
-    let FrameReader { mut stream, first } = reply;
+    let OrderReply { mut stream, first } = reply;
     match print_frames(alloc, &mut stream, first, out, err) {
         Ok(status) => status,
-        Err(WhyReplyEnded::Memory) => tell_failure(Failure::Office(Fault::Memory), err),
-        Err(WhyReplyEnded::Server) => tell_failure(Failure::Office(Fault::Store), err),
-        Err(WhyReplyEnded::Output) => tell_failure(Failure::Output, err),
+        Err(ReplyError::Memory) => tell_failure(Failure::Office(Fault::Memory), err),
+        Err(ReplyError::Server) => tell_failure(Failure::Office(Fault::Store), err),
+        Err(ReplyError::Output) => tell_failure(Failure::Output, err),
     }
 }

@@ -1,13 +1,15 @@
-//! An order on a database: it is performed on the file; or sent to the program that serves it; or it waits while another program has
-//! locked the file.
+//! An order for a database. It is performed on the file, or sent to the program that serves it; or it waits while another
+//! program has locked the file.
 
 ghost use Rattle.std.specs.Prelude.{◌≡◌, ◌-◌, ◌^◌, ◌<◌, OnErr, Some};
 
 use crate::file_lock::FileLock;
 use crate::localhost::Localhost;
-use crate::notices::{LockHolder, say_foreign_log, say_if_open_to_others, say_waited, say_waiting};
-use crate::order_client::{FrameReader, Sent, print_reply, send_order};
-use crate::order_files::{OrderFiles, pack};
+use crate::notices::{
+    LockHolder, warn_foreign_log, warn_if_open_to_others, warn_waited, warn_waiting,
+};
+use crate::order_client::{OrderReply, Sent, print_reply, send_order};
+use crate::order_files::{OrderFiles, read_order_and_files};
 use crate::path_state::{PathKind, PathState};
 use crate::{LockedDatabase, close, dispatch_order, is_busy, order_socket, wants_progress};
 use desk::{Failure, Order, ProgressSink, Task, tell_failure};
@@ -19,16 +21,16 @@ use store::Fault;
 use store::fault::fault_of;
 use streams::Sink;
 
-/// The number of pauses between the attempts of an order whose file is locked: ten seconds of them.
+/// The maximum number of pauses between attempts to perform an order whose file is locked. They add up to ten seconds.
 const PAUSES: u32 = 1000;
 
-/// The length of a pause, in milliseconds.
+/// The duration of a pause, in milliseconds.
 const PAUSE: u64 = 10;
 
-/// After this many pauses a person at a terminal is shown why nothing happens.
+/// The number of pauses after which the program tells a person at a terminal what the order is waiting for.
 const PAUSES_UNSEEN: u32 = 50;
 
-/// An order, its words from DB on, and the path of its database.
+/// An order, its words starting with DB, and the path of its database.
 #[derive(Clone, Copy)]
 pub struct OrderRun<'a> {
     pub rt: &'a HostRuntime,
@@ -37,11 +39,11 @@ pub struct OrderRun<'a> {
     pub order: &'a Order<'a>,
 }
 
-/// Opens the locked database at a path, performs an order on it, and closes it. If the order failed, nothing is left that didn't exist
-/// before. An error is that another program has the file open; nothing is printed then.
+/// Opens the locked database at a path, performs an order on it, and closes it. If the order fails, nothing is left that didn't
+/// exist before. Returns an error if another program has the file open; nothing has been printed then.
 ///
-/// Two phases of writing depend on what `sqlite` states: `Connection::open_from` makes the log if it doesn't exist and recovers what
-/// it contains, and `close` copies it. The contract of `perform` covers everything in between.
+/// Two phases of writing depend on the contract of `sqlite`: `Connection::open_from` creates the log if it doesn't exist, and
+/// recovers what it contains; `close` copies the log. The contract of `perform` covers everything in between.
 fn open_and_perform<O: Sink, E: Sink>(
     place: LockedDatabase<'_>,
     order: &Order<'_>,
@@ -79,33 +81,33 @@ fn open_and_perform<O: Sink, E: Sink>(
     }
 }
 
-/// Prints fault 102, and that the log of a database belongs to another user.
+/// Prints fault 102, followed by a line saying that the log of a database belongs to another user.
 fn refuse_log<E: Sink>(rt: &HostRuntime, path: &str, err: &mut E) -> u8
     requires { E.failed err.old < 2 ^ 64 - 1 }
 {
     let status = tell_failure(Failure::Office(Fault::Store), err);
-    say_foreign_log(rt, path);
+    warn_foreign_log(rt, path);
     status
 }
 
-/// Returns why an order opens nothing at a path, if it doesn't. Only `init` makes an office, if no log contains anything: any other
-/// order finds no office there.
+/// Returns why an order must not open anything at a path; `None` if it may. Only `init` creates an office, and only if no log
+/// contains anything; for any other order, there is no office at the path.
 fn why_unopened(kind: PathKind, order: &Order<'_>) -> Option<Fault>
     ensures alone { kind ≡ PathKind.LogAlone → result ≡ Some Fault.WrongDatabase }
-    ensures unseen { kind ≡ PathKind.LogUnseen → result ≡ Some Fault.Store }
+    ensures unseen { kind ≡ PathKind.LogUnreadable → result ≡ Some Fault.Store }
 {
     match kind {
         PathKind::Taken => None,
         PathKind::Free | PathKind::Empty if matches!(order, Order::Perform(Task::Init)) => None,
         PathKind::Free | PathKind::Empty | PathKind::LogAlone => Some(Fault::WrongDatabase),
-        PathKind::LogUnseen => Some(Fault::Store),
+        PathKind::LogUnreadable => Some(Fault::Store),
     }
 }
 
-/// Prints a reply, with progress if a person watches.
+/// Prints a reply, with progress if a person is watching.
 fn print_watched<O: Sink, E: Sink>(
     request: OrderRun<'_>,
-    reply: FrameReader,
+    reply: OrderReply,
     out: &mut O,
     err: &mut E,
 ) -> u8
@@ -121,21 +123,21 @@ fn print_watched<O: Sink, E: Sink>(
     }
 }
 
-/// Reads what is sent of an order, unless it was read before, or no program serves the database.
+/// Reads the parts of an order that are sent to a server, unless they have been read before or no program serves the database.
 fn read_order_files(
     request: OrderRun<'_>,
     database: &str,
     brought: &mut Option<OrderFiles>,
 ) -> Result<(), Fault> {
     if brought.is_none() && order_socket::is_served(request.rt, database) {
-        *brought = Some(pack(request.rt, request.words, request.order)?);
+        *brought = Some(read_order_and_files(request.rt, request.words, request.order)?);
     }
     Ok(())
 }
 
-/// Sends an order to the program that has locked its database, and returns the status. The order's files are read before a connection
-/// is made, however long that takes. An error is that the program doesn't serve the database, or no longer does; nothing is printed
-/// then.
+/// Sends an order to the program that has locked the order's database, and returns the status. The order's files are read
+/// before the connection is made, however long that takes. Returns an error if the program doesn't serve the database, or no
+/// longer does; nothing has been printed then.
 fn hand_over<O: Sink, E: Sink>(
     request: OrderRun<'_>,
     database: &str,
@@ -154,14 +156,14 @@ fn hand_over<O: Sink, E: Sink>(
         return Err(LockHolder::Order);
     };
     match send_order(request.rt, database, order_files) {
-        Sent::Begun(reply) => Ok(print_watched(request, reply, out, err)),
+        Sent::Replying(reply) => Ok(print_watched(request, reply, out, err)),
         Sent::Unread => Err(LockHolder::Order),
         Sent::Failed(fault) => Ok(tell_failure(Failure::Office(fault), err)),
     }
 }
 
-/// Returns whether this error means that another order has locked the database, or has just made it.
-fn is_held(rt: &HostRuntime, database: &str, error: &io::Error) -> bool {
+/// Returns whether the error means that another order has locked the database or has just created it.
+fn is_locked_by_other(rt: &HostRuntime, database: &str, error: &io::Error) -> bool {
     match error.kind() {
         ErrorKind::WouldBlock => true,
         ErrorKind::AlreadyExists => {
@@ -171,11 +173,12 @@ fn is_held(rt: &HostRuntime, database: &str, error: &io::Error) -> bool {
     }
 }
 
-/// Performs an order on the locked database at a path. An error is that another program has the file open; nothing is printed then.
+/// Performs an order on the locked database at a path. Returns an error if another program has the file open; nothing has been
+/// printed then.
 fn perform_locked<O: Sink, E: Sink>(
     request: OrderRun<'_>,
     found: &PathState,
-    held: &FileLock,
+    lock: &FileLock,
     brought: &Option<OrderFiles>,
     out: &mut O,
     err: &mut E,
@@ -188,14 +191,14 @@ fn perform_locked<O: Sink, E: Sink>(
         rt: request.rt,
         path: request.path,
         found,
-        held,
+        lock,
         brought,
     };
     open_and_perform(place, request.order, out, err)
 }
 
-/// Locks the database that was found, and performs an order on it; or sends the order to the program that serves it. An error is that
-/// another program has locked the file; nothing is printed then.
+/// Locks the database that was found and performs an order on it, or sends the order to the program that serves it. Returns an
+/// error if another program has locked the file; nothing has been printed then.
 fn lock_and_perform<O: Sink, E: Sink>(
     request: OrderRun<'_>,
     found: &PathState,
@@ -209,12 +212,12 @@ fn lock_and_perform<O: Sink, E: Sink>(
 {
     let rt = request.rt;
     match found.hold(rt) {
-        Ok(held) => {
-            let done = perform_locked(request, found, &held, &*brought, out, err);
-            drop(held);
+        Ok(lock) => {
+            let done = perform_locked(request, found, &lock, &*brought, out, err);
+            drop(lock);
             done
         }
-        Err(error) if is_held(rt, found.database(), &error) => {
+        Err(error) if is_locked_by_other(rt, found.database(), &error) => {
             hand_over(request, found.database(), brought, out, err)
         }
         Err(error) if error.kind() == ErrorKind::OutOfMemory => {
@@ -224,8 +227,8 @@ fn lock_and_perform<O: Sink, E: Sink>(
     }
 }
 
-/// Checks what is at the path of an order's database, and performs the order if that is allowed there. An error is that another
-/// program has locked the file; nothing is printed then.
+/// Checks what is at the path of an order's database, and performs the order if it may be performed there. Returns an error if
+/// another program has locked the file; nothing has been printed then.
 fn attempt<O: Sink, E: Sink>(
     request: OrderRun<'_>,
     brought: &mut Option<OrderFiles>,
@@ -248,14 +251,15 @@ fn attempt<O: Sink, E: Sink>(
     lock_and_perform(request, &found, brought, out, err)
 }
 
-/// Performs an order on the database at a path, and returns its status. While another program has locked the file and doesn't serve
-/// it, the order waits, for at most ten seconds. Then it prints fault 102, and what has locked the file.
+/// Performs an order on the database at a path, and returns its status. While another program has locked the file and doesn't
+/// serve it, the order waits, for at most ten seconds. After that, the order fails with fault 102, and the program prints what
+/// has locked the file.
 pub fn perform_with_retries<O: Sink, E: Sink>(request: OrderRun<'_>, out: &mut O, err: &mut E) -> u8
     requires out { O.failed out.old < 2 ^ 64 - 1 }
     requires err { E.failed err.old < 2 ^ 64 - 1 }
 {
     let OrderRun { rt, path, .. } = request;
-    say_if_open_to_others(rt, path);
+    warn_if_open_to_others(rt, path);
     let mut brought = None;
     let mut holder = LockHolder::Order;
     for pauses in 0..=PAUSES {
@@ -264,11 +268,11 @@ pub fn perform_with_retries<O: Sink, E: Sink>(request: OrderRun<'_>, out: &mut O
             Err(found) => holder = found,
         }
         if pauses == PAUSES_UNSEEN {
-            say_waiting(rt, path, holder);
+            warn_waiting(rt, path, holder);
         }
         rt.sleep(Duration::from_millis(PAUSE));
     }
     let status = tell_failure(Failure::Office(Fault::Store), err);
-    say_waited(rt, path, holder);
+    warn_waited(rt, path, holder);
     status
 }

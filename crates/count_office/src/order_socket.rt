@@ -1,7 +1,7 @@
-//! The socket next to a database, by which orders are sent to the office that is served.
+//! The socket next to a database, through which orders are sent to the program that serves the office.
 //!
-//! Its name is that of the database followed by `-serve`, and only the owner of the database may use it. A program that serves a
-//! database has locked it (`file_lock.rt`), so a socket that exists already was left by a stop.
+//! The socket's name is the database's name followed by `-serve`, and only the owner of the database may use the socket. A
+//! program that serves a database has locked it (`file_lock.rt`), so a socket that already exists was left behind by a stop.
 
 use mio::net::UnixListener;
 use std::fs::{self, File, Files};
@@ -11,10 +11,10 @@ use std::os::fd::{AsFd, AsRawFd};
 use std::os::unix::fs::{FileTypeExt, MetadataExt};
 use std::os::unix::net::{self, SocketAddr, UnixStream};
 
-/// What is appended to the name of a database for its socket.
+/// The suffix that is appended to a database's name to form the name of its socket.
 const ENDING: &str = "-serve";
 
-/// The permissions of the socket: only its owner's.
+/// The permissions of the socket: only its owner may use it.
 const RIGHTS: u32 = 0o600;
 
 /// The permission bits of a mode.
@@ -23,11 +23,11 @@ const ALL_RIGHTS: u32 = 0o777;
 /// The highest descriptor of the standard streams, which are 0 to 2.
 const LAST_STREAM: i32 = 2;
 
-/// The maximum number of connections that wait to be accepted.
+/// The maximum number of connections waiting to be accepted.
 const QUEUE: i32 = 128;
 
-/// Returns whether a database belongs to this program's user. A socket that root made next to another user's database could be used by
-/// root alone; and if its owner could use it, that user's orders would be performed with root's permissions.
+/// Returns whether a database belongs to this program's user. If root made a socket next to another user's database, only root
+/// could use it; if that user could use it too, the user's orders would be performed with root's permissions.
 fn is_own(rt: &HostRuntime, database: &str) -> io::Result<bool> {
     Ok(fs::metadata(rt, database)?.uid() == libc::geteuid())
 }
@@ -38,7 +38,7 @@ pub struct OrderSocket {
     path: String,
 }
 
-/// Returns the result of the system call that has just returned this status.
+/// Returns the result of the system call that has just returned the given status.
 fn checked(status: i32) -> io::Result<()> {
     match status {
         0 => Ok(()),
@@ -46,13 +46,13 @@ fn checked(status: i32) -> io::Result<()> {
     }
 }
 
-/// Returns the path of the socket of a database.
+/// Returns the path of a database's socket.
 fn path_of(rt: &HostRuntime, database: &str) -> io::Result<String> {
     Ok(format!(in rt.alloc(); "{database}{ENDING}")?)
 }
 
-/// Returns the mode of the socket at a path; None if nothing is there. An error is that something other than a socket is there, such
-/// as a link, or another user's socket, or that it can't be examined.
+/// Returns the mode of the socket at a path; `None` if nothing exists there. Fails if something other than a socket is there,
+/// such as a link; if the socket belongs to another user; or if it can't be examined.
 fn mode_at(rt: &HostRuntime, database: &str, path: &str) -> io::Result<Option<u32>> {
     let found = match fs::symlink_metadata(rt, path) {
         Ok(found) => found,
@@ -67,7 +67,7 @@ fn mode_at(rt: &HostRuntime, database: &str, path: &str) -> io::Result<Option<u3
     }
 }
 
-/// Returns why there is no socket, in words.
+/// Returns the text that says why there is no socket.
 pub fn reason_of(error: &io::Error) -> &'static str {
     match error.kind() {
         ErrorKind::AlreadyExists => "something else is at its path, or somebody else's",
@@ -79,10 +79,10 @@ pub fn reason_of(error: &io::Error) -> &'static str {
 }
 
 impl OrderSocket {
-    /// Makes the socket of a locked database, and listens on it. One that a stop left is removed first.
+    /// Creates the socket of a locked database, and listens on it. A socket left behind by a stop is removed first.
     ///
-    /// The file of a socket gets the permissions that its descriptor has when it is bound, and no client can connect before it
-    /// listens.
+    /// A socket's file gets the permissions that its descriptor has when the socket is bound, and no client can connect before
+    /// the socket listens.
     pub fn listen(rt: &HostRuntime, database: &str) -> io::Result<(OrderSocket, UnixListener)> {
         if !is_own(rt, database)? {
             return Err(ErrorKind::Unsupported.into());
@@ -95,14 +95,14 @@ impl OrderSocket {
         let socket = rt.unix_socket()?;
         checked(libc::fchmod(socket.as_raw_fd(), RIGHTS))?;
         rt.bind_unix(socket.as_fd(), &address)?;
-        let beside = OrderSocket { path };
+        let order_socket = OrderSocket { path };
         let listening = checked(libc::net::listen(socket.as_raw_fd(), QUEUE));
         let listener = net::UnixListener::from(socket);
         let unblocked = listener.set_nonblocking(true);
         match listening.and(unblocked) {
-            Ok(()) => Ok((beside, UnixListener::from_std(listener))),
+            Ok(()) => Ok((order_socket, UnixListener::from_std(listener))),
             Err(error) => {
-                beside.remove(rt);
+                order_socket.remove(rt);
                 Err(error)
             }
         }
@@ -114,8 +114,8 @@ impl OrderSocket {
     }
 }
 
-/// Opens the descriptors of standard streams that were closed: otherwise a socket would get one of them, and output would be sent to
-/// its peer.
+/// Opens those descriptors of the standard streams that were closed. Otherwise a socket could get one of them, and output would
+/// be sent to its peer.
 pub fn reserved_descriptors(rt: &HostRuntime) -> io::Result<Vec<File>> {
     let mut held = Vec::new(rt.alloc());
     for _ in 0..=LAST_STREAM {
@@ -128,15 +128,15 @@ pub fn reserved_descriptors(rt: &HostRuntime) -> io::Result<Vec<File>> {
     Ok(held)
 }
 
-/// Returns whether a program serves a database. The connection is closed at once.
+/// Returns whether a program serves a database. The connection made to find out is closed immediately.
 pub fn is_served(rt: &HostRuntime, database: &str) -> bool {
     reach(rt, database).is_some()
 }
 
-/// Connects to the office that serves a database; None if no program serves it.
+/// Connects to the program that serves a database; returns `None` if no program does.
 ///
-/// The socket must belong to the owner of the database, and be accessible to that owner alone: any other socket may send anything to
-/// be printed.
+/// The socket must belong to the owner of the database, and be accessible only to that owner: anything could arrive through
+/// another socket, and it would be printed.
 pub fn reach(rt: &HostRuntime, database: &str) -> Option<UnixStream> {
     let path = path_of(rt, database).ok()?;
     let mode = mode_at(rt, database, path.as_str()).ok()??;

@@ -1,7 +1,7 @@
-//! What exists at a database's path before an order. An order that makes nothing leaves nothing there.
+//! What exists at a database's path before an order. An order that creates nothing leaves nothing there.
 //!
-//! `sqlite` makes both files when it opens them: DB, and its log next to it. If DB is missing or empty, it makes a new log, whatever
-//! the old one contains. So only `init` may open such a file, and only if no log contains anything.
+//! `sqlite` creates both files when it opens them: DB, and its log next to it. If DB is missing or empty, `sqlite` creates a
+//! new log, whatever the old one contains. So only `init` may open such a file, and only if no log contains anything.
 
 ghost use Rattle.std.specs.Prelude.{◌≡◌, ◌≢◌, ◌≤◌, None, IfSome};
 
@@ -11,42 +11,44 @@ use std::fs;
 use std::io::{self, ErrorKind};
 use std::os::unix::fs::MetadataExt;
 
-/// A shorter log contains no page: the smallest page has 512 bytes.
+/// The minimum size of a log that contains a page. The smallest page has 512 bytes.
 const MIN_LOG: u64 = 512;
 
-/// The maximum size of the log that `sqlite` makes before it writes the first page of a database. An `init` that was stopped at that
-/// point may be repeated.
+/// The maximum size of the log that `sqlite` creates before it writes the first page of a database. An `init` that was stopped
+/// at that point may be repeated.
 const MAX_BEGUN_LOG: u64 = 41;
 
-/// A database and its log with fewer bytes together contain no office: each of its eleven tables and of their keys has a page of 4096.
+/// If a database and its log have fewer bytes than this in total, they contain no office: each of the eleven tables, and each
+/// of their keys, occupies at least one 4096-byte page.
 pub const MIN_OFFICE: u64 = 22 * 4096;
 
-/// `sqlite` treats a file of at most this many bytes as an empty one.
+/// `sqlite` treats a file of at most this many bytes as empty.
 const MAX_EMPTY: u64 = 1;
 
-/// The permissions of a new database: only its owner's, from its creation on. `sqlite` gives its log the same.
+/// The permissions of a new database: only its owner may use it, from the moment it is created. `sqlite` gives the log the same
+/// permissions.
 pub const RIGHTS: u32 = 0o600;
 
-/// The permissions of group and others to write a file.
+/// The permission bits that let the group and others write to a file.
 const WRITING_BY_OTHERS: u32 = 0o022;
 
 /// The user id of root.
 const ROOT: u32 = 0;
 
-/// What is appended to the name of a database for its logs: that of `sqlite`, and the one which other programs of SQLite play back
-/// into a database.
+/// The suffixes that are appended to a database's name to form the names of its logs: the log of `sqlite`, and the journal that
+/// other programs using SQLite play back into a database.
 pub const LOG_ENDINGS: [&str; 2] = [LOG, JOURNAL];
 
 const LOG: &str = "-wal";
 
 const JOURNAL: &str = "-journal";
 
-/// Returns whether `sqlite` treats a name as no file.
+/// Returns whether `sqlite` treats a name as something other than a file.
 pub fn is_no_file(path: &str) -> bool {
     path == ":memory:" || path.starts_with("file:")
 }
 
-/// Returns the length of the file at a path; None if there is none. An error is that it can't be examined.
+/// Returns the length of the file at a path; `None` if there is no file. Fails if it can't be examined.
 pub fn length_at(rt: &HostRuntime, path: &str) -> io::Result<Option<u64>> {
     match fs::metadata(rt, path) {
         Ok(found) => Ok(Some(found.len())),
@@ -55,14 +57,14 @@ pub fn length_at(rt: &HostRuntime, path: &str) -> io::Result<Option<u64>> {
     }
 }
 
-/// Returns the length of the file at a path; None if there is none. A file that can't be examined has the greatest length, so it isn't
-/// treated as empty.
+/// Returns the length of the file at a path; `None` if there is no file. For a file that can't be examined, returns the maximum
+/// length, so that it isn't treated as empty.
 fn greatest_length_at(rt: &HostRuntime, path: &str) -> Option<u64> {
     length_at(rt, path).unwrap_or(Some(u64::MAX))
 }
 
-/// Returns the length of what has the name of a log; None if nothing has. A link or a directory has the greatest length. An error is
-/// that it can't be examined.
+/// Returns the length of the file with a log's name; `None` if nothing has that name. For a link or a directory, returns the
+/// maximum length. Fails if it can't be examined.
 fn log_length_at(rt: &HostRuntime, path: &str) -> io::Result<Option<u64>> {
     match fs::symlink_metadata(rt, path) {
         Ok(found) if found.is_file() => Ok(Some(found.len())),
@@ -72,22 +74,22 @@ fn log_length_at(rt: &HostRuntime, path: &str) -> io::Result<Option<u64>> {
     }
 }
 
-/// What an order finds at a database's path.
+/// What exists at a database's path before an order.
 #[derive(Clone, Copy)]
 pub enum PathKind {
-    /// Nothing, and nothing at the names of its logs.
+    /// Nothing, and nothing with the name of a log.
     Free,
-    /// A file that is treated as empty, and no log except one that `sqlite` began. They can't contain an office.
+    /// A file that is treated as empty, and no log except one that `sqlite` has just begun. They can't contain an office.
     Empty,
-    /// No file, or an empty one, and next to it a log that may contain something.
+    /// No file, or an empty one; and a log next to it that may contain something.
     LogAlone,
-    /// No file, or an empty one, and what has the name of its log can't be examined.
-    LogUnseen,
+    /// No file, or an empty one; and whatever has the log's name can't be examined.
+    LogUnreadable,
     /// A file that may contain an office, or that can't be examined.
     Taken,
 }
 
-/// Returns the kind of a path at which a database has this length, and its logs have these.
+/// Returns the kind of a path, given the lengths of the database and its logs.
 fn kind_of(database: Option<u64>, log: Option<u64>, journal: Option<u64>) -> PathKind
     ensures free { result ≡ PathKind.Free → (database ≡ None) × (log ≡ None) × (journal ≡ None) }
     ensures empty { result ≡ PathKind.Empty → IfSome log (λ length. length ≤ 41) × (journal ≡ None) }
@@ -103,8 +105,7 @@ fn kind_of(database: Option<u64>, log: Option<u64>, journal: Option<u64>) -> Pat
     }
 }
 
-/// Returns the kind of a path at which a database has this length. Its logs have these, unless what has their names couldn't be
-/// examined.
+/// Returns the kind of a path, given the length of the database, and the lengths of its logs or the errors from examining them.
 fn kind_with_log(
     database: Option<u64>,
     log: &io::Result<Option<u64>>,
@@ -116,12 +117,12 @@ fn kind_with_log(
         (Ok(log), Ok(journal)) => kind_of(database, *log, *journal),
         _ => match database {
             Some(length) if length > MAX_EMPTY => PathKind::Taken,
-            _ => PathKind::LogUnseen,
+            _ => PathKind::LogUnreadable,
         },
     }
 }
 
-/// The path of a database file with links resolved, and that of its log; and what was there.
+/// The path of a database file, with links resolved, and the path of its log; and what existed there.
 #[derive(Drop)]
 pub struct PathState {
     database: String,
@@ -130,7 +131,7 @@ pub struct PathState {
     pub kind: PathKind,
 }
 
-/// Returns a path with links resolved; the path itself if nothing is there.
+/// Returns a path with links resolved, or the path itself if nothing exists there.
 fn real_path(rt: &HostRuntime, alloc: Global, path: &str) -> Result<String, AllocError> {
     match fs::canonicalize(rt, path) {
         Ok(real) => String::from_str(alloc, real.as_str()),
@@ -139,7 +140,7 @@ fn real_path(rt: &HostRuntime, alloc: Global, path: &str) -> Result<String, Allo
 }
 
 impl PathState {
-    /// Returns what exists at a path now.
+    /// Returns what currently exists at a path.
     pub fn at(rt: &HostRuntime, path: &str) -> Result<PathState, AllocError> {
         let database = real_path(rt, rt.alloc(), path)?;
         let log = format!(in rt.alloc(); "{database}{LOG}")?;
@@ -163,13 +164,13 @@ impl PathState {
         self.database.as_str()
     }
 
-    /// Returns the path of its log.
+    /// Returns the path of the log.
     pub fn log(&self) -> &str {
         self.log.as_str()
     }
 
-    /// Returns whether the log belongs to a user other than root who may not write the database. That user could not have made it by
-    /// an order, so its content isn't the office's.
+    /// Returns whether the log belongs to a user, other than root, who may not write to the database. That user can't have
+    /// created the log with an order, so its contents aren't the office's.
     pub fn has_foreign_log(&self, rt: &HostRuntime) -> bool {
         let (Ok(database), Ok(log)) = (
             fs::metadata(rt, self.database.as_str()),
@@ -180,7 +181,7 @@ impl PathState {
         log.uid() != database.uid() && log.uid() != ROOT && database.mode() & WRITING_BY_OTHERS == 0
     }
 
-    /// Locks the database. If nothing was there, its file is made.
+    /// Locks the database. If nothing existed there, creates its file.
     pub fn hold(&self, rt: &HostRuntime) -> io::Result<FileLock> {
         let path = self.database.as_str();
         match self.kind {
@@ -190,8 +191,8 @@ impl PathState {
         }
     }
 
-    /// Removes each of the two files that didn't exist before, if nothing was stored in it. The database must be locked, so that no
-    /// other order uses it.
+    /// Removes those of the two files that didn't exist before, provided that nothing has been stored in them. The database
+    /// must be locked, so that no other order is using it.
     pub fn remove_created(&self, rt: &HostRuntime) {
         let database = greatest_length_at(rt, self.database.as_str()).unwrap_or(0);
         let log = match log_length_at(rt, self.log.as_str()) {

@@ -1,7 +1,8 @@
-//! An output that a person may read on a terminal: control characters aren't written there as they are.
+//! An output that a person may read on a terminal, where control characters are masked.
 //!
-//! Names of wards and candidates may come from anyone. They have no ASCII control characters, but they may have others, such as
-//! U+009B, which can make a terminal move or rename things, and characters that change the direction of text.
+//! The names of wards and candidates may come from anyone. They contain no ASCII control characters, but they may contain other
+//! control characters, such as U+009B, which can make a terminal move or rename things, and characters that change the
+//! direction of text.
 
 ghost use Rattle.std.specs.Prelude.{◌≡◌, ◌≤◌, ◌<◌, ◌+◌, ◌-◌, ◌^◌, length, take, IfOk, None, OnErr, OnOk};
 ghost use Rattle.std.specs.Io.KnownBytes.{Appends};
@@ -9,16 +10,16 @@ ghost use Rattle.count_office.specs.Screens.{controls, ends_steering, last_two, 
 
 use streams::{Broken, Sink};
 
-/// The maximum number of bytes that are written at once.
-const ROOM: usize = 512;
+/// The maximum number of bytes to write at once.
+const MAX_PIECE: usize = 512;
 
-/// What is shown on a terminal in place of a control byte.
+/// The byte that a terminal shows in place of a control byte.
 const MASK: u8 = b'?';
 
-/// An output, and the last two bytes that were written to it.
+/// An output, and the last two bytes written to it.
 ///
-/// On a terminal the last byte of a character that controls it, or the direction of text, becomes a question mark: what remains isn't
-/// a valid character. Anywhere else each byte is written as it is.
+/// If the output is a terminal, the last byte of any character that controls the terminal or the direction of text is replaced
+/// with a question mark, so that the bytes are no longer a valid character. Otherwise each byte is written unchanged.
 #[derive(Drop)]
 pub struct Screen<S> {
     stream: S,
@@ -27,7 +28,7 @@ pub struct Screen<S> {
     second: u8,
 }
 
-/// Returns whether a byte is an ASCII control character other than a line feed and a tab.
+/// Returns whether a byte is an ASCII control character other than a line feed or a tab.
 fn controls(byte: u8) -> bool
     ensures { result ≡ controls byte }
 {
@@ -58,12 +59,12 @@ fn shown_byte(first: u8, second: u8, byte: u8) -> u8
     }
 }
 
-/// Returns bytes as they are shown on a terminal, given the two bytes before them, at the beginning of an array.
-fn mask(first: u8, second: u8, bytes: &[u8]) -> [u8; ROOM]
+/// Returns bytes as they are shown on a terminal, given the two bytes before them, at the start of an array.
+fn mask(first: u8, second: u8, bytes: &[u8]) -> [u8; MAX_PIECE]
     requires { length bytes.now ≤ 512 }
     ensures { take (length bytes.now) result ≡ masked first second bytes.now }
 {
-    let mut room = [0; ROOM];
+    let mut room = [0; MAX_PIECE];
     let mut before = first;
     let mut last = second;
     for i in 0..bytes.len() {
@@ -74,7 +75,7 @@ fn mask(first: u8, second: u8, bytes: &[u8]) -> [u8; ROOM]
     room
 }
 
-/// Returns the last two of some bytes, which follow these two.
+/// Returns the last two bytes after the given bytes are appended to the given two.
 fn last_two(first: u8, second: u8, bytes: &[u8]) -> (u8, u8)
     ensures { result ≡ last_two first second bytes.now }
 {
@@ -88,7 +89,7 @@ fn last_two(first: u8, second: u8, bytes: &[u8]) -> (u8, u8)
 }
 
 impl<S: Sink> Screen<S> {
-    /// Returns an output to which nothing has been written yet.
+    /// Returns a screen that nothing has been written to yet.
     pub fn new(stream: S, is_terminal: bool) -> Screen<S>
         ensures stream { result.stream ≡ stream }
         ensures terminal { result.is_terminal ≡ is_terminal }
@@ -111,7 +112,7 @@ impl<S: Sink> Screen<S> {
         ensures ok { OnOk result (S.failed self.new.stream ≡ S.failed self.old.stream) }
         ensures err { OnErr result (S.failed self.new.stream ≡ S.failed self.old.stream + 1) }
     {
-        let bytes = &bytes[..bytes.len().min(ROOM)];
+        let bytes = &bytes[..bytes.len().min(MAX_PIECE)];
         let room = mask(self.first, self.second, bytes);
         let count = self.stream.put(&room[..bytes.len()])?;
         let (first, second) = last_two(self.first, self.second, &bytes[..count]);

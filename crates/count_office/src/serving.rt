@@ -1,15 +1,16 @@
-//! The order to serve: opens an office and serves it on a host, with the settings of the order and the codes that were read.
+//! The order to serve: opens an office and serves it on a host, with the order's settings and the codes that were read.
 
-ghost use Rattle.std.specs.Prelude.{◌≡◌, ◌-◌, ◌^◌, ◌<◌, IfSome, option_map};
+ghost use Rattle.std.specs.Prelude.{◌≡◌, ◌-◌, ◌^◌, ◌<◌, IfOk, IfSome, option_map};
 ghost use Rattle.sqlite.specs.Held.{state};
 ghost use Rattle.desk.specs.Pages.{IsErrorTold};
 ghost use Rattle.connections.specs.Streams.{stream_of};
-ghost use Rattle.wire.specs.Origins.{given_by};
-ghost use Rattle.count_office.specs.Serving.{MayServe, ServesAtNetwork, ServesOrder, TellsOutcome, failure_by, gate_at, server_settings_of, settings_with};
+ghost use Rattle.wire.specs.Origins.{origin_setting};
+ghost use Rattle.count_office.specs.Serving.{MayServe, ServesAtNetwork, ServesOrder, TellsOutcome, failure_by, gate_at, public_at, public_in, public_with, server_settings_of, settings_with};
 
 use crate::codes_file::tell_untaken;
 use crate::gate::{GateFiles, gate_of, read_gate_files};
 use crate::host::{Host, Opened};
+use crate::public::{PublicTexts, make_public_texts, public_of};
 use connections::Network;
 use desk::{Failure, tell_failure};
 use office::Office;
@@ -18,28 +19,30 @@ use sqlite::{Alter, Connection};
 use std::alloc::Global;
 use store::Fault;
 use streams::Sink;
-use wire::{HttpSettings, Origin};
+use wire::{HttpSettings, Origin, Public};
 
-/// The words of `serve`: its port, the number of clients after which it ends, the origin of a proxy, and the path of a file of
-/// clerks' codes, if they are given.
+/// The words of `serve`: its port; if given, the number of clients after which it ends, the origin of a proxy, and the path of
+/// a file of clerks' codes; and, if the count is shown in public, its title.
 #[derive(Clone, Copy)]
 pub struct Serving<'a> {
     pub port: u32,
     pub connections: Option<u32>,
     pub origin: Option<Origin<'a>>,
     pub codes: Option<&'a str>,
+    pub public: Option<&'a str>,
 }
 
-/// The settings for serving an office: the words of `serve`, the codes and the page of the gate, if there is one, and the office's
-/// file.
+/// The settings for serving an office: the words of `serve`; the codes and the pages of the gate, if there is one; what is
+/// shown in public; and the office's file.
 #[derive(Clone, Copy)]
 pub struct ServeSettings<'a> {
     pub serving: Serving<'a>,
     pub gate_files: &'a Option<GateFiles>,
+    pub public: Option<Public<'a>>,
     pub file: FileNumbers,
 }
 
-/// Returns the failure that is printed if serving ended early.
+/// Returns the failure to print if serving ended early.
 fn failure_of(ended: ServeError) -> Failure
     ensures { result ≡ failure_by ended }
 {
@@ -49,7 +52,7 @@ fn failure_of(ended: ServeError) -> Failure
     }
 }
 
-/// Returns the number of clients after which serving ends, in 64 bits.
+/// Returns the number of clients after which serving ends, as a 64-bit number.
 fn most_of(connections: Option<u32>) -> Option<u64>
     ensures { result ≡ connections }
 {
@@ -59,7 +62,7 @@ fn most_of(connections: Option<u32>) -> Option<u64>
     }
 }
 
-/// Serves an open office on its network, with its settings.
+/// Serves an open office on a network, with the given settings.
 fn serve_through<D: Network, A: ServedFile, S: Alter>(
     alloc: Global,
     network: &mut D,
@@ -74,6 +77,7 @@ fn serve_through<D: Network, A: ServedFile, S: Alter>(
         http: HttpSettings {
             origin: settings.serving.origin,
             gate: gate_of(settings.gate_files),
+            public: settings.public,
         },
         file: settings.file,
         served_file,
@@ -82,8 +86,21 @@ fn serve_through<D: Network, A: ServedFile, S: Alter>(
     serve_connections(alloc, network, server_settings, most, office)
 }
 
-/// Opens the network of a host, serves an open office there, and closes it. The error is that it can't be opened, or why serving
-/// ended early.
+/// Builds the texts that are shown in public, if there is a title. The only failure is a failed allocation.
+fn public_texts<'a>(
+    alloc: Global,
+    title: Option<&'a str>,
+) -> Result<Option<PublicTexts<'a>>, Failure>
+    ensures { IfOk result (λ texts. option_map public_at texts ≡ option_map (λ its. public_with its.now) title.entry) }
+{
+    match make_public_texts(alloc, title) {
+        Ok(texts) => Ok(texts),
+        Err(_) => Err(Failure::Office(Fault::Memory)),
+    }
+}
+
+/// Opens the network of a host, serves an open office there, and closes the network. Returns an error if the network can't be
+/// opened, if an allocation fails before that, or if serving ended early.
 fn serve_at<H: Host, S: Alter>(
     alloc: Global,
     host: &mut H,
@@ -91,11 +108,12 @@ fn serve_at<H: Host, S: Alter>(
     gate_files: &Option<GateFiles>,
     office: &mut Office<S>,
 ) -> Result<(), Failure>
-    ensures { MayServe (λ given. (given ≡ settings_with (given_by serving.entry.origin) (option_map gate_at gate_files.now) given.file given.whole)
+    ensures { MayServe (λ given. (given ≡ settings_with (origin_setting serving.entry.origin) (option_map gate_at gate_files.now) (public_in serving.entry) given.file given.whole)
         × IfSome (H.file host.old) (λ numbers. given.file ≡ numbers))
         (stream_of H.Sockets.Stream.held H.Sockets.Stream.taken H.Sockets.Stream.failed) (state S.Store)
         serving.entry.port (H.known host.old) (H.known host.new) serving.entry.connections office.old office.new result }
 {
+    let texts = public_texts(alloc, serving.public)?;
     let Opened {
         mut network,
         served_file,
@@ -104,6 +122,7 @@ fn serve_at<H: Host, S: Alter>(
     let settings = ServeSettings {
         serving,
         gate_files,
+        public: public_of(&texts),
         file,
     };
     let ended = serve_through(alloc, &mut network, settings, &served_file, office);
@@ -132,11 +151,12 @@ fn tell_outcome<E: Sink>(outcome: Result<(), Failure>, err: &mut E) -> u8
     }
 }
 
-/// Opens the office of a connection, serves it on a host, and returns the status and the connection.
+/// Opens the office on a connection, serves it on a host, and returns the status and the connection.
 ///
-/// If the settings name a file of clerks' codes, it is read first, and every client is served at a gate with just these codes.
-/// Without one there is no gate. If the codes can't be read, or the office or the network can't be opened, nobody is served and
-/// nothing changes. The failure is printed.
+/// If the settings name a file of clerks' codes, that file is read first, and every client is served at a gate with exactly
+/// those codes. Otherwise there is no gate. If the settings have a title, the count is shown in public under that title. If the
+/// codes can't be read, or the office or the network can't be opened, no client is served and nothing changes. Any failure is
+/// printed.
 pub fn serve<H: Host, S: Alter, E: Sink>(
     alloc: Global,
     host: &mut H,

@@ -1,4 +1,4 @@
--- The text after a prefix is what the library returns when it strips that.
+-- The text after a prefix is what the library returns when it strips the prefix.
 use Rattle.std.proofs.Common.{◌≡◌, ◌∙◌, ℕ, Bool, List, Option, Some, None, true, false, drop, length, ap, refl}
 use Rattle.std.specs.Prelude.{MatchOption, nat_eq}
 use Rattle.std.specs.List.{starts_with}

@@ -1,4 +1,4 @@
--- What remains in effect after an order, and what a connection at rest leaves.
+-- What remains in effect after an order, and what a connection at rest leaves in the database.
 use Rattle.std.proofs.Common.{◌≡◌, ◌≢◌, ◌⊎◌, ◌≤◌, ◌+◌, ◌∙◌, inl, inr, ℕ, Bool, true, false, List, [], ◌∷◌, Option, None, length, take, IsTrue, refl, sym, ap, subst, arith, suc}
 use Rattle.clap.specs.Words.{Text}
 use Rattle.sqlite.specs.Tree.{Trees}
@@ -37,14 +37,14 @@ use Rattle.desk.proofs.TellingLemmas.{goes_after_zero, shown_zero, whole_below, 
 
 -- ---- a connection at rest
 
--- a connection that rests at a database leaves only that
+-- what a connection at rest leaves is exactly the contents of its database
 pub rests_leaves : (s : OfficeState) (db : Database) (st : State) → ((trees : Trees) → IsTrue st.is_open → st.may_leave trees → trees ≡ st.committed.trees) → RestsAt db st → IsLeftAt s db
     → LeavesState st (λ x. x ≡ s)
 rests_leaves s db st settled rests left trees may =
     let same : db.trees ≡ trees = sym (settled trees rests.is_open may ∙ ap (λ (d : Database). d.trees) rests.committed) in
     (s, refl, record { is = left.is; stores = subst (Stores (tables_of s)) same left.stores })
 
--- also after reads
+-- the same holds after reads
 pub read_leaves : (s : OfficeState) (db : Database) (old new : State) → ((trees : Trees) → IsTrue old.is_open → old.may_leave trees → trees ≡ old.committed.trees) → OnlyReads old new
     → HasCleanDisk new → RestsAt db old
     → IsLeftAt s db → LeavesState new (λ x. x ≡ s)
@@ -58,7 +58,7 @@ some_there : (s : Schema) → IsOfficeSchema s → has_some_table s ≡ true
 unfolding same_name
 some_there s h = subst (λ (x : Schema). has_some_table x ≡ true) (sym h.is) refl
 
--- an office has all tables, so it is no older one
+-- an office has every table, so it isn't an older one
 all_there : (s : Schema) → IsOfficeSchema s → has_every_table s ≡ true
 unfolding same_name
 all_there s h = subst (λ (x : Schema). has_every_table x ≡ true) (sym h.is) refl
@@ -76,7 +76,7 @@ pub left_older : (s : OfficeState) (db : Database) → IsLeftAt s db → IsOlder
 left_older s db left =
     whole_only db.schema (whole_form db.schema (all_there db.schema (office_begins (tables_of s) db (left_holds s db left).office)))
 
--- the only faults of a migration there are Memory and Store
+-- migrating an office that already has this version can only fail with Memory or Store
 pub migration_told : (s : OfficeState) (db : Database) (fault : Fault) → IsLeftAt s db → IsToldInMigration db fault → IsMemoryOrStore fault
 migration_told s db Memory left told = inl refl
 migration_told s db Store left told = inr refl
@@ -86,16 +86,16 @@ migration_told s db WrongDatabase left told = left_told s db WrongDatabase left 
 migration_told s db NewerSchema left told = left_told s db NewerSchema left told
 migration_told s db OlderSchema left told = absurd told
 
--- a table that exists when a connection rests exists now
+-- a table that exists in the database at rest exists in the current schema
 pub table_rests : (db : Database) (st : State) → RestsAt db st → has_some_table db.schema ≡ true → has_some_table st.now.schema ≡ true
 table_rests db st rests there = subst (λ (d : Database). has_some_table d.schema ≡ true) (sym rests.now) there
 
--- an office has a table with a name of ours
+-- an office has a table with one of our names
 pub has_tables : (s : OfficeState) (db : Database) (st : State) → RestsAt db st → IsLeftAt s db → has_some_table st.now.schema ≡ true
 has_tables s db st rests left =
     table_rests db st rests (some_there db.schema (office_begins (tables_of s) db (left_holds s db left).office))
 
--- an empty database has no table of an office, so the only faults of making one there are Memory and Store
+-- an empty database contains no office table, so creating an office there can only fail with Memory or Store
 pub blank_told : {P : Type 0} (st : State) (fault : Fault) → IsBlank st → (fault ≡ Memory) ⊎ ((fault ≡ Store) ⊎ ((fault ≡ WrongDatabase) × (has_some_table st.now.schema ≡ true) × P))
     → IsMemoryOrStore fault
 blank_told st fault blank (inl memory) = inl memory
@@ -105,7 +105,7 @@ blank_told st fault blank (inr (inr there)) =
     let bad : true ≡ false = sym there.1 ∙ ap has_some_table blank.schema ∙ none in
     absurd (cc bad)
 
--- the fault of making an office is WrongDatabase, so the alternative for that one holds
+-- creating an office failed with WrongDatabase, so the alternative for that fault holds
 pub wrong_same : {T P : Type 0} (fault : Fault) → fault ≡ WrongDatabase → (fault ≡ Memory) ⊎ ((fault ≡ Store) ⊎ ((fault ≡ WrongDatabase) × T × P)) → P
 wrong_same fault wrong (inl memory) = let bad : WrongDatabase ≡ Memory = sym wrong ∙ memory in absurd (cc bad)
 wrong_same fault wrong (inr (inl failing)) = let bad : WrongDatabase ≡ Store = sym wrong ∙ failing in absurd (cc bad)
@@ -113,7 +113,7 @@ wrong_same fault wrong (inr (inr there)) = there.2
 
 -- ---- what remains in effect
 
--- after some of the requests: those that were answered, and at most one more
+-- the state is the one after a prefix of the requests: the answered ones, and at most one more
 abbrev pub IsAfterSome : OfficeState → List Request → ℕ → OfficeState → Type 0
 IsAfterSome s rs n x = (k : ℕ) × (n ≤ k) × (k ≤ n + 1) × (k ≤ length rs) × (x ≡ after s (take k rs))
 
@@ -121,7 +121,7 @@ IsAfterSome s rs n x = (k : ℕ) × (n ≤ k) × (k ≤ n + 1) × (k ≤ length 
 abbrev pub IsGood : Course → Type 0
 IsGood c = (c.page.status ≡ 0) × (c.cut ≡ uncut)
 
--- what remains in effect of requests that were sent from a state on
+-- what remains in effect after requests were sent, starting from the given state
 pub record Kept (s : OfficeState) (c : Course) (st : State) : Type 0 where
   pub within : c.answered ≤ length c.requests
   pub leaves : LeavesState st (IsAfterSome s c.requests c.answered)
@@ -135,7 +135,7 @@ kept_none s line page cut st leaves = record {
   all = λ fine. refl;
 }
 
--- one more request, before others
+-- another request was sent before the others
 kept_more : (s : OfficeState) (r : Request) (page : Page) (rest : Course) (st : State) → Kept (after_one s r) rest st → Kept s (told_above (r ∷ []) page rest) st
 kept_more s r page rest st kept =
     let low = kept.within in
@@ -148,7 +148,7 @@ kept_more s r page rest st kept =
       ) in omega (arith, same);
     }
 
--- a page without a request, before others
+-- a page that belongs to no request was printed before the rest
 kept_above : (s : OfficeState) (page : Page) (rest : Course) (st : State) → Kept s rest st → Kept s (told_above [] page rest) st
 kept_above s page rest st kept =
     let low = kept.within in
@@ -213,7 +213,7 @@ kept_played old closed st keep folder s (turn ∷ turns) c (file, found, inl (ow
 kept_played old closed st keep folder s (turn ∷ turns) c (file, found, inr unsent) =
     kept_unsent old closed st keep turn.line (IsTold s turn.errand file) s c (λ e more. kept_played old closed st keep folder s turns e more) unsent
 
--- a job that was done in an open office
+-- a job was done in an open office
 pub kept_done : (old : State) (closed : Bool) (st : State) (folder : Folder) (s : OfficeState) (job : Job) (c : Course) → IsDone old closed st folder s job c → Kept s c st
 kept_done old closed st folder s job c (inl (turns, are, played)) = kept_played old closed st (keeps_going job) folder s turns c played
 kept_done old closed st folder s job c (inr unsent) = kept_unsent old closed st false None _ s c (λ e never. absurd never) unsent
@@ -244,6 +244,6 @@ performed folder s task cut before then page ends old new shown (requests, answe
       all = λ zero. let fine = shown_zero cut before then page ends shown zero in kept.all (fine.1, fine.0);
     }
 
--- if nothing was sent
+-- the contract holds if nothing was sent
 pub untouched : (Tells : Page → Type 0) (s : OfficeState) (cut : Cut) (page : Page) (st : State) → Tells page → LeavesState st (λ x. x ≡ s) → ComesTo cut page (λ course. IsUntouched Tells s course st)
 untouched Tells s cut page st tells leaves = ([], 0, (page, cut, refl, tells, leaves))

@@ -1,4 +1,4 @@
--- The meaning of words with several texts, a flag, or an optional number, in computed examples.
+-- Computed examples: the meaning of words with several texts, a flag or an optional number.
 use Rattle.std.proofs.Common.{◌≡◌, [], ◌∷◌, true, false, refl}
 use Rattle.std.specs.Prelude.{codes, Some, None}
 use Rattle.clap.proofs.OnLiterals.{clap_on_literals}
@@ -6,7 +6,7 @@ use Rattle.clap.specs.Words.{subcommand_of}
 use Rattle.desk.specs.Orders.{key, orders, replay, serve}
 use Rattle.desk.specs.Words.{meaning, office_words}
 
--- the marks of three papers, one of them empty, around the id
+-- the marks of three papers, one of them empty, before and after the id
 a_keying : meaning (subcommand_of office_words (codes "DB" ∷ codes "key" ∷ codes "4" ∷ codes "12" ∷ codes "1" ∷ codes ",1," ∷ [] ∷ codes "--id" ∷ codes "k1" ∷ codes "D" ∷ []))
     ≡ Some (key 4 12 1 (codes ",1," ∷ [] ∷ codes "D" ∷ []) (codes "k1"))
 unfolding office_words orders clap_on_literals
@@ -24,10 +24,10 @@ up_to_a_refusal : meaning (subcommand_of office_words (codes "DB" ∷ codes "rep
 unfolding office_words orders clap_on_literals
 up_to_a_refusal = refl
 
-without_a_limit : meaning (subcommand_of office_words (codes "DB" ∷ codes "serve" ∷ codes "8080" ∷ [])) ≡ Some (serve 8080 None None None)
+without_a_limit : meaning (subcommand_of office_words (codes "DB" ∷ codes "serve" ∷ codes "8080" ∷ [])) ≡ Some (serve 8080 None None None None)
 unfolding office_words orders clap_on_literals
 without_a_limit = refl
 
-with_a_limit : meaning (subcommand_of office_words (codes "DB" ∷ codes "serve" ∷ codes "8080" ∷ codes "1000000" ∷ [])) ≡ Some (serve 8080 (Some 1000000) None None)
+with_a_limit : meaning (subcommand_of office_words (codes "DB" ∷ codes "serve" ∷ codes "8080" ∷ codes "1000000" ∷ [])) ≡ Some (serve 8080 (Some 1000000) None None None)
 unfolding office_words orders clap_on_literals
 with_a_limit = refl

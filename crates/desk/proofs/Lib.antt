@@ -10,6 +10,7 @@ pub mod CourseLemmas
 pub mod StageLemmas
 pub mod KeptLemmas
 pub mod OpenLemmas
+pub mod SealLemmas
 pub mod ScriptLemmas
 pub mod ScriptEnds
 pub mod CopyingLemmas

@@ -1,4 +1,4 @@
--- The lines of a text, in computed examples.
+-- Computed examples of splitting a text into lines.
 use Rattle.std.proofs.Common.{◌≡◌, [], ◌∷◌, refl}
 use Rattle.std.specs.Prelude.{codes}
 use Rattle.desk.specs.Scripts.{lines_of}
@@ -9,7 +9,7 @@ two_lines = refl
 nothing : lines_of [] ≡ [] ∷ []
 nothing = refl
 
--- a byte order mark at the beginning is skipped, and no other
+-- a byte order mark is skipped at the beginning, and nowhere else
 mark_at_the_front : lines_of (239 ∷ 187 ∷ 191 ∷ codes "close 7\nseal 7") ≡ codes "close 7" ∷ codes "seal 7" ∷ []
 mark_at_the_front = refl
 

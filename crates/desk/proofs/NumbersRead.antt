@@ -7,7 +7,7 @@ use Rattle.clap.specs.declared.builder.value_parser.ValueParser.TheVariants as p
 use Rattle.clap.proofs.ValueTestLemmas.{accepts-Accepts, Accepts-accepts}
 use Rattle.desk.specs.Numbers.{is_number, number_in}
 
--- the digits of a number of 32 bits, optionally after a plus sign
+-- the digits of a 32-bit number, optionally preceded by a plus sign
 abbrev pub FitsNumber : List ℕ → Type 0
 FitsNumber t = IsNumeral 10 (without_leading_plus t) × (digits_value 10 (without_leading_plus t) < 2 ^ 32)
 
@@ -23,7 +23,7 @@ unfitting_is_none t unfit = by (is_number t) refl
         let number = accepts-Accepts false (parser.Unsigned 0 4294967295) t is in
         absurd (unfit (number.0, omega arith))
 
--- what a typed getter of `clap` reads from a text; `G` is the relation between the text and its result
+-- what a typed `clap` getter reads from a text; `G` relates the text to the result
 pub read_number : (E : Type 0) (G : List ℕ → Result ℕ E → Type 0) (t : List ℕ) (r : Option ℕ)
     → ((u : List ℕ) (x : Result ℕ E) → G u x → ParsesUnsigned 32 10 u x)
     → ReadsOne G t r → r ≡ number_in t

@@ -1,4 +1,4 @@
--- The state at which an order leaves an office open: that after the answered requests.
+-- The state in which an order leaves an office open, which is the one after the answered requests.
 use Rattle.std.proofs.Common.{◌≡◌, ◌≢◌, ◌≤◌, ◌+◌, ◌∙◌, inl, inr, ℕ, Bool, true, false, List, [], ◌∷◌, ◌++◌, Option, None, add-one, ap, arith, drop, length, sym, subst, take, true≢false}
 use Rattle.std.proofs.Math.Seq.{take-add}
 use Rattle.std.proofs.lemmas.List.{length-append, length-drop, length-take, length-take-le, take-take}
@@ -17,7 +17,7 @@ use Rattle.desk.specs.declared.scripts.ScriptStep.{ScriptStep}
 use Rattle.desk.proofs.KeptLemmas.{IsAfterSome}
 
 module _ (old : State) (closed : Bool) (st : State) where
-  -- if the office is still open, it is at the state after the answered requests
+  -- if the office is still open, it is in the state after the answered requests
   abbrev pub IsOpenAfter : OfficeState → Course → Type 0
   IsOpenAfter s c = closed ≡ false → IsOpenAt (after s (take c.answered c.requests)) closed st
 
@@ -64,11 +64,11 @@ module _ (old : State) (closed : Bool) (st : State) where
   open_done folder s job c (inl (turns, are, played)) = open_played (keeps_going job) folder s turns c played
   open_done folder s job c (inr unsent) = open_unsent false None _ s c (λ e never. absurd never) unsent
 
--- the first of some requests, and at most one more, are among the first and the next one
+-- a prefix that is at most one element longer than the first n is also a prefix of the first n elements and the next one
 take_next : {X : Type 0} (xs : List X) (n k : ℕ) → k ≤ n + 1 → take k xs ≡ take k (take n xs ++ take 1 (drop n xs))
 take_next xs n k low = sym (take-take k (n + 1) xs low) ∙ ap (take k) (take-add n 1 xs)
 
--- after some of the requests: those that were answered, and at most one more; so it is after some of these alone
+-- a state after a prefix of the requests, namely the answered ones and at most one more, is also a state after a prefix of just those requests
 pub after_next : (s : OfficeState) (c : Course) (x : OfficeState) → c.answered ≤ length c.requests → IsAfterSome s c.requests c.answered x
     → IsAfterSome s (take c.answered c.requests ++ take 1 (drop c.answered c.requests)) (length (take c.answered c.requests)) x
 after_next s c x within (k, least, most, inside, is) =

@@ -1,4 +1,4 @@
--- The orders of two tables, appended, are all orders.
+-- The concatenation of two tables of orders is the table of all orders.
 use Rattle.std.proofs.Common.{◌≡◌, ◌∙◌, ◌++◌, ◌∷◌, [], ℕ, List, Result, Ok, Err, map, take, drop, refl, sym, ap}
 use Rattle.std.specs.Prelude.{IfOk}
 use Rattle.std.proofs.lemmas.List.{map-append, take-append-drop}
@@ -11,11 +11,11 @@ orders_behind : (app : App) (xs ys : List OrderWords) → with_orders app (xs ++
 orders_behind app [] ys = refl
 orders_behind app (x ∷ xs) ys = orders_behind (with_subcommand app (order_words x).top) xs ys
 
--- the first of some orders, and those after them
+-- the first n orders and the remaining ones make up all orders
 parts_are_all : (n : ℕ) (all : List OrderEntry) → map (λ (e : OrderEntry). e.typed) (take n all) ++ map (λ (e : OrderEntry). e.typed) (drop n all) ≡ map (λ (e : OrderEntry). e.typed) all
 parts_are_all n all = sym (map-append (λ (e : OrderEntry). e.typed) (take n all) (drop n all)) ∙ ap (map (λ (e : OrderEntry). e.typed)) (take-append-drop n all)
 
--- a command with the first orders, and with those after them, has all
+-- a command with the first n orders and the remaining ones added has all orders
 pub has_all : {E : Type 0} (r : Result Command E) (app : App) (n : ℕ) (front back : List OrderWords) → front ≡ map (λ (e : OrderEntry). e.typed) (take n orders)
     → back ≡ map (λ (e : OrderEntry). e.typed) (drop n orders)
     → app ≡ with_orders start_words front → IfOk r (λ c. app_of c ≡ with_orders app back) → IfOk r (λ c. app_of c ≡ office_words)

@@ -30,7 +30,7 @@ an_order_is_required : office_words.top.subcommand_required ≡ true
 unfolding office_words orders
 an_order_is_required = refl
 
--- among subcommands that are all orders, the one that is found is an order
+-- if all subcommands are orders, the one that is found is an order
 found_is_order : (p : Shape → Bool) (w : List Text) (subs : List Shape) → list_all (λ (s : Shape). is_order_name s.name) subs ≡ true
     → is_some (find p subs) ≡ true → names_order (option_map (λ s. rows_at s w) (find p subs)) ≡ true
 found_is_order p w [] all there = cc
@@ -51,7 +51,7 @@ entered_is_order None there = cc
 entered_is_order (Some p) there = found_is_order (λ s. answers_to p.0 (label_of s)) p.1 (built office_words).subs subcommands_are_orders
     (sym (mapped_is_there (λ s. rows_at s p.1) _) ∙ there)
 
--- the matches' subcommand is the one that the definition finds in the words
+-- the matched subcommand is the one that the specification finds in the words
 pub matches_are_the_words : (c : Command) (m : ArgMatches) (words : List Text) → app_of c ≡ office_words → HasMatchesOf (app_of c) words m
     → subcommand_rows_of m ≡ subcommand_of office_words words
 matches_are_the_words c m words app has = (has (ap is_simple app ∙ office_is_simple)).1 ∙ ap (λ a. subcommand_of a words) app
@@ -77,7 +77,7 @@ both_given : {B : Type 0} (f : B → Text) (h : B → List Row) (o : Option B) (
 both_given f h None name rows a b = absurd (cc a)
 both_given f h (Some x) name rows a b = cc
 
--- the name and the rows of the matches' subcommand
+-- the name and rows of the matched subcommand
 pub rows_given : (name : Text) (rows : List Row) (m : ArgMatches) → Some name ≡ subcommand_name_of m → Some rows ≡ option_map (λ (p : Text × List Row). p.1) (subcommand_rows_of m)
     → subcommand_rows_of m ≡ Some (name, rows)
 rows_given name rows m a b = both_given (λ x. (out-SubCommand (box_value x)).name.now) (λ x. rows_of (found_of (out-SubCommand (box_value x)).matches)) (out-ArgMatches m).subcommand name rows a b

@@ -1,4 +1,4 @@
--- What is printed for a question is the page by its definition.
+-- What is printed for a question is the page that the specification defines.
 use Rattle.std.proofs.Common.{◌≡◌, ◌⊎◌, ◌∙◌, ◌++◌, inl, inr, Bool, List, [], ◌∷◌, map, Result, Ok, Err, IfOk, IfErr, refl, sym, ap}
 use Rattle.std.specs.List.{flat_map}
 use Rattle.clap.specs.Words.{Text}
@@ -6,26 +6,26 @@ use Rattle.sqlite.specs.State.{State}
 use Rattle.register.specs.Offices.{OfficeState}
 use Rattle.register.specs.declared.refusal.Reason.{Reason}
 use Rattle.tables.specs.declared.fault.Fault.TheVariants.{Memory}
-use Rattle.office.specs.Reads.{Read, StopsBy}
-use Rattle.office.specs.declared.answers.Stop.{Stop}
-use Rattle.office.specs.declared.answers.Stop.TheVariants.{Refused, Fault}
+use Rattle.office.specs.Reads.{Read, ReadFailsBy}
+use Rattle.office.specs.declared.answers.ReadError.{ReadError}
+use Rattle.office.specs.declared.answers.ReadError.TheVariants.{Refused, Fault}
 use Rattle.desk.specs.Parts.{IsFound}
 use Rattle.desk.specs.Overviews.{lines_of}
 use Rattle.desk.specs.Pages.{Page, failed, line, page_found, page_stopped, printed}
 use Rattle.desk.specs.declared.lines.Failure.TheVariants.{Office}
 
--- the lines of values are those of their views
+-- the lines for values are the lines for their views
 lines_viewed : {X V : Type 0} (text : V → Text) (view : X → V) (xs : List X) → flat_map (λ x. line (text (view x))) xs ≡ lines_of text (map view xs)
 lines_viewed text view [] = refl
 lines_viewed text view (x ∷ xs) = ap (λ rest. line (text (view x)) ++ rest) (lines_viewed text view xs)
 
--- the lines of what was read, or why there are none, are what is printed
+-- what is printed is the lines for what was read, or the reason why there are none
 pub lines_found : {W X V : Type 0} (items : W → List X) (text : V → Text) (view : X → V) (s : OfficeState) (told : Result (List V) Reason)
-    (found : Result W Stop) (page : Page) (closed : Bool) (old st : State)
+    (found : Result W ReadError) (page : Page) (closed : Bool) (old st : State)
     → Read (λ w. map view (items w)) s told found closed st
     → IfOk found (λ w. (page ≡ printed (flat_map (λ x. line (text (view x))) (items w))) ⊎ (page ≡ failed (Office Memory)))
     → IfErr found (λ stop. page ≡ page_stopped stop)
-    → IfErr found (StopsBy old st)
+    → IfErr found (ReadFailsBy old st)
     → IsFound s (λ views. printed (lines_of text views)) told page closed old st
 lines_found items text view s told (Ok w) page closed old st read (inl is) stops cause =
     inl (is ∙ ap printed (lines_viewed text view (items w)) ∙ sym (ap (page_found (λ views. printed (lines_of text views))) read.0), read.1)
@@ -33,9 +33,9 @@ lines_found items text view s told (Ok w) page closed old st read (inr is) stops
 lines_found items text view s told (Err (Refused why)) page closed old st read lines is cause = inl (is ∙ sym (ap (page_found (λ views. printed (lines_of text views))) read.0), read.1)
 lines_found items text view s told (Err (Fault fault)) page closed old st read lines is cause = inr (fault, is, (cause, read))
 
--- why nothing was found is printed
-pub stop_found : {X Y : Type 0} (view : Y → X) (shown : X → Page) (s : OfficeState) (told : Result X Reason) (stop : Stop) (page : Page) (closed : Bool) (old st : State)
-    → Read view s told (Err stop) closed st → StopsBy old st stop
+-- the reason why nothing was found is printed
+pub stop_found : {X Y : Type 0} (view : Y → X) (shown : X → Page) (s : OfficeState) (told : Result X Reason) (stop : ReadError) (page : Page) (closed : Bool) (old st : State)
+    → Read view s told (Err stop) closed st → ReadFailsBy old st stop
     → page ≡ page_stopped stop → IsFound s shown told page closed old st
 stop_found view shown s told (Refused why) page closed old st read cause is = inl (is ∙ sym (ap (page_found shown) read.0), read.1)
 stop_found view shown s told (Fault fault) page closed old st read cause is = inr (fault, is, (cause, read))

@@ -1,4 +1,4 @@
--- Texts that are written one after the other, and how much of a page was written.
+-- Texts that are written one after another, and how much of a page was written.
 use Rattle.std.proofs.Common.{◌≡◌, ◌≢◌, ◌∙◌, ◌+◌, ◌<◌, inl, inr, ℕ, Bool, true, false, List, [], ◌∷◌, ◌++◌, length}
 use Rattle.std.proofs.Common.{take, drop, get_or, Option, Some, None, Result, Ok, Err, refl, sym, ap, subst, eqb-true, ne_eqb}
 use Rattle.std.specs.Prelude.{◌==◌, IsErr}
@@ -11,30 +11,30 @@ use Rattle.clap.specs.Words.{Text}
 use Rattle.streams.proofs.Beginnings.{AppendsBeginning-front, AppendsBeginning-behind}
 use Rattle.desk.specs.declared.lines.Failure.TheVariants.{Output}
 use Rattle.desk.specs.Pages.{Cut, uncut, cut_behind, cut_error, IsErrorTold, IsOutputBroken, IsPut, IsShown, IsWhole, Outputs}
-use Rattle.desk.specs.Pages.{Page, Shows, behind_front, below, cut_below, empty_page, failed, fronted, line_front, outputs_of, printed, status_behind}
+use Rattle.desk.specs.Pages.{Page, Shows, after_prefix, below, cut_below, empty_page, failed, fronted, line_front, outputs_of, printed, combined_status}
 
--- the pieces of one more element
+-- the pieces of another element are appended
 pieces_more : {X : Type 0} (f : X → Text) (xs : List X) (i : ℕ) (d : X) → i < length xs → flat_map f (take (i + 1) xs) ≡ flat_map f (take i xs) ++ f (get_or xs i d)
 pieces_more f xs i d within =
     ap (flat_map f) (take_more xs i d within) ∙ flat_map-append f (take i xs) (get_or xs i d ∷ []) ∙ ap (λ text. flat_map f (take i xs) ++ text) (append-nil (f (get_or xs i d)))
 
 module _ {W : Type 0} {taken : W → Option (List ℕ)} {failed : W → ℕ} {X E : Type 0} where
-  -- nothing was written yet
+  -- nothing has been written yet
   pub put_none : (s : W) (x : X) → IsPut {E = E} taken failed s s [] (Ok x)
   put_none s x = record { all = Appends-nil (taken s); ok = refl; cut_off = tt; err = tt }
 
-  -- a text after another
+  -- a text is written after another one
   pub put_behind : {Y F : Type 0} {old mid new : W} {xs ys : Text} {x : X} (r : Result Y F) → IsPut {E = E} taken failed old mid xs (Ok x) → IsPut taken failed mid new ys r
       → IsPut taken failed old new (xs ++ ys) r
   put_behind (Ok y) one two = record { all = Appends-trans _ _ _ _ _ one.all two.all; ok = two.ok ∙ one.ok; cut_off = tt; err = tt }
   put_behind (Err f) one two = record { all = tt; ok = tt; cut_off = AppendsBeginning-behind _ _ _ _ _ one.all two.cut_off; err = two.err ∙ ap (λ n. n + 1) one.ok }
 
-  -- a failure that is passed on: what follows isn't written
+  -- a failure is propagated: the text that follows isn't written
   pub put_failed : {Y F : Type 0} {old new : W} {xs : Text} {e : E} (ys : Text) (r : Result Y F) → IsErr r → IsPut {X = X} taken failed old new xs (Err e) → IsPut taken failed old new (xs ++ ys) r
   put_failed ys (Ok y) is cut = absurd (cc is)
   put_failed ys (Err f) is cut = record { all = tt; ok = tt; cut_off = AppendsBeginning-front _ _ _ ys cut.cut_off; err = cut.err }
 
-  -- writing the next of some pieces fails: those after it aren't written
+  -- writing the next piece fails, so the pieces after it aren't written
   pub put_next_failed : {A : Type 0} {old mid new : W} {x : X} {e : E} (f : A → Text) (items : List A) (i : ℕ) (d : A) (text : Text) (r : Result X E) → i < length items → text ≡ f (get_or items i d)
       → IsPut {E = E} taken failed old mid (flat_map f (take i items)) (Ok x) → IsPut {X = X} taken failed mid new text (Err e) → IsErr r → IsPut taken failed old new (flat_map f items) r
   put_next_failed {old = old} {mid = mid} {new = new} {e = e} f items i d text r within is front next failure =
@@ -47,12 +47,12 @@ module _ {W : Type 0} {taken : W → Option (List ℕ)} {failed : W → ℕ} {X 
 -- ---- pages
 
 module _ {O E : Type 0} (taken : O → Option (List ℕ)) (failed_out : O → ℕ) (taken_err : E → Option (List ℕ)) (failed_err : E → ℕ) where
-  -- a text on the output
+  -- a text was printed to the output
   pub text_shown : {X F : Type 0} {x : X} (old new : O) (err : E) (text : Text) → IsPut {E = F} taken failed_out old new text (Ok x)
       → Shows (outputs_of taken failed_out taken_err failed_err old err) (outputs_of taken failed_out taken_err failed_err new err) (printed text) 0
   text_shown old new err text put = (uncut, record { out = put.all; out_failed = put.ok; err = Appends-nil (taken_err err); err_failed = refl; ends = refl })
 
-  -- a prefix of one, which is reported on the error output
+  -- a prefix of the text was printed, and the failure was reported to the error output
   pub output_broken : {X F : Type 0} {f : F} (old new : O) (err told : E) (text : Text) (status : ℕ) → IsPut {X = X} taken failed_out old new text (Err f)
       → IsErrorTold taken_err failed_err err told (failed Output).err 3 status
       → Shows (outputs_of taken failed_out taken_err failed_err old err) (outputs_of taken failed_out taken_err failed_err new told) (printed text) status
@@ -62,7 +62,7 @@ module _ {O E : Type 0} (taken : O → Option (List ℕ)) (failed_out : O → �
       n : ℕ
       n = put.cut_off.count
 
-  -- a line on the error output
+  -- a line was printed to the error output
   pub error_shown : (out : O) (old new : E) (page : Page) (status : ℕ) → page.out ≡ [] → IsErrorTold taken_err failed_err old new page.err page.status status
       → Shows (outputs_of taken failed_out taken_err failed_err out old) (outputs_of taken failed_out taken_err failed_err out new) page status
   error_shown out old new page status none told = elim told [
@@ -72,7 +72,7 @@ module _ {O E : Type 0} (taken : O → Option (List ℕ)) (failed_out : O → �
 
 -- a page with text for both outputs
 module _ {O E : Type 0} (taken : O → Option (List ℕ)) (failed_out : O → ℕ) (taken_err : E → Option (List ℕ)) (failed_err : E → ℕ) where
-  -- its text was written, and its line printed, or a prefix of that
+  -- its text was written, and its line was printed completely or in part
   both_shown : {X F : Type 0} {x : X} (old new : O) (err told : E) (page : Page) (status : ℕ) → IsPut {E = F} taken failed_out old new page.out (Ok x)
       → IsErrorTold taken_err failed_err err told page.err page.status status
       → Shows (outputs_of taken failed_out taken_err failed_err old err) (outputs_of taken failed_out taken_err failed_err new told) page status
@@ -81,7 +81,7 @@ module _ {O E : Type 0} (taken : O → Option (List ℕ)) (failed_out : O → �
     | inr cut ↦ (cut_error, record { out = put.all; out_failed = put.ok; err = cut.0; err_failed = cut.1; ends = cut.2 })
   ]
 
-  -- a prefix of its text was written, which is reported after its line
+  -- a prefix of its text was written, and the failure was reported after its line
   both_broken : {X F : Type 0} {f : F} (old new : O) (err told : E) (page : Page) (status : ℕ) → IsPut {X = X} taken failed_out old new page.out (Err f)
       → IsErrorTold taken_err failed_err err told (page.err ++ (failed Output).err) 3 status
       → Shows (outputs_of taken failed_out taken_err failed_err old err) (outputs_of taken failed_out taken_err failed_err new told) page status
@@ -91,7 +91,7 @@ module _ {O E : Type 0} (taken : O → Option (List ℕ)) (failed_out : O → �
       n : ℕ
       n = put.cut_off.count
 
--- the status if the output failed
+-- the status is 3 if the output failed
 pub broken_ends : {took : Text} {old new : Outputs} {page : Page} {status : ℕ} → IsOutputBroken took old new page status → status ≡ 3
 broken_ends broken = elim broken.told [
   | inl whole ↦ whole.2
@@ -100,36 +100,36 @@ broken_ends broken = elim broken.told [
 
 -- ---- pages in sequence
 
--- the status after an empty page
-status_first : (status : ℕ) → status_behind 0 status ≡ status
+-- the status after an empty page is unchanged
+status_first : (status : ℕ) → combined_status 0 status ≡ status
 status_first status = by (status == 0) refl
   where
-    by : (b : Bool) → (status == 0) ≡ b → status_behind 0 status ≡ status
+    by : (b : Bool) → (status == 0) ≡ b → combined_status 0 status ≡ status
     by true e = rw e (sym (eqb-true status 0 e))
     by false e = rw e refl
 
--- a status other than 0 stays, whatever the one before it
-status_stays : (before status : ℕ) → status ≢ 0 → status_behind before status ≡ status
+-- a nonzero status replaces any status before it
+status_stays : (before status : ℕ) → status ≢ 0 → combined_status before status ≡ status
 status_stays before status other = let e : (status == 0) ≡ false = ne_eqb status 0 other in rw e refl
 
-status_joined : (a b c : ℕ) → status_behind (status_behind a b) c ≡ status_behind a (status_behind b c)
+status_joined : (a b c : ℕ) → combined_status (combined_status a b) c ≡ combined_status a (combined_status b c)
 status_joined a b c = by (c == 0) refl
   where
-    by : (t : Bool) → (c == 0) ≡ t → status_behind (status_behind a b) c ≡ status_behind a (status_behind b c)
+    by : (t : Bool) → (c == 0) ≡ t → combined_status (combined_status a b) c ≡ combined_status a (combined_status b c)
     by true e =
-        let left : status_behind (status_behind a b) c ≡ status_behind a b = rw e refl in
-        let inner : status_behind b c ≡ b = rw e refl in
-        left ∙ sym (ap (status_behind a) inner)
+        let left : combined_status (combined_status a b) c ≡ combined_status a b = rw e refl in
+        let inner : combined_status b c ≡ b = rw e refl in
+        left ∙ sym (ap (combined_status a) inner)
     by false e =
-        let left : status_behind (status_behind a b) c ≡ c = rw e refl in
-        let inner : status_behind b c ≡ c = rw e refl in
-        let right : status_behind a c ≡ c = rw e refl in
-        left ∙ sym (ap (status_behind a) inner ∙ right)
+        let left : combined_status (combined_status a b) c ≡ c = rw e refl in
+        let inner : combined_status b c ≡ c = rw e refl in
+        let right : combined_status a c ≡ c = rw e refl in
+        left ∙ sym (ap (combined_status a) inner ∙ right)
 
 abbrev made : Text → Text → ℕ → Page
 made out err status = record { out = out; err = err; status = status }
 
--- a page after an empty one, and an empty one after a page
+-- an empty page before or after a page makes no difference
 pub below_first : (page : Page) → below empty_page page ≡ page
 below_first page = ap (made page.out page.err) (status_first page.status)
 
@@ -138,29 +138,29 @@ below_last page = ap (λ out. made out (page.err ++ []) page.status) (append-nil
 
 pub below_joined : (a b c : Page) → below (below a b) c ≡ below a (below b c)
 below_joined a b c =
-    ap (λ out. made out ((a.err ++ b.err) ++ c.err) (status_behind (status_behind a.status b.status) c.status)) (append_assoc a.out b.out c.out)
-    ∙ ap (λ err. made (a.out ++ (b.out ++ c.out)) err (status_behind (status_behind a.status b.status) c.status)) (append_assoc a.err b.err c.err)
+    ap (λ out. made out ((a.err ++ b.err) ++ c.err) (combined_status (combined_status a.status b.status) c.status)) (append_assoc a.out b.out c.out)
+    ∙ ap (λ err. made (a.out ++ (b.out ++ c.out)) err (combined_status (combined_status a.status b.status) c.status)) (append_assoc a.err b.err c.err)
     ∙ ap (made (a.out ++ (b.out ++ c.out)) (a.err ++ (b.err ++ c.err))) (status_joined a.status b.status c.status)
 
--- two pages that were written whole, one after the other
+-- two pages were written completely, one after the other
 pub whole_more : (old mid new : Outputs) (above page : Page) (before status : ℕ) → IsWhole old mid above before → IsWhole mid new page status
-    → IsWhole old new (below above page) (status_behind before status)
+    → IsWhole old new (below above page) (combined_status before status)
 whole_more old mid new above page before status first next = record {
   out = Appends-trans _ _ _ _ _ first.out next.out;
   out_failed = next.out_failed ∙ first.out_failed;
   err = Appends-trans _ _ _ _ _ first.err next.err;
   err_failed = next.err_failed ∙ first.err_failed;
-  ends = ap (λ n. status_behind n status) first.ends ∙ ap (status_behind above.status) next.ends;
+  ends = ap (λ n. combined_status n status) first.ends ∙ ap (combined_status above.status) next.ends;
 }
 
--- a text on the error output, after one that was written whole
+-- a text was printed to the error output, after a text that was written completely
 error_behind : (old mid new : Outputs) (before text : Text) (status : ℕ) → Appends old.err mid.err before → mid.err_failed ≡ old.err_failed
     → IsErrorTold (λ (o : Outputs). o.err) (λ (o : Outputs). o.err_failed) mid new text 3 status
     → IsErrorTold (λ (o : Outputs). o.err) (λ (o : Outputs). o.err_failed) old new (before ++ text) 3 status
 error_behind old mid new before text status one same (inl whole) = inl (Appends-trans _ _ _ _ _ one whole.0, whole.1 ∙ same, whole.2)
 error_behind old mid new before text status one same (inr part) = inr (AppendsBeginning-behind _ _ _ _ _ one part.0, part.1 ∙ ap (λ n. n + 1) same, part.2)
 
--- a page with a status other than 0, after one that was written whole
+-- a page with a nonzero status was printed after a page that was written completely
 pub shown_last : (cut : Cut) (old mid new : Outputs) (above page : Page) (before status : ℕ) → IsWhole old mid above before → IsShown cut mid new page status → status ≢ 0
     → IsShown (cut_below above.out cut) old new (below above page) status
 shown_last uncut old mid new above page before status first next other = record {
@@ -185,7 +185,7 @@ shown_last cut_error old mid new above page before status first next other = rec
   ends = next.ends;
 }
 
--- ---- pages of a script's lines
+-- ---- pages for a script's lines
 
 pub fronted_status : (line : Option ℕ) (page : Page) → (fronted line page).status ≡ page.status
 fronted_status None page = refl
@@ -195,18 +195,18 @@ pub fronted_out : (line : Option ℕ) (page : Page) → (fronted line page).out 
 fronted_out None page = refl
 fronted_out (Some number) page = refl
 
--- what goes to the error output follows the number
+-- what goes to the error output follows the line number
 pub fronted_err : (line : Option ℕ) (page : Page) (byte : ℕ) (bytes : Text) → page.err ≡ byte ∷ bytes → (fronted line page).err ≡ line_front line ++ page.err
 fronted_err None page byte bytes is = refl
-fronted_err (Some number) page byte bytes is = ap (behind_front (line_front (Some number))) is ∙ ap (λ text. line_front (Some number) ++ text) (sym is)
+fronted_err (Some number) page byte bytes is = ap (after_prefix (line_front (Some number))) is ∙ ap (λ text. line_front (Some number) ++ text) (sym is)
 
--- a text on the output is printed without it
+-- a text for the output is printed without the line number
 pub printed_shown : (line : Option ℕ) (old new : Outputs) (text : Text) (status : ℕ) → Shows old new (printed text) status → Shows old new (fronted line (printed text)) status
 printed_shown None old new text status shown = shown
 printed_shown (Some number) old new text status shown = shown
 
 module _ {O E : Type 0} (taken : O → Option (List ℕ)) (failed_out : O → ℕ) (taken_err : E → Option (List ℕ)) (failed_err : E → ℕ) where
-  -- a line on the error output, after the number
+  -- a line was printed to the error output, after the line number
   pub front_shown : (line : Option ℕ) (out : O) (old new : E) (page : Page) (status : ℕ) (byte : ℕ) (bytes : Text) → page.out ≡ [] → page.err ≡ byte ∷ bytes
       → IsErrorTold taken_err failed_err old new (line_front line ++ page.err) page.status status
       → Shows (outputs_of taken failed_out taken_err failed_err out old) (outputs_of taken failed_out taken_err failed_err out new) (fronted line page) status
@@ -214,7 +214,7 @@ module _ {O E : Type 0} (taken : O → Option (List ℕ)) (failed_out : O → �
       error_shown taken failed_out taken_err failed_err out old new (fronted line page) status (fronted_out line page ∙ none)
       (rw (fronted_err line page byte bytes some, fronted_status line page) told)
 
-  -- a text on the output, and a line on the error output after the number
+  -- a text was printed to the output, and a line to the error output, after the line number
   pub both_fronted : {X F : Type 0} {x : X} (line : Option ℕ) (old new : O) (err told : E) (page : Page) (status byte : ℕ) (bytes : Text)
       → page.err ≡ byte ∷ bytes → IsPut {E = F} taken failed_out old new page.out (Ok x)
       → IsErrorTold taken_err failed_err err told (line_front line ++ page.err) page.status status
@@ -225,7 +225,7 @@ module _ {O E : Type 0} (taken : O → Option (List ℕ)) (failed_out : O → �
       (subst (λ text. IsErrorTold taken_err failed_err err told text (fronted line page).status status) (sym (fronted_err line page byte bytes some))
       (subst (λ n. IsErrorTold taken_err failed_err err told (line_front line ++ page.err) n status) (sym (fronted_status line page)) tells))
 
-  -- a prefix of the text, which is reported after that line
+  -- a prefix of the text was printed, and the failure was reported after that line
   pub both_cut : {X F : Type 0} {f : F} (line : Option ℕ) (old new : O) (err told : E) (page : Page) (status byte : ℕ) (bytes : Text) → page.err ≡ byte ∷ bytes
       → IsPut {X = X} taken failed_out old new page.out (Err f)
       → IsErrorTold taken_err failed_err err told ((line_front line ++ page.err) ++ (failed Output).err) 3 status

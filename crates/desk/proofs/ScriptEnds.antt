@@ -26,13 +26,13 @@ holds_also P Q None also holds = absurd holds
 holds_also P Q (Some None) also holds = tt
 holds_also P Q (Some (Some text)) also holds = also text holds
 
--- the lines of a file are those of its script
+-- the lines of a file are the lines of its script
 pub holds_lines : (file : File) (read : List Numbered) (lines : List Typed) → lines ≡ map typed_line read → HoldsText file (λ text. read ≡ numbered_from 1 (lines_of text))
     → HoldsText file (λ text. lines ≡ script_lines text)
 holds_lines file read lines are holds =
     holds_also (λ text. read ≡ numbered_from 1 (lines_of text)) (λ text. lines ≡ script_lines text) file (λ text is. are ∙ ap (map typed_line) is) holds
 
--- and so are their steps
+-- the steps in a file's lines are the steps of its script
 holds_turns : (file : File) (lines : List Typed) (turns : List ScriptStep) → AreTurns lines turns → HoldsText file (λ text. lines ≡ script_lines text)
     → HoldsText file (λ text. AreTurns (script_lines text) turns)
 holds_turns file lines turns are holds =
@@ -51,7 +51,7 @@ first_flaw (Some (Some text)) lines number flaw is holds = inr (number, flaw, re
 
 -- ---- what ends a job before its first step
 
--- the sequence doesn't continue after a status other than 0
+-- the sequence doesn't continue after a nonzero status
 stops_at : (page : Page) → page.status ≢ 0 → goes_on false page.status ≡ true → ⊥
 stops_at page other goes = by (page.status == 0) refl
   where
@@ -68,12 +68,12 @@ unsent_ended : (Tells : Page → Type 0) (old : State) (closed : Bool) (st : Sta
     → IsUnsent old closed st false None Tells (λ rest. ⊥) s (ended None [] 0 page cut)
 unsent_ended Tells old closed st s page cut other why = inr (page, cut, refl, (λ goes. absurd (stops_at page other goes)), why)
 
--- for a script's file at a path, in an office that is open at a state
+-- a script's file at a path, and an office that is open in the given state
 module _ (folder : Folder) (s : OfficeState) (keep : Bool) (path : Bor Text) (file : File) (found : IsFileAt folder (Some path.now) file) (old : State) (closed : Bool) (st : State) where
   out_of_memory : (page : Page) (cut : Cut) → page ≡ failed (Office Memory) → IsOpenAt s closed st → IsDone old closed st folder s (job.Replay path keep) (ended None [] 0 page cut)
   out_of_memory page cut is here = inr (unsent_ended _ old closed st s page cut (unread_ends page (inr is)) (inr (Memory, is, (inl refl, inl (record { memory = refl; open_at = here })))))
 
-  -- a script that can't be read
+  -- the outcome of a script that can't be read
   pub replay_unread : (page : Page) (cut : Cut) → IsUnreadScript page → IsOpenAt s closed st → ComesTo cut page (IsDone old closed st folder s (job.Replay path keep))
   replay_unread page cut why here = (
     [],
@@ -84,14 +84,14 @@ module _ (folder : Folder) (s : OfficeState) (keep : Bool) (path : Bor Text) (fi
     ],
   )
 
-  -- a line that isn't understood, or an allocation that failed
+  -- the outcome if a line isn't understood or an allocation fails
   replay_fault : (lines : List Typed) (fault : ScriptFault) (cut : Cut) → IsFaultOfLines lines fault → HoldsText file (λ text. lines ≡ script_lines text) → IsOpenAt s closed st
       → IsDone old closed st folder s (job.Replay path keep) (ended None [] 0 (script_page fault) cut)
   replay_fault lines script.Memory cut is holds here = out_of_memory (script_page script.Memory) cut refl here
   replay_fault lines (script.ScriptLine number flaw) cut is holds here =
       inr (unsent_ended _ old closed st s (script_page (script.ScriptLine number flaw)) cut (λ zero. absurd (omega arith)) (inl ((file, found, first_flaw file lines number flaw is holds), here)))
 
-  -- the outcome of the lines of a script
+  -- the outcome of a script's lines
   pub replay_of : (lines : List Typed) (c : Course) → HoldsText file (λ text. lines ≡ script_lines text) → IsReplayOf keep folder s lines c old closed st
       → IsDone old closed st folder s (job.Replay path keep) c
   replay_of lines c holds (inl (turns, are, played)) = inl (turns, (file, found, holds_turns file lines turns are holds), played)

@@ -10,7 +10,7 @@ use Rattle.std.specs.Borrow.{Bor}
 use Rattle.std.specs.Str.{is_utf8}
 use Rattle.clap.specs.Words.{Kinds, Text}
 use Rattle.desk.specs.Words.{status_of_kind}
-use Rattle.desk.specs.Scripts.{AreTurns, IsFirstFlaw, IsFlawOf, IsTurn, Typed}
+use Rattle.desk.specs.Scripts.{AreTurns, IsFirstFlaw, IsFlawOf, IsStep, Typed}
 use Rattle.desk.specs.declared.scripts.LineFlaw.{LineFlaw}
 use Rattle.desk.specs.declared.scripts.ScriptFault.{ScriptFault}
 use Rattle.desk.specs.declared.scripts.ScriptFault.TheVariants as script
@@ -18,12 +18,12 @@ use Rattle.desk.specs.declared.scripts.ScriptStep.{ScriptStep}
 use Rattle.desk.specs.Lexing.{IsFaultOfLine, IsFaultOfLines}
 use Rattle.desk.proofs.CourseLemmas.{next_left}
 
--- one more line
-pub turns_more : (lines : List Typed) (turns : List ScriptStep) (line : Typed) (turn : ScriptStep) → AreTurns lines turns → IsTurn line turn → AreTurns (lines ++ line ∷ []) (turns ++ turn ∷ [])
+-- another line is a step
+pub turns_more : (lines : List Typed) (turns : List ScriptStep) (line : Typed) (turn : ScriptStep) → AreTurns lines turns → IsStep line turn → AreTurns (lines ++ line ∷ []) (turns ++ turn ∷ [])
 turns_more [] turns line turn none is = (turn, [], ap (λ ts. ts ++ turn ∷ []) none, is, refl)
 turns_more (l ∷ ls) turns line turn are is = (are.0, are.1 ++ turn ∷ [], ap (λ ts. ts ++ turn ∷ []) are.2, are.3, turns_more ls are.1 line turn are.4 is)
 
--- what is wrong with a line after steps
+-- what is wrong with a line that follows lines that are steps
 pub flaw_behind : (lines : List Typed) (turns : List ScriptStep) (line : Typed) (left : List Typed) (number : ℕ) (flaw : LineFlaw) → AreTurns lines turns
     → line.number ≡ number → IsFlawOf line.words flaw
     → IsFirstFlaw (lines ++ line ∷ left) number flaw
@@ -36,7 +36,7 @@ module _ {X : Type 0} (f : X → List ℕ) where
   one_more : (xs : List X) (i : ℕ) (x : X) → i < length xs → x ≡ get_or xs i x → map f (take (i + 1) xs) ≡ map f (take i xs) ++ f x ∷ []
   one_more xs i x within is = ap (map f) (take_more xs i x within) ∙ (map-append f (take i xs) (get_or xs i x ∷ []) ∙ ap (λ y. map f (take i xs) ++ f y ∷ []) (sym is))
 
-  -- one more word
+  -- another word is UTF-8
   pub words_more : (first : Text) (xs : List X) (i : ℕ) (x : X) (texts new : List (Bor Text)) (text : Bor Text) → i < length xs → x ≡ get_or xs i x → new ≡ texts ++ text ∷ [] → text.now ≡ f x
       → map (λ t. t.now) texts ≡ first ∷ map f (take i xs) → map (λ t. t.now) new ≡ first ∷ map f (take (i + 1) xs)
   words_more first xs i x texts new text within is more same so =
@@ -47,7 +47,7 @@ module _ {X : Type 0} (f : X → List ℕ) where
   text_more xs i x within is text so =
       ap (list_all is_utf8) (one_more xs i x within is) ∙ (list_all-append is_utf8 (map f (take i xs)) (f x ∷ []) ∙ rw (so, is_utf8-from_IsUtf8 (f x) text) refl)
 
-  -- a word that isn't UTF-8
+  -- a word isn't UTF-8
   pub not_text : (xs : List X) (i : ℕ) (x : X) → i < length xs → x ≡ get_or xs i x → ¬ (IsUtf8 (f x)) → list_all is_utf8 (map f xs) ≡ false
   not_text xs i x within is other = list_all-map is_utf8 f xs ∙ list_all_at (λ y. is_utf8 (f y)) xs i x within (ap (λ y. is_utf8 (f y)) (sym is) ∙ by (is_utf8 (f x)) refl)
     where
@@ -55,20 +55,20 @@ module _ {X : Type 0} (f : X → List ℕ) where
       by false e = e
       by true e = absurd (other (IsUtf8-from_is_utf8 (f x) e))
 
--- ---- the lines so far
+-- ---- the lines read so far
 
 module _ {X : Type 0} (f : X → Typed) where
   line_more : (xs : List X) (i : ℕ) (x : X) → i < length xs → x ≡ get_or xs i x → map f (take (i + 1) xs) ≡ map f (take i xs) ++ f x ∷ []
   line_more xs i x within is = ap (map f) (take_more xs i x within) ∙ (map-append f (take i xs) (get_or xs i x ∷ []) ∙ ap (λ y. map f (take i xs) ++ f y ∷ []) (sym is))
 
-  -- one more of them is a step
-  pub turns_so : (xs : List X) (i : ℕ) (x : X) (turns new : List ScriptStep) (turn : ScriptStep) → i < length xs → x ≡ get_or xs i x → AreTurns (map f (take i xs)) turns → IsTurn (f x) turn
+  -- another of the lines is a step
+  pub turns_so : (xs : List X) (i : ℕ) (x : X) (turns new : List ScriptStep) (turn : ScriptStep) → i < length xs → x ≡ get_or xs i x → AreTurns (map f (take i xs)) turns → IsStep (f x) turn
       → new ≡ turns ++ turn ∷ []
       → AreTurns (map f (take (i + 1) xs)) new
   turns_so xs i x turns new turn within is so one more =
       rw more (subst (λ ls. AreTurns ls (turns ++ turn ∷ [])) (sym (line_more xs i x within is)) (turns_more (map f (take i xs)) turns (f x) turn so one))
 
-  -- what is wrong with the one after them
+  -- what is wrong with the line after those read so far
   pub fault_behind : (xs : List X) (i : ℕ) (x : X) (turns : List ScriptStep) (fault : ScriptFault) → i < length xs → x ≡ get_or xs i x → AreTurns (map f (take i xs)) turns
       → IsFaultOfLine (f x) fault → IsFaultOfLines (map f xs) fault
   fault_behind xs i x turns script.Memory within is so wrong = tt

@@ -22,7 +22,7 @@ use Rattle.desk.proofs.TellingLemmas.{goes_after_zero, not_after_fault}
 
 -- ---- what the machine answers
 
--- the answer is a refusal
+-- whether the answer is a refusal
 abbrev pub tells_no : Told → Bool
 tells_no (done reply) = false
 tells_no (again reply) = false
@@ -39,21 +39,21 @@ reply_status first (accepted next reply) e = refl
 reply_status first (kept reply) e = refl
 reply_status first (refused why) e = absurd (true≢false e)
 
--- what is printed for the answer to a request of an order that counts under an id
+-- what is printed for the answer to a request of an order that counts, given the id of the order
 abbrev pub page_under : Text → OfficeState → Request → Told → Page
 page_under id s r = page_counted (is_first id r)
 
--- the answer to a request for which it is known whether it is the first
+-- the answer to a request, given whether it is the first one
 pub answered_under : (old : State) (closed : Bool) (st : State) (id : Text) (first : Bool) (s : OfficeState) (r : Request) (answered : ℕ) (page : Page) → first ≡ is_first id r
     → IsAnswered old closed st (λ t q. page_counted first) s r answered page → IsAnswered old closed st (page_under id) s r answered page
 answered_under old closed st id first s r answered page is met = subst (λ b. IsAnswered old closed st (λ t q. page_counted b) s r answered page) is met
 
--- the outcome of a request relative to an earlier state
+-- the outcome of a request, relative to an earlier state
 pub stage_since : (a b : State) (closed : Bool) (st : State) (first : Bool) (s : OfficeState) (r : Request) (page : Page) (goes : Bool) → TellsSince a b st → IsStage b closed st first s r page goes
     → IsStage a closed st first s r page goes
 stage_since a b closed st first s r page goes since (answered, met, goes_is) = (answered, answered_since a b closed st (λ t q. page_counted first) s r answered page since met, goes_is)
 
--- a disjunction with a test that is met, or isn't, whatever the other is
+-- a disjunction with true is true, and a conjunction with false is false, whatever the other operand is
 or_true : (b : Bool) → (b || true) ≡ true
 or_true true = refl
 or_true false = refl
@@ -65,22 +65,22 @@ and_false false = refl
 -- ---- requests by number
 
 module _ (ward : ℕ) (id : Text) where
-  -- these are the requests with this many numbers, from one on
+  -- the given requests have n consecutive numbers, starting with k
   abbrev pub Numbered : ℕ → ℕ → List Request → Type 0
   Numbered k n rs = map sent_as rs ≡ map (advance_at ward id) (range_with_len k n)
 
-  -- the first of them, and the others
+  -- the first of the given requests, and the remaining ones
   numbered_first : (k n : ℕ) (r : Request) (rs : List Request) → Numbered k (suc n) (r ∷ rs) → sent_as r ≡ advance_at ward id k
   numbered_first k n r rs are = ap (λ (xs : List Sent). get_or xs 0 (sent_as r)) are
 
   numbered_others : (k n : ℕ) (r : Request) (rs : List Request) → Numbered k (suc n) (r ∷ rs) → Numbered (k + 1) n rs
   numbered_others k n r rs are = ap (λ (xs : List Sent). drop 1 xs) are
 
-  -- there are none if no number is left
+  -- no requests are left if no numbers are left
   numbered_none : (k : ℕ) (r : Request) (rs : List Request) → Numbered k 0 (r ∷ rs) → ⊥
   numbered_none k r rs are = let bad : suc (length (map sent_as rs)) ≡ 0 = ap (λ (xs : List Sent). length xs) are in absurd (omega arith)
 
-  -- one of them is the first, and this is its id
+  -- the first of the given requests has the id for number 1
   pub first_named : (rs : List Request) (r : Request) → Some r ≡ slice_get rs 0 → map sent_as rs ≡ advances ward id most_advances → string_bytes r.id ≡ id_at id 1
   first_named [] r is are = absurd (cc is)
   first_named (q ∷ rs) r is are =
@@ -91,7 +91,7 @@ module _ (ward : ℕ) (id : Text) where
   none_numbered [] is are = let bad : 0 ≡ suc (length (map (advance_at ward id) (range_with_len 2 31))) = ap (λ (xs : List Sent). length xs) are in absurd (omega arith)
   none_numbered (q ∷ rs) is are = absurd (cc is)
 
-  -- they end somewhere, and include the first
+  -- some prefix of the given requests that includes the first one is a complete sequence
   pub ended_somewhere : (n k : ℕ) (s : OfficeState) (r : Request) (rs : List Request) → Numbered k (suc n) (r ∷ rs) → k + n ≡ most_advances → (tail : List Request) × AreAdvances s ward id k (r ∷ tail)
   ended_somewhere zero k s r rs are most =
       let last : (k == most_advances) ≡ true = eq-eqb k most_advances (omega (arith, most)) in
@@ -113,12 +113,12 @@ module _ (ward : ℕ) (id : Text) where
 
   -- ---- requests that the machine didn't refuse
 
-  -- these requests, from a number on, weren't refused, and led to this state
+  -- the given requests, numbered from `k`, weren't refused and led to the given state
   abbrev pub Going : OfficeState → ℕ → List Request → OfficeState → Type 0
   Going s k [] end = end ≡ s
   Going s k (r ∷ rs) end = (sent_as r ≡ advance_at ward id k) × (is_refused (step_of s r) ≡ false) × Going (after_one s r) (suc k) rs end
 
-  -- one more
+  -- another request wasn't refused
   pub going_more : (s : OfficeState) (k : ℕ) (rs : List Request) (end : OfficeState) (r : Request) → Going s k rs end → sent_as r ≡ advance_at ward id (k + length rs)
       → is_refused (step_of end r) ≡ false
       → Going s k (rs ++ r ∷ []) (after_one end r)
@@ -129,11 +129,11 @@ module _ (ward : ℕ) (id : Text) where
       let here : k + length (q ∷ rs) ≡ suc k + length rs = omega arith in
       (first, passed, going_more (after_one s q) (suc k) rs end r more (is ∙ ap (advance_at ward id) here) fine)
 
-  -- the number isn't the last, and the machine doesn't refuse its request: another one follows
+  -- the number isn't the last one, and the machine doesn't refuse the request, so another request follows
   follows : (s : OfficeState) (k : ℕ) (r : Request) → is_refused (step_of s r) ≡ false → k < most_advances → (is_refused (step_of s r) || k == most_advances) ≡ false
   follows s k r fine few = let other : (k == most_advances) ≡ false = ne_eqb k most_advances (λ same. omega (arith, same, few)) in rw (fine, other) refl
 
-  -- followed by those that end the sequence
+  -- the requests that end the sequence follow
   pub going_then : (s : OfficeState) (k : ℕ) (front : List Request) (end : OfficeState) (others : List Request) → Going s k front end → k + length front ≤ most_advances
       → AreAdvances end ward id (k + length front) others → AreAdvances s ward id k (front ++ others)
   going_then s k [] end others same few are =
@@ -144,7 +144,7 @@ module _ (ward : ℕ) (id : Text) where
       let later = going_then (after_one s r) (suc k) rs end others more (omega (arith, few)) (subst (λ j. AreAdvances end ward id j others) here are) in
       (first, rw (follows s k r passed (omega (arith, few))) later)
 
-  -- up to the last number, none of them refused
+  -- the sequence goes up to the last number, and none of its requests was refused
   pub going_all : (s : OfficeState) (k : ℕ) (r : Request) (rs : List Request) (end : OfficeState) → Going s k (r ∷ rs) end → k + length rs ≡ most_advances → AreAdvances s ward id k (r ∷ rs)
   going_all s k r [] end (first, passed, same) last =
       let most : (k == most_advances) ≡ true = eq-eqb k most_advances (omega (arith, last)) in
@@ -154,8 +154,8 @@ module _ (ward : ℕ) (id : Text) where
 
 -- ---- the stages so far
 
--- The stages so far: their requests weren't refused, and this was printed for them. The office is open at the state to which they led, and the requests from the next
--- number on are left.
+-- The stages so far: their requests weren't refused, and the given page is their outcome. The office is open in the state that they led to. The requests with
+-- higher numbers have yet to be sent.
 pub record CountedSo (keep : Bool) (line : Option ℕ) (s : OfficeState) (ward : ℕ) (id : Text) (rs : List Request) (i : ℕ) (said : Page) (closed : Bool) (st : State) : Type 0 where
   pub end : OfficeState
   pub open_at : IsOpenAt end closed st
@@ -174,7 +174,7 @@ none_counted keep line s ward id rs closed st here are =
     record { end = s; open_at = here; front = []; many = refl; replied = (refl, refl); going = refl; left = most_advances; few = refl; numbered = are }
 
 module _ (old : State) (keep : Bool) (line : Option ℕ) (s : OfficeState) (ward : ℕ) (id : Text) (rs : List Request) where
-  -- the next request, and how many are left after it
+  -- the next request, and how many remain after it
   next_numbered : (i : ℕ) (r : Request) (said : Page) (was : Bool) (before : State) → i < length rs → r ≡ get_or rs i r → (so : CountedSo keep line s ward id rs i said was before)
       → (n : ℕ) × (so.left ≡ suc n) × Numbered ward id (i + 1) (suc n) (r ∷ drop (i + 1) rs)
   next_numbered i r said was before within is so = go so.left refl
@@ -216,7 +216,7 @@ module _ (old : State) (keep : Bool) (line : Option ℕ) (s : OfficeState) (ward
       not_refused k false e = refl
       not_refused k true e = absurd (true≢false (e ∙ and_false (k == 1)))
 
-  -- or it was the last one
+  -- the next request was the last one
   pub stage_last : (i : ℕ) (r : Request) (said : Page) (was : Bool) (before : State) (page : Page) (cut : Cut) (goes : Bool) (closed : Bool) (st : State) → i < length rs → r ≡ get_or rs i r
       → (so : CountedSo keep line s ward id rs i said was before) → (known : Bool) → known ≡ is_first id r → IsStage old closed st known so.end r page goes
       → (goes ≡ true → page.status ≡ 0 → cut ≢ uncut)
@@ -239,11 +239,11 @@ module _ (old : State) (keep : Bool) (line : Option ℕ) (s : OfficeState) (ward
       it : IsAnswered old closed st (page_under id) so.end r answered page
       it = answered_under old closed st id known so.end r answered page known_is met
 
-      -- a refused request is the last
+      -- a refused request is the last one
       none_behind : (tail : List Request) → AreAdvances so.end ward id (i + 1) (r ∷ tail) → is_refused (step_of so.end r) ≡ true → tail ≡ []
       none_behind tail (first, ends) e = let test : (is_refused (step_of so.end r) || i + 1 == most_advances) ≡ true = rw e refl in rw test at ends
 
-      -- if all was written and the sequence continues, the request was answered; it was refused, otherwise the count would have continued
+      -- If everything was written and the sequence continues, the request was answered. It was refused, since otherwise the count would have continued.
       was_refused : (page ≡ answer (page_under id) so.end r) → answered ≡ 1 → (goes ≡ true → page.status ≡ 0 → ⊥) → is_refused (step_of so.end r) ≡ true
       was_refused told one never = by (is_refused (step_of so.end r)) refl
         where

@@ -1,4 +1,4 @@
--- The mathematical values that the program's values of a script represent.
+-- The mathematical values that the program's values for a script represent.
 use Rattle.std.specs.Prelude.{◌≡◌, ◌⊎◌, ⊤, Bool, List, [], None, Result, Ok, Err, map, option_map}
 use Rattle.std.specs.Borrow.{Bor}
 use Rattle.std.specs.declared.vec.Vec.{Vec}
@@ -19,34 +19,34 @@ use Rattle.desk.specs.declared.scripts.ScriptFault.{ScriptFault}
 use Rattle.desk.specs.declared.scripts.ScriptStep.{ScriptStep}
 use Rattle.desk.specs.declared.scripts.ScriptFault.TheVariants as fault
 
--- how far a line is split
+-- the state of splitting a line
 abbrev pub lexer_entry : Lexer → LexerEntry
 lexer_entry c = record { words = map (λ w. w.items) c.words.items; word = c.word.items; place = c.place }
 
--- a line with its number
+-- a line and its number
 abbrev pub line_entry : ScriptLine → Numbered
 line_entry line = record { number = line.number; words = option_map (λ ws. map (λ w. w.items) ws.items) line.words }
 
--- words as typed
+-- the words as typed
 abbrev pub said_words : Result (Vec (Bor Text) Global) Garbled → Result (List Text) Garbled
 said_words (Ok texts) = Ok (map (λ text. text.now) texts.items)
 said_words (Err why) = Err why
 
--- a line as typed
+-- the line as typed
 abbrev pub typed_line_entry : TypedLine → Typed
 typed_line_entry said = record { number = said.number; words = said_words said.words }
 
--- what is wrong with a line, or that an allocation failed
+-- the fault says what is wrong with the given line, or that an allocation failed
 abbrev pub IsFaultOfLine : Typed → ScriptFault → Type 0
 IsFaultOfLine line fault.Memory = ⊤
 IsFaultOfLine line (fault.ScriptLine number flaw) = (line.number ≡ number) × IsFlawOf line.words flaw
 
--- what is wrong with the first of some lines that isn't a step, or that an allocation failed
+-- the fault says what is wrong with the first line that isn't a step, or that an allocation failed
 abbrev pub IsFaultOfLines : List Typed → ScriptFault → Type 0
 IsFaultOfLines lines fault.Memory = ⊤
 IsFaultOfLines lines (fault.ScriptLine number flaw) = IsFirstFlaw lines number flaw
 
--- the outcome of a script's lines: their steps are run; or what is wrong with them is reported, and nothing is sent
+-- the outcome of a script's lines: either their steps are run; or what is wrong with them is reported, and nothing is sent
 abbrev pub IsReplayOf : Bool → Folder → OfficeState → List Typed → Course → State → Bool → State → Type 0
 IsReplayOf keep folder s lines course old closed st =
     ((turns : List ScriptStep) × AreTurns lines turns × IsPlayed old closed st keep folder s turns course)

@@ -1,4 +1,4 @@
--- The orders of the program: the name and the words of each, and what it means by the values of these.
+-- The orders of the program: the name and words of each, and what it means for given values of those words.
 use Rattle.std.specs.Prelude.{ℕ, Bool, true, false, List, [], ◌∷◌, ◌++◌, Option, Some, None, codes, map, option_map, string_bytes}
 use Rattle.clap.specs.Words.{Text}
 use Rattle.register.specs.declared.command.Command.{Command}
@@ -8,8 +8,8 @@ use Rattle.register.specs.declared.wards.WardCommand.TheVariants as ward_command
 use Rattle.register.specs.declared.candidates.CandidateCommand.TheVariants as candidate_command
 use Rattle.register.specs.declared.batches.BatchCommand.TheVariants as batch_command
 use Rattle.register.specs.declared.counts.CountCommand.TheVariants as count_command
-use Rattle.office.specs.declared.sheets.Text.{Text as WardText}
-use Rattle.office.specs.declared.sheets.Text.TheVariants as ward_text
+use Rattle.office.specs.declared.sheets.WardText.{WardText}
+use Rattle.office.specs.declared.sheets.WardText.TheVariants as ward_text
 use Rattle.origins.specs.Origins.{origin_text}
 use Rattle.keyfile.specs.Digests.{asked_digest}
 use Rattle.desk.specs.Verdicts.{Judgement, judgement_given}
@@ -39,11 +39,11 @@ pub record OrderWords : Type 0 where
   pub name : Text
   pub words : List WordEntry
 
--- the entry of a word of the program's table
+-- the word that the program's table contains
 abbrev pub word_of : Word → WordEntry
 word_of w = record { name = w.name.now; kind = w.kind }
 
--- the name and the words of an entry of the program's table
+-- the name and the words of an entry in the program's table
 abbrev pub words_of : Entry → OrderWords
 words_of e = record { name = e.name.now; words = map word_of e.words.now }
 
@@ -55,7 +55,7 @@ number name = record { name = name; kind = kind.Number }
 abbrev pub number_or_none : Text → WordEntry
 number_or_none name = record { name = name; kind = kind.NumberOrNone }
 
--- a word that is a port, and an optional word that is a number of connections
+-- a word that is a port, and an optional word that is the number of connections
 abbrev pub port : Text → WordEntry
 port name = record { name = name; kind = kind.Port }
 
@@ -70,37 +70,41 @@ text name = record { name = name; kind = kind.Text }
 abbrev pub verdict : Text → WordEntry
 verdict name = record { name = name; kind = kind.Verdict }
 
--- the id, any text after `--id`
+-- the id: any text after `--id`
 abbrev pub id : WordEntry
 id = record { name = codes "id"; kind = kind.Id }
 
--- an origin, after `--` and its name, optional
+-- an origin after `--` and the word's name, optional
 abbrev pub origin : WordEntry
 origin = record { name = codes "origin"; kind = kind.Origin }
 
--- the path of a file of codes, after `--` and its name, optional
+-- the path of a codes file after `--` and the word's name, optional
 abbrev pub codes_file : WordEntry
 codes_file = record { name = codes "codes"; kind = kind.CodesFile }
 
--- a title, after `--` and its name, optional
+-- a title after `--` and the word's name, optional
 abbrev pub title : WordEntry
 title = record { name = codes "title"; kind = kind.Title }
 
--- the digest of a file, after `--` and its name, optional
+-- the digest of a file after `--` and the word's name, optional
 abbrev pub digest : WordEntry
 digest = record { name = codes "sha256"; kind = kind.Digest }
 
--- words that are any texts, zero or more after the others
+-- the expected number of papers after `--` and the word's name, optional
+abbrev pub papers : WordEntry
+papers = record { name = codes "papers"; kind = kind.Papers }
+
+-- zero or more words after the others, each of which is any text
 abbrev pub texts : Text → WordEntry
 texts name = record { name = name; kind = kind.Texts }
 
--- a flag, `--` and its name, optional
+-- a flag: `--` and the word's name, optional
 abbrev pub flag : Text → WordEntry
 flag name = record { name = name; kind = kind.Flag }
 
 -- ---- what a command asks for
 
--- what a command asks for, with its names as text
+-- what a command asks for, with names as text
 pub data Asked : Type 0 where
   ward_to_add : ℕ → ℕ → Text → Asked
   ward_to_close : ℕ → Asked
@@ -132,7 +136,7 @@ asked_by (command.Count (count_command.Advance ward)) = stage_to_count ward
 asked_by (command.Count (count_command.Lot ward stage candidate)) = lot_to_record ward stage candidate
 asked_by (command.Count (count_command.Declare ward)) = ward_to_declare ward
 
--- a request: its actor, its id, and what it asks for
+-- a request: its actor, its id and what it asks for
 pub record Sent : Type 0 where
   pub actor : ℕ
   pub id : Text
@@ -152,13 +156,15 @@ by_clerk clerk id asked = record { actor = clerk; id = id; asked = asked }
 
 -- ---- what an order means
 
--- what is to be done; or nothing, since the word of a verdict, of an origin or of a digest is invalid
+-- what the words request; or nothing, because a verdict, an origin or a digest is invalid, or a title is given although nothing is shown in public
 pub data Meant : Type 0 where
   make : Meant
   migrate : Meant
   send : Sent → Meant
   import_candidates : Text → Text → Option (List ℕ) → Meant
+  import_batches : Text → Text → Option (List ℕ) → Meant
   import_keying : ℕ → ℕ → ℕ → Text → Text → Option (List ℕ) → Meant
+  seal_expected : ℕ → ℕ → Text → Meant
   count : ℕ → Text → Meant
   tell_status : ℕ → Meant
   tell_next : ℕ → Meant
@@ -170,12 +176,13 @@ pub data Meant : Type 0 where
   copy : Text → Meant
   journal : Meant
   make_codes : Text → Text → Bool → Meant
-  serve : ℕ → Option ℕ → Option Text → Option Text → Meant
+  serve : ℕ → Option ℕ → Option Text → Option Text → Option Text → Meant
   no_verdict : Meant
   no_origin : Meant
   no_digest : Meant
+  title_alone : Meant
 
--- the meaning of printing a text of a ward; the title of a page is taken as text
+-- the meaning of printing one of a ward's texts; the title of a page is represented as text
 abbrev pub told_text : ℕ → WardText → Meant
 told_text ward (ward_text.Page title) = print_page ward title.now
 told_text ward text = print ward text
@@ -184,10 +191,12 @@ told_text ward text = print ward text
 abbrev pub told_errand : Errand → Meant
 told_errand (errand.Send r) = send (sent_as r)
 told_errand (errand.ImportCandidates file id digest) = import_candidates file.now id.now (asked_digest digest)
+told_errand (errand.ImportBatches file id digest) = import_batches file.now id.now (asked_digest digest)
+told_errand (errand.SealExpected e) = seal_expected e.ward e.papers e.id.now
 told_errand (errand.ImportKeying k) = import_keying k.clerk k.batch k.round k.file.now k.id.now (asked_digest k.digest)
 told_errand (errand.Count ward id) = count ward id.now
-told_errand (errand.TellStatus ward) = tell_status ward
-told_errand (errand.TellNext ward) = tell_next ward
+told_errand (errand.PrintStatus ward) = tell_status ward
+told_errand (errand.PrintNext ward) = tell_next ward
 told_errand (errand.Print ward text) = told_text ward text
 told_errand (errand.PrintIndex title) = print_index title.now
 told_errand (errand.Ask question) = ask question
@@ -201,16 +210,17 @@ told (order.Perform (task.InOffice (job.Replay file keep_going))) = replay file.
 told (order.Copy path) = copy path.now
 told order.Journal = journal
 told (order.Codes path clerks with_office) = make_codes path.now clerks.now with_office
-told (order.Serve port connections origin file) = serve port connections (option_map origin_text origin) (option_map (λ path. path.now) file)
+told (order.Serve port connections origin file public) =
+    serve port connections (option_map origin_text origin) (option_map (λ path. path.now) file) (option_map (λ title. title.now) public)
 
--- the task that an order is to perform, if it has one
+-- the task that an order performs, if it has one
 abbrev pub task_of : Order → Option Task
 task_of (order.Perform task) = Some task
 task_of other = None
 
 -- ---- the orders
 
--- the value of a word
+-- the type of a word's values
 abbrev pub WordValue : Kind → Type 0
 WordValue kind.Number = ℕ
 WordValue kind.NumberOrNone = Option ℕ
@@ -223,38 +233,59 @@ WordValue kind.Origin = Option Text
 WordValue kind.CodesFile = Option Text
 WordValue kind.Title = Text
 WordValue kind.Digest = Option (List ℕ)
+WordValue kind.Papers = Option ℕ
 WordValue kind.Texts = List Text
 WordValue kind.Flag = Bool
 
--- a function of the values of some words, in sequence
+-- a function of the values of the given words, in order
 abbrev pub OfWords : List WordEntry → Type 0 → Type 0
 OfWords [] T = T
 OfWords (w ∷ ws) T = WordValue w.kind → OfWords ws T
 
--- an order's name and words, what it means by the values of its words, and whether that is a command of the office
+-- an order's name and words, its meaning as a function of the values of its words, and whether that meaning is a command from the office
 pub record OrderEntry : Type 0 where
   pub typed : OrderWords
   pub means : OfWords typed.words Meant
   pub is_command : Bool
 
--- an order of this name with these words, in sequence, which means this of their values
+-- an order with the given name and the given words, in order, and with the given meaning as a function of their values
 abbrev pub takes : Text → (words : List WordEntry) → OfWords words Meant → OrderEntry
 takes name words means = record { typed = record { name = name; words = words }; means = means; is_command = false }
 
--- the office sends a command, made from the values of some words, under the id that follows them
+-- the office sends a command, made from the values of the given words, under the id that follows them
 abbrev pub under_id : (words : List WordEntry) → OfWords words Asked → OfWords (words ++ id ∷ []) Meant
 under_id [] asked = λ id. send (by_office id asked)
 under_id (w ∷ ws) asked = λ value. under_id ws (asked value)
 
--- an order of this name with these words and an id, which sends a command of the office
+-- an order with the given name, the given words and an id, which sends a command from the office
 abbrev pub sends : Text → (words : List WordEntry) → OfWords words Asked → OrderEntry
 sends name words asked = record { typed = record { name = name; words = words ++ id ∷ [] }; means = under_id words asked; is_command = true }
 
--- a clerk, never the office, stores the clerk's keying of a batch in a round: the marks of its papers in turn, under an id
+-- a clerk, and never the office, stores the clerk's keying of a batch in a round: the marks of its papers, in order, under an id
 abbrev pub key : ℕ → ℕ → ℕ → List Text → Text → Meant
 key clerk batch round papers id = send (by_clerk clerk id (keying_to_keep batch round papers))
 
--- the table of orders, in the sequence of an election
+-- the title of what is shown in public, if anything is; or None if a title is given and nothing is shown
+abbrev pub public_of : Bool → Text → Option (Option Text)
+public_of true title = Some (Some title)
+public_of false [] = Some None
+public_of false (c ∷ cs) = None
+
+-- the given meaning, or that a title is given although nothing is shown in public
+abbrev pub shown_as : Option (Option Text) → (Option Text → Meant) → Meant
+shown_as None means = title_alone
+shown_as (Some public) means = means public
+
+-- serving on a port, with something shown in public under a title
+abbrev pub serve_shown : ℕ → Option ℕ → Option Text → Option Text → Bool → Text → Meant
+serve_shown port connections origin file public title = shown_as (public_of public title) (serve port connections origin file)
+
+-- the office seals a ward; if a number of papers is expected, it does so only if that many were given out
+abbrev pub seal : ℕ → Text → Option ℕ → Meant
+seal ward id None = send (by_office id (ward_to_seal ward))
+seal ward id (Some papers) = seal_expected ward papers id
+
+-- the table of orders, in the order in which an election uses them
 unfoldable pub orders : List OrderEntry
 orders =
     takes (codes "init") [] make
@@ -264,12 +295,13 @@ orders =
     ∷ sends (codes "withdraw") (number (codes "WARD") ∷ number (codes "CANDIDATE") ∷ []) candidate_to_withdraw
     ∷ sends (codes "close") (number (codes "WARD") ∷ []) ward_to_close
     ∷ sends (codes "batch") (number (codes "BATCH") ∷ number (codes "WARD") ∷ number (codes "SIZE") ∷ number (codes "FIRST_CLERK") ∷ number (codes "SECOND_CLERK") ∷ []) batch_to_add
+    ∷ takes (codes "import-batches") (text (codes "FILE") ∷ id ∷ digest ∷ []) import_batches
     ∷ takes (codes "import-keying") (number (codes "CLERK") ∷ number (codes "BATCH") ∷ number (codes "ROUND") ∷ text (codes "FILE") ∷ id ∷ digest ∷ []) import_keying
     ∷ takes (codes "key") (number (codes "CLERK") ∷ number (codes "BATCH") ∷ number (codes "ROUND") ∷ texts (codes "MARKS") ∷ id ∷ []) key
     ∷ sends (codes "again") (number (codes "BATCH") ∷ []) batch_to_key_again
     ∷ sends (codes "third") (number (codes "BATCH") ∷ number (codes "CLERK") ∷ []) batch_for_third_clerk
     ∷ sends (codes "judge") (number (codes "BATCH") ∷ number (codes "PAPER") ∷ verdict (codes "VERDICT") ∷ []) paper_to_judge
-    ∷ sends (codes "seal") (number (codes "WARD") ∷ []) ward_to_seal
+    ∷ takes (codes "seal") (number (codes "WARD") ∷ id ∷ papers ∷ []) seal
     ∷ sends (codes "advance") (number (codes "WARD") ∷ []) stage_to_count
     ∷ takes (codes "count") (number (codes "WARD") ∷ id ∷ []) count
     ∷ sends (codes "lot") (number (codes "WARD") ∷ number (codes "STAGE") ∷ number (codes "CANDIDATE") ∷ []) lot_to_record
@@ -278,7 +310,7 @@ orders =
     ∷ takes (codes "next") (number (codes "WARD") ∷ []) tell_next
     ∷ takes (codes "sheet") (number (codes "WARD") ∷ []) (λ ward. print ward ward_text.Sheet)
     ∷ takes (codes "result") (number (codes "WARD") ∷ []) (λ ward. print ward ward_text.Declaration)
-    ∷ takes (codes "serve") (port (codes "PORT") ∷ connections (codes "CONNECTIONS") ∷ origin ∷ codes_file ∷ []) serve
+    ∷ takes (codes "serve") (port (codes "PORT") ∷ connections (codes "CONNECTIONS") ∷ origin ∷ codes_file ∷ flag (codes "public") ∷ title ∷ []) serve_shown
     ∷ takes (codes "migrate") [] migrate
     ∷ takes (codes "wards") [] (ask question.Wards)
     ∷ takes (codes "batches") (number (codes "WARD") ∷ []) (λ ward. ask (question.Batches ward))

@@ -8,53 +8,61 @@ use Rattle.register.specs.declared.command.Request.{Request}
 use Rattle.register.specs.declared.refusal.Reason.{Reason}
 use Rattle.tables.specs.declared.fault.Fault.TheVariants.{Memory}
 use Rattle.office.specs.Answers.{IsOpenAt}
-use Rattle.office.specs.Reads.{columns_told}
+use Rattle.office.specs.Overviews.{batches_answer}
+use Rattle.office.specs.Reads.{columns_answer}
 use Rattle.keyfile.specs.Files.{Format}
 use Rattle.desk.specs.Folders.{File}
 use Rattle.desk.specs.Headline.{Course, IsAnswered, IsSent, IsStopped, ended}
 use Rattle.desk.specs.Overviews.{page_asked}
 use Rattle.desk.specs.Pages.{Cut, Page, uncut, empty_page, failed, page_counted, page_found}
 use Rattle.desk.specs.Requests.{AreAdvances, HoldsKeying, is_first, is_refused}
+use Rattle.desk.specs.Seals.{IsSealSent, IsUnsealed}
 use Rattle.desk.specs.Told.{IsRefusedFile, IsRefusedKeying, unopened}
 use Rattle.desk.specs.declared.lines.Failure.TheVariants.{Office}
+use Rattle.desk.specs.declared.orders.ExpectedSeal.{ExpectedSeal}
 use Rattle.desk.specs.declared.orders.KeyingFile.{KeyingFile}
 use Rattle.desk.specs.declared.orders.Question.{Question}
 
--- P holds of an outcome with this page, written as far as this, for some requests of which some number was answered
+-- an outcome with the given page, written up to the given point, satisfies P for some requests and some number of answered ones
 abbrev pub ComesTo : Cut → Page → (Course → Type 0) → Type 0
 ComesTo cut page P = (requests : List Request) × (answered : ℕ) × P (record { requests = requests; answered = answered; page = page; cut = cut })
 
--- nothing remains to be done, in the office that is open at a state
+-- nothing remains to be done, and the office is open in the given state
 abbrev pub IsOver : Bool → State → OfficeState → Course → Type 0
 IsOver closed st s course = (course ≡ ended None [] 0 empty_page uncut) × IsOpenAt s closed st
 
--- The outcome of a request for one more stage, the first or a later one, and whether the count continues after it: it does if the machine doesn't refuse it and there
--- is no fault.
+-- The outcome of a request for another stage, whether it is the first or a later one, and whether the count continues after it. The count continues if the machine
+-- doesn't refuse the request and there is no fault.
 abbrev pub IsStage : State → Bool → State → Bool → OfficeState → Request → Page → Bool → Type 0
 IsStage old closed st first s r page goes = (answered : ℕ) × IsAnswered old closed st (λ t q. page_counted first) s r answered page × (goes ≡ (answered == 1 && not (is_refused (step_of s r))))
 
--- the stages of a ward were counted, by requests of an id from the first on
+-- a ward's stages were counted by the requests of an order with the given id, starting with the first request
 abbrev pub IsCounted : State → Bool → State → Bool → Option ℕ → OfficeState → ℕ → Text → Course → Type 0
 IsCounted old closed st keep line s ward id course =
     (requests : List Request) × AreAdvances s ward id 1 requests × IsSent old closed st keep line (λ t r. page_counted (is_first id r)) (IsOver closed st) s requests course
 
--- the page has what is found at a state, or why there is nothing; or a fault
+-- the page shows what is found in the given state, or says why nothing is found; or it reports a fault
 abbrev pub IsFound : {X : Type 0} → OfficeState → (X → Page) → Result X Reason → Page → Bool → State → State → Type 0
 IsFound s shown found page closed old st = ((page ≡ page_found shown found) × IsOpenAt s closed st) ⊎ IsStopped old closed st s page
 
--- the page answers a question, or says why there is no answer; or it has a fault
+-- the page answers a question, or says why there is no answer; or it reports a fault
 abbrev pub IsAskedOf : OfficeState → Question → Page → Bool → State → State → Type 0
 IsAskedOf s question page closed old st = ((page ≡ page_asked s question) × IsOpenAt s closed st) ⊎ IsStopped old closed st s page
 
--- why a file that was read is refused, or an allocation failed
+-- the page says why a file that was read is refused, or that an allocation failed
 abbrev pub IsUnread : {Row : Type 0} → Format Row → Option (List ℕ) → File → Page → Type 0
 IsUnread format digest file page = IsRefusedFile format digest file page ⊎ (page ≡ failed (Office Memory))
 
--- why a script's file can't be read
+-- the page says why a script's file can't be read
 abbrev pub IsUnreadScript : Page → Type 0
 IsUnreadScript page = (page ≡ unopened) ⊎ (page ≡ failed (Office Memory))
 
--- the keying of a batch in a file, at a state; or why there is none
+-- reading the file in the given state results in the keying of a batch, or in the reason why there is none
 abbrev pub IsKeyingRead : {O : Type 0} → OfficeState → KeyingFile → File → (O → Page) → Result Request O → Bool → State → State → Type 0
-IsKeyingRead s k file page_of (Ok request) closed old st = HoldsKeying (columns_told s k.batch) k file (request ∷ []) × IsOpenAt s closed st
-IsKeyingRead s k file page_of (Err outcome) closed old st = (IsRefusedKeying (columns_told s k.batch) k file (page_of outcome) × IsOpenAt s closed st) ⊎ IsStopped old closed st s (page_of outcome)
+IsKeyingRead s k file page_of (Ok request) closed old st = HoldsKeying (columns_answer s k.batch) k file (request ∷ []) × IsOpenAt s closed st
+IsKeyingRead s k file page_of (Err outcome) closed old st = (IsRefusedKeying (columns_answer s k.batch) k file (page_of outcome) × IsOpenAt s closed st) ⊎ IsStopped old closed st s (page_of outcome)
+
+-- the request that seals a ward with an expected number of papers in the given state, or the reason why it isn't sent
+abbrev pub IsSealRead : {O : Type 0} → OfficeState → ExpectedSeal → (O → Page) → Result Request O → Bool → State → State → Type 0
+IsSealRead s e page_of (Ok request) closed old st = IsSealSent s e (request ∷ []) × IsOpenAt s closed st
+IsSealRead s e page_of (Err outcome) closed old st = (IsUnsealed (batches_answer s e.ward) e.papers (page_of outcome) × IsOpenAt s closed st) ⊎ IsStopped old closed st s (page_of outcome)

@@ -1,12 +1,12 @@
--- The orders of a script: the lines of its text, the words of a line, and the order that they mean.
+-- The orders of a script: the lines of its text, the words of a line, and the order that those words mean.
 use Rattle.std.specs.Prelude.{◌≡◌, ◌≢◌, ◌⊎◌, ◌==◌, ◌&&◌, ◌||◌, ◌++◌, ℕ, suc, Bool, true, false, List, [], ◌∷◌, Option, Some, None, Result, Ok, Err}
 use Rattle.std.specs.Prelude.{codes, if◌then◌else◌, map, fold, string_bytes, IsOkAnd}
 use Rattle.std.specs.List.{list_all, list_any}
 use Rattle.std.specs.Str.{is_utf8}
 use Rattle.clap.specs.Words.{Text, subcommand_of}
 use Rattle.desk.specs.Folders.{File, Folder, HoldsText, IsFileAt}
-use Rattle.desk.specs.Orders.{no_digest, no_origin, no_verdict, told}
-use Rattle.desk.specs.Words.{IsToldOf, bad_digest, bad_origin, meaning, office_words, status_of_kind, wrong_with}
+use Rattle.desk.specs.Orders.{no_digest, no_origin, no_verdict, title_alone, told}
+use Rattle.desk.specs.Words.{IsToldOf, bad_digest, bad_origin, bad_title, meaning, office_words, status_of_kind, wrong_with}
 use Rattle.desk.specs.declared.orders.Errand.{Errand}
 use Rattle.desk.specs.declared.orders.Errand.TheVariants as errand
 use Rattle.desk.specs.declared.orders.Order.{Order}
@@ -25,31 +25,31 @@ use Rattle.desk.specs.declared.scripts.ScriptStep.{ScriptStep}
 
 -- ---- the lines of a text
 
--- the lines of a text, given the beginning of the first; a line feed ends one
+-- the lines of a text, given the beginning of the first one; a line feed ends a line
 abbrev pub lines_from : Text → Text → List Text
 lines_from line [] = line ∷ []
 lines_from line (byte ∷ bytes) = if byte == 10 then line ∷ lines_from [] bytes else lines_from (line ++ byte ∷ []) bytes
 
--- a text without its byte order mark, if it begins with one
+-- a text without its byte order mark, if it has one
 abbrev pub behind_byte_order_mark : Text → Text
 behind_byte_order_mark (a ∷ b ∷ c ∷ text) = if a == 239 && (b == 187 && c == 191) then text else a ∷ b ∷ c ∷ text
 behind_byte_order_mark text = text
 
--- the lines of a text; a byte order mark at its beginning is skipped
+-- the lines of a text; a byte order mark at the beginning is skipped
 abbrev pub lines_of : Text → List Text
 lines_of text = lines_from [] (behind_byte_order_mark text)
 
 -- ---- the words of a line
 
--- a space, a tab, or a carriage return; one may precede a line feed
+-- whether a byte is whitespace within a line: a space, a tab, or a carriage return, which may precede a line feed
 abbrev pub is_blank : ℕ → Bool
 is_blank byte = byte == 32 || (byte == 9 || byte == 13)
 
--- either quote, " or '
+-- whether a byte is either kind of quote, " or '
 abbrev pub is_quote : ℕ → Bool
 is_quote byte = byte == 34 || byte == 39
 
--- a line is skipped: it consists of blanks, or the first byte after its blanks is #
+-- whether a line is skipped: it consists only of whitespace, or its first non-whitespace byte is #
 abbrev pub passes_over : Text → Bool
 passes_over [] = true
 passes_over (byte ∷ bytes) = if is_blank byte then passes_over bytes else byte == 35
@@ -60,23 +60,23 @@ pub record LexerEntry : Type 0 where
   pub word : Text
   pub place : LexerState
 
--- the context of the next byte changes
+-- the state in which the next byte has the given context
 abbrev pub moved_to : LexerState → LexerEntry → LexerEntry
 moved_to place c = record { words = c.words; word = c.word; place = place }
 
--- a byte is appended to the current word
+-- appends a byte to the current word
 abbrev pub with_byte : LexerEntry → ℕ → LexerEntry
 with_byte c byte = record { words = c.words; word = c.word ++ byte ∷ []; place = c.place }
 
--- the current word is complete
+-- completes the current word
 abbrev pub with_word : LexerEntry → LexerEntry
 with_word c = record { words = c.words ++ c.word ∷ []; word = []; place = Between }
 
--- a byte that isn't a blank, outside quotes: a quote opens, any other belongs to the word
+-- a non-whitespace byte outside quotes: a quote opens, and any other byte belongs to the word
 abbrev pub cut_open : LexerEntry → ℕ → LexerEntry
 cut_open c byte = if is_quote byte then moved_to (Quoted byte) c else moved_to Within (with_byte c byte)
 
--- one more byte: inside quotes each belongs to the word up to the same quote, and outside them a blank ends a word
+-- another byte: inside quotes, each byte up to the same quote belongs to the word; outside quotes, whitespace ends the word
 abbrev pub cut_at : LexerState → LexerEntry → ℕ → LexerEntry
 cut_at Between c byte = if is_blank byte then c else cut_open c byte
 cut_at Within c byte = if is_blank byte then with_word c else cut_open c byte
@@ -85,7 +85,7 @@ cut_at (Quoted quote) c byte = if byte == quote then moved_to Within c else with
 abbrev pub cut_byte : LexerEntry → ℕ → LexerEntry
 cut_byte c byte = cut_at c.place c byte
 
--- the words of a line once all its bytes were processed; None if a quote isn't closed
+-- the words of a line after all its bytes have been processed; None if a quote isn't closed
 abbrev pub words_at : LexerState → LexerEntry → Option (List Text)
 words_at Between c = Some c.words
 words_at Within c = Some (c.words ++ c.word ∷ [])
@@ -98,24 +98,24 @@ words_cut c = words_at c.place c
 abbrev pub words_of : Text → Option (List Text)
 words_of line = words_cut (fold cut_byte (record { words = []; word = []; place = Between }) line)
 
--- ---- the lines of a script
+-- ---- a script's lines
 
--- a line with its number
+-- a line and its number
 pub record Numbered : Type 0 where
   pub number : ℕ
   pub words : Option (List Text)
 
--- the lines that aren't skipped, numbered from some number on
+-- the lines that aren't skipped, numbered from `k`
 abbrev pub numbered_from : ℕ → List Text → List Numbered
 numbered_from k [] = []
 numbered_from k (line ∷ lines) = if passes_over line then numbered_from (suc k) lines else record { number = k; words = words_of line } ∷ numbered_from (suc k) lines
 
--- the words as typed after the program's name, with DB; or why there are none: a quote isn't closed, or a word isn't UTF-8
+-- the words as typed after the program's name, including DB; or the reason why there are none: a quote isn't closed, or a word isn't UTF-8
 abbrev pub typed : Option (List Text) → Result (List Text) Garbled
 typed None = Err garbled.Quote
 typed (Some words) = if list_all is_utf8 words then Ok (codes "DB" ∷ words) else Err garbled.NotUtf8
 
--- a line that was typed
+-- a line as typed
 pub record Typed : Type 0 where
   pub number : ℕ
   pub words : Result (List Text) Garbled
@@ -123,47 +123,49 @@ pub record Typed : Type 0 where
 abbrev pub typed_line : Numbered → Typed
 typed_line line = record { number = line.number; words = typed line.words }
 
--- the lines of a script
+-- a script's lines
 abbrev pub script_lines : Text → List Typed
 script_lines text = map typed_line (numbered_from 1 (lines_of text))
 
 -- ---- the order of a line
 
--- whether an errand sends requests; only one that does can be in a script
+-- whether an errand sends requests; only such errands are allowed in a script
 abbrev pub sends_requests : Errand → Bool
 sends_requests (errand.Send request) = true
 sends_requests (errand.ImportCandidates file id digest) = true
+sends_requests (errand.ImportBatches file id digest) = true
 sends_requests (errand.ImportKeying keying) = true
+sends_requests (errand.SealExpected seal) = true
 sends_requests (errand.Count ward id) = true
 sends_requests other = false
 
--- whether an order can be in a script: its errand sends requests
-abbrev pub stands_in_script : Order → Bool
-stands_in_script (order.Perform (task.InOffice (job.Run errand))) = sends_requests errand
-stands_in_script other = false
+-- whether an order is allowed in a script: its errand sends requests
+abbrev pub is_allowed_in_script : Order → Bool
+is_allowed_in_script (order.Perform (task.InOffice (job.Run errand))) = sends_requests errand
+is_allowed_in_script other = false
 
--- the words are those of an order that can be in a script, and this is its errand
+-- the words mean an order that is allowed in a script and has the given errand
 pub record Means (words : List Text) (errand : Errand) : Type 0 where
   pub right : wrong_with words ≡ []
   pub means : meaning (subcommand_of office_words words) ≡ Some (told (order.Perform (task.InOffice (job.Run errand))))
   pub sends : sends_requests errand ≡ true
 
--- a line is this step
-pub record IsTurn (line : Typed) (turn : ScriptStep) : Type 0 where
+-- a line means the given step
+pub record IsStep (line : Typed) (turn : ScriptStep) : Type 0 where
   pub line_number : turn.line ≡ Some line.number
   pub means : IsOkAnd line.words (λ words. Means words turn.errand)
 
--- the lines are these steps, one each
+-- the lines mean the given steps, one step per line
 abbrev pub AreTurns : List Typed → List ScriptStep → Type 0
 AreTurns [] turns = turns ≡ []
-AreTurns (line ∷ lines) turns = (turn : ScriptStep) × (others : List ScriptStep) × (turns ≡ turn ∷ others) × IsTurn line turn × AreTurns lines others
+AreTurns (line ∷ lines) turns = (turn : ScriptStep) × (others : List ScriptStep) × (turns ≡ turn ∷ others) × IsStep line turn × AreTurns lines others
 
--- the steps of a job: an errand alone is one step, without a line; the steps of a script are the errands that its lines mean
-abbrev pub HasTurns : Folder → Job → List ScriptStep → Type 0
-HasTurns folder (job.Run errand) turns = turns ≡ record { line = None; errand = errand } ∷ []
-HasTurns folder (job.Replay path keep_going) turns = (file : File) × IsFileAt folder (Some path.now) file × HoldsText file (λ text. AreTurns (script_lines text) turns)
+-- the steps of a job: a single errand is one step, without a line number; the steps of a script are the errands that its lines mean
+abbrev pub HasSteps : Folder → Job → List ScriptStep → Type 0
+HasSteps folder (job.Run errand) turns = turns ≡ record { line = None; errand = errand } ∷ []
+HasSteps folder (job.Replay path keep_going) turns = (file : File) × IsFileAt folder (Some path.now) file × HoldsText file (λ text. AreTurns (script_lines text) turns)
 
--- whether a job continues after refusals: a script does if it is to keep going
+-- whether a job continues after refusals: a script does so with `keep_going`
 abbrev pub keeps_going : Job → Bool
 keeps_going (job.Run errand) = false
 keeps_going (job.Replay path keep_going) = keep_going
@@ -177,27 +179,29 @@ line_flaw_text (flaw.NoWords garbled.NotUtf8) = codes "error: a word is not UTF-
 line_flaw_text flaw.Verdict = codes "bad verdict word\n"
 line_flaw_text flaw.Origin = bad_origin
 line_flaw_text flaw.Digest = bad_digest
+line_flaw_text flaw.TitleAlone = bad_title
 line_flaw_text (flaw.Words text) = string_bytes text
-line_flaw_text flaw.Elsewhere = codes "error: this order stands in no script\n"
+line_flaw_text flaw.Elsewhere = codes "error: this order can't be used in a script\n"
 
--- what is wrong with its words. The word of a verdict, an origin or a digest is invalid, though `clap` accepts the words; or it is what `clap` says of them; or the
--- order can't be in a script, such as one that asks for help.
+-- what is wrong with the words of a line. Either `clap` accepts them, but a verdict, an origin or a digest is invalid, or a title is given although nothing is shown
+-- in public. Or it is what `clap` reports for them. Or the order, such as one that asks for help, isn't allowed in a script.
 abbrev pub IsFlawOfWords : List Text → LineFlaw → Type 0
 IsFlawOfWords words (flaw.NoWords why) = ⊥
 IsFlawOfWords words flaw.Verdict = (wrong_with words ≡ []) × (meaning (subcommand_of office_words words) ≡ Some no_verdict)
 IsFlawOfWords words flaw.Origin = (wrong_with words ≡ []) × (meaning (subcommand_of office_words words) ≡ Some no_origin)
 IsFlawOfWords words flaw.Digest = (wrong_with words ≡ []) × (meaning (subcommand_of office_words words) ≡ Some no_digest)
+IsFlawOfWords words flaw.TitleAlone = (wrong_with words ≡ []) × (meaning (subcommand_of office_words words) ≡ Some title_alone)
 IsFlawOfWords words (flaw.Words text) = (status : ℕ) × (status ≢ 0) × IsToldOf (wrong_with words) (words_fault.Words text status)
 IsFlawOfWords words flaw.Elsewhere =
     (list_any (λ kind. status_of_kind kind == 0) (wrong_with words) ≡ true)
-    ⊎ ((o : Order) × (meaning (subcommand_of office_words words) ≡ Some (told o)) × (stands_in_script o ≡ false))
+    ⊎ ((o : Order) × (meaning (subcommand_of office_words words) ≡ Some (told o)) × (is_allowed_in_script o ≡ false))
 
 -- what is wrong with a line
 abbrev pub IsFlawOf : Result (List Text) Garbled → LineFlaw → Type 0
 IsFlawOf (Err why) found = found ≡ flaw.NoWords why
 IsFlawOf (Ok words) found = IsFlawOfWords words found
 
--- this is wrong with the line of some number, and nothing is with those before it
+-- line number `k` has the given flaw, and nothing is wrong with the lines before it
 abbrev pub IsFirstFlaw : List Typed → ℕ → LineFlaw → Type 0
 IsFirstFlaw [] k found = ⊥
-IsFirstFlaw (line ∷ lines) k found = ((line.number ≡ k) × IsFlawOf line.words found) ⊎ ((turn : ScriptStep) × IsTurn line turn × IsFirstFlaw lines k found)
+IsFirstFlaw (line ∷ lines) k found = ((line.number ≡ k) × IsFlawOf line.words found) ⊎ ((turn : ScriptStep) × IsStep line turn × IsFirstFlaw lines k found)

@@ -1,4 +1,4 @@
-//! The names of a ward's candidates by number.
+//! The names of a ward's candidates, by number.
 
 ghost use Rattle.std.specs.Prelude.{◌≡◌, map, option_map, IfOk};
 ghost use Rattle.register.specs.Offices.{candidate_entry};
@@ -8,16 +8,16 @@ use paper::MAX_CANDIDATES;
 use register::Candidate;
 use std::alloc::{AllocError, Global};
 
-/// The length of the table: 0, which is no candidate's number, and 1 to the highest number of a candidate.
+/// The length of the table: 0, which is not the number of any candidate, and 1 to the highest candidate number.
 const PLACES: u32 = MAX_CANDIDATES as u32 + 1;
 
-/// The names of a ward's candidates, each at the index of its number; empty at other indices.
+/// The names of a ward's candidates, each at the index of its number. The names at other indices are empty.
 #[derive(Drop)]
 pub(crate) struct NamesByNumber<'a> {
     places: Vec<&'a str>,
 }
 
-/// Returns the candidate with a number.
+/// Returns the candidate with the given number.
 pub(crate) fn candidate_in<'a>(candidates: &'a [Candidate], number: u32) -> Option<&'a Candidate>
     ensures { option_map (λ c. candidate_entry c.now) result ≡ candidate_in (map candidate_entry candidates.now) number }
 {
@@ -29,7 +29,7 @@ pub(crate) fn candidate_in<'a>(candidates: &'a [Candidate], number: u32) -> Opti
     None
 }
 
-/// Returns the name of the candidate with a number; empty if there is none.
+/// Returns the name of the candidate with the given number, or an empty string if there is none.
 pub(crate) fn name_of<'a>(candidates: &'a [Candidate], number: u32) -> &'a str
     ensures { result.now ≡ name_of (map candidate_entry candidates.now) number }
 {
@@ -41,7 +41,8 @@ pub(crate) fn name_of<'a>(candidates: &'a [Candidate], number: u32) -> &'a str
 
 impl<'a> NamesByNumber<'a> {
     #[tactic(auto, unfolding(crate::specs::CandidateNames::names_of))]
-    /// Returns the names of these candidates. Each number from 0 to 30 is looked up once; a preference then finds its name by index.
+    /// Returns the names of the given candidates. Each number from 0 to 30 is looked up once, so that the name for a preference
+    /// can then be found by index.
     pub(crate) fn new(
         alloc: Global,
         candidates: &'a [Candidate],
@@ -55,7 +56,7 @@ impl<'a> NamesByNumber<'a> {
         Ok(NamesByNumber { places })
     }
 
-    /// Returns the name at an index; empty if it is out of range.
+    /// Returns the name at an index, or an empty string if the index is out of range.
     pub(crate) fn name(&self, number: u8) -> &'a str
         ensures { result.now ≡ name_in (names_told self.now) number }
     {

@@ -12,15 +12,15 @@ ghost use Rattle.desk.specs.Copying.{HoldsCopy, IsCopied, IsCopiedOpen, copied_t
 ghost use Rattle.desk.specs.Pages.{Tells, closed_page, outputs_of, page_of};
 
 use crate::lines::{LineOutcome, tell};
-use office::{Holdings, Office};
+use office::{Office, OfficeCounts};
 use sqlite::{Alter, Connection};
 use std::alloc::{AllocError, Global};
 use store::{CopyFault, Fault};
 use streams::Sink;
 
 #[tactic(auto, unfolding(crate::specs::Copying::copied_text))]
-/// Returns how much a copy contains, as a line without its end.
-fn copied_text(alloc: Global, holdings: Holdings) -> Result<String, AllocError>
+/// Returns the line that says how much a copy contains, without its newline.
+fn copied_text(alloc: Global, holdings: OfficeCounts) -> Result<String, AllocError>
     ensures { IfOk result (λ text. string_bytes text ≡ copied_text holdings) }
 {
     let (wards, batches) = (holdings.wards, holdings.batches);
@@ -33,15 +33,15 @@ fn copied_text(alloc: Global, holdings: Holdings) -> Result<String, AllocError>
 /// What the other database is known to contain after the order.
 #[derive(Clone, Copy)]
 pub enum CopyState {
-    /// The whole office. Its reply was printed, unless the output failed.
+    /// The whole office. The reply was printed, unless the output failed.
     Whole,
-    /// What it contained before: nothing was written.
+    /// What it contained before. Nothing was written.
     Untouched,
-    /// What it contained before or the whole office, for which no reply is printed.
+    /// Either what it contained before or the whole office. No reply is printed.
     Unknown,
 }
 
-/// Returns what the other database contains if no copy is reported.
+/// Returns what the other database contains after the given fault.
 fn state_behind(fault: CopyFault) -> CopyState
     ensures { result ≡ state_behind fault }
 {
@@ -52,7 +52,7 @@ fn state_behind(fault: CopyFault) -> CopyState
     }
 }
 
-/// Copies the office, and returns the outcome and what the other database contains.
+/// Copies the office. Returns the outcome and what the other database contains.
 fn copied<S: Alter, T: Alter>(
     alloc: Global,
     conn: &mut Connection<S>,
@@ -74,7 +74,7 @@ fn copied<S: Alter, T: Alter>(
     }
 }
 
-/// Copies an open office, which stays open, and returns the outcome and what the other database contains.
+/// Copies an open office, which stays open. Returns the outcome and what the other database contains.
 fn copied_open<S: Alter, T: Alter>(
     alloc: Global,
     office: &mut Office<S>,
@@ -99,11 +99,11 @@ fn copied_open<S: Alter, T: Alter>(
     }
 }
 
-/// Copies an open office, which stays open, into the empty database of another connection. Prints how much the copy contains, and
-/// returns the status and what the other database contains. The connection isn't closed.
+/// Copies an open office, which stays open, into the empty database on another connection. Prints how much the copy contains, and
+/// returns the status and what the other database contains. The other connection isn't closed.
 ///
-/// The copy is made as by `copy_office`, except that the office is open already. It is only read. For a closed office, it reports that
-/// it is closed.
+/// The copy is made the same way as in `copy_office`, except that the office is already open. The office is only read. A closed
+/// office is reported as such.
 pub fn copy_open<S: Alter, T: Alter, O: Sink, E: Sink>(
     alloc: Global,
     office: &mut Office<S>,
@@ -131,16 +131,17 @@ pub fn copy_open<S: Alter, T: Alter, O: Sink, E: Sink>(
     (tell(None, &outcome, out, err), state)
 }
 
-/// Copies the office of an open connection into the empty database of another. Prints how much the copy contains, and returns the
-/// status and what the other database contains. Neither connection is closed.
+/// Copies the office on an open connection into the empty database on another one. Prints how much the copy contains, and returns
+/// the status and what the other database contains. Neither connection is closed.
 ///
-/// The whole copy is made in one transaction. Once its reply is printed, it contains exactly the state of the office, including every
-/// receipt. If the program stops before that, the other database contains either nothing or the whole copy. The office is only read,
-/// whatever the outcome.
+/// The whole copy is made in one transaction. Once the reply is printed, the copy contains exactly the state of the office,
+/// including every receipt. If the program stops before that, the other database contains either nothing or the whole copy. The
+/// office is only read, whatever the outcome.
 ///
-/// A database that contains no office, or a newer, an older or a damaged one, is reported by that fault (105, 106, 108, 103), and
-/// nothing is copied. If a table of the other database has one of our names, 109 is reported, and that database is not changed. A copy
-/// that can't be written is 110. Running out of memory, or a store that fails while the office is read, is reported as usual.
+/// If the database contains no office, or a newer, older or damaged one, the corresponding fault is reported (105, 106, 108, 103),
+/// and nothing is copied. If the other database has a table with one of our names, 109 is reported, and that database isn't
+/// changed. A copy that can't be written is reported as 110. An allocation failure, or a store that fails while the office is being
+/// read, is reported as usual.
 pub fn copy_office<S: Alter, T: Alter, O: Sink, E: Sink>(
     alloc: Global,
     conn: &mut Connection<S>,

@@ -1,4 +1,4 @@
-//! Counting the stages of a ward by one order.
+//! Counting a ward's stages in one order.
 
 ghost use Rattle.std.specs.Prelude.{◌≡◌, ◌-◌, ◌^◌, ◌<◌, ℕ, Bool, map};
 ghost use Rattle.sqlite.specs.State.{HasCleanDisk};
@@ -17,9 +17,9 @@ use register::{Reason, Refusal, Request};
 use sqlite::Alter;
 use streams::Sink;
 
-/// Returns the outcome of a request for one more stage that was refused. That the count rests is a reply. After the first request, a
-/// ward in another phase is one that was declared meanwhile.
-fn at_rest(is_first: bool, refusal: Refusal) -> LineOutcome
+/// Returns the outcome of a refused request for another stage. If the count has stopped at a lot or at its end, the outcome is a
+/// reply, not a refusal. After the first request, a ward in another phase is one that has been declared in the meantime.
+fn outcome_of_refused_stage(is_first: bool, refusal: Refusal) -> LineOutcome
     ensures { page_of result ≡ page_at_rest is_first refusal }
 {
     match refusal.reason() {
@@ -30,8 +30,8 @@ fn at_rest(is_first: bool, refusal: Refusal) -> LineOutcome
     }
 }
 
-/// Requests one more stage, as the first request of an order or a later one. Returns the outcome, and whether the count continues
-/// after it: it does if the request was accepted, now or before.
+/// Requests another stage, as the first request of an order or as a later one. Returns the outcome, and whether the count
+/// continues after it, which it does if the request was accepted, now or earlier.
 fn stage_of<S: Alter>(
     office: &mut Office<S>,
     is_first: bool,
@@ -45,12 +45,12 @@ fn stage_of<S: Alter>(
     match office.handle(request.actor, request.id.as_str(), &request.command) {
         Ok(Answer::Done(reply)) => (LineOutcome::Replied(reply), true),
         Ok(Answer::Kept(reply)) => (LineOutcome::Replied(reply), true),
-        Ok(Answer::Refused(refusal)) => (at_rest(is_first, refusal), false),
+        Ok(Answer::Refused(refusal)) => (outcome_of_refused_stage(is_first, refusal), false),
         Err(fault) => (LineOutcome::Failed(fault), false),
     }
 }
 
-/// Returns the id of the first of these requests.
+/// Returns the id of the first of the given requests.
 fn first_id(requests: &[Request]) -> &str
     ensures { (ward : ℕ) (id : Text) → map sent_as requests.now ≡ advances ward id most_advances → result.now ≡ id_at id 1 }
 {
@@ -60,10 +60,10 @@ fn first_id(requests: &[Request]) -> &str
     }
 }
 
-/// Counts stage by stage, by the requests of an order, and prints each reply. It ends after the first request that isn't accepted, now
-/// or before. If the count rests there, at a lot or its end, a line says so too, with status 0. Any other refusal is printed as usual,
-/// with status 1, and a fault with status 3. The first output that fails ends it, with status 3. Each stage that was replied remains
-/// counted.
+/// Counts stage by stage with the requests of an order, and prints each reply. The count ends after the first request that isn't
+/// accepted, now or earlier. If it has stopped at a lot or at its end, a line says so too, with status 0. Any other refusal is
+/// printed as usual, with status 1, and a fault with status 3. An output that fails also ends the count, with status 3.
+/// Every stage whose reply was printed remains counted.
 pub(crate) fn count_stages<S: Alter, O: Sink, E: Sink>(
     office: &mut Office<S>,
     line: Option<usize>,

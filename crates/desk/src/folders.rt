@@ -1,4 +1,4 @@
-//! The directory in which the files that a script's orders name are opened.
+//! The folder in which the files named by an order or a script are opened.
 
 ghost use Rattle.std.specs.Prelude.{◌≡◌, IfSome, None, option_map};
 ghost use Rattle.clap.specs.Words.{Text};
@@ -6,13 +6,13 @@ ghost use Rattle.desk.specs.Folders.{Folder};
 
 use std::io::Read;
 
-/// Opens files by their paths.
+/// Something that opens files by path.
 pub trait Folder {
     type File: Read + Drop;
 
     ghost held: { Self → Folder } = { λ _ _. None };
 
-    /// Opens the file at a path; None if it can't be opened.
+    /// Opens the file at a path. Returns None if it can't be opened.
     fn open(&self, path: &str) -> Option<Self::File>
         ensures { IfSome (held self.now path.now) (λ file. option_map Self.File.remaining result ≡ file) };
 }

@@ -1,21 +1,22 @@
-//! The requests that import files contain.
+//! Reading the requests in import files.
 
 ghost use Rattle.std.specs.Prelude.{option_map, [], ◌∷◌, IfErr, IfOk};
 ghost use Rattle.sqlite.specs.Held.{state};
 ghost use Rattle.tables.specs.Reading.{OnlyReads};
+ghost use Rattle.keyfile.specs.Batches.{batches};
 ghost use Rattle.keyfile.specs.Candidates.{candidates};
 ghost use Rattle.keyfile.specs.Digests.{asked_digest};
 ghost use Rattle.keyfile.specs.Keying.{keying};
 ghost use Rattle.office.specs.Answers.{WhenOpenAt};
 ghost use Rattle.desk.specs.Parts.{IsKeyingRead, IsUnread};
 ghost use Rattle.desk.specs.Pages.{page_of};
-ghost use Rattle.desk.specs.Requests.{HoldsRequests, keyings_for, requests_for};
+ghost use Rattle.desk.specs.Requests.{HoldsRequests, batch_asked, candidate_asked, keyings_for, requests_for};
 
 use crate::lines::LineOutcome;
 use crate::orders::KeyingFile;
 use crate::requests::{keying_request, requests_for};
-use keyfile::{FileDigest, FileFault, Flaw, read_candidates, read_keying};
-use office::{Office, Stop};
+use keyfile::{FileDigest, FileFault, Flaw, read_batches, read_candidates, read_keying};
+use office::{Office, ReadError};
 use paper::Columns;
 use register::Request;
 use sqlite::Alter;
@@ -29,15 +30,15 @@ pub(crate) const UNOPENED: FileFault = FileFault {
     record_number: 0,
 };
 
-/// Returns the requests that add the candidates of a file, or why there are none. The file is None if it can't be opened, and is read
-/// to its end. If a digest is asked for, the requests are those of bytes that have it.
+/// Returns the requests that add the candidates in a file, or the reason why there are none. `file` is None if it couldn't be
+/// opened; otherwise it is read to the end. If a digest is given, the bytes that the requests are read from have that digest.
 pub(crate) fn candidate_requests<R: Read + Drop>(
     alloc: Global,
     id: &str,
     file: Option<R>,
     digest: Option<FileDigest>,
 ) -> Result<Vec<Request>, LineOutcome>
-    ensures rows { IfOk result (λ requests. HoldsRequests candidates (requests_for id.now) (asked_digest digest) (option_map R.remaining file) requests.items) }
+    ensures rows { IfOk result (λ requests. HoldsRequests candidates (requests_for candidate_asked id.now) (asked_digest digest) (option_map R.remaining file) requests.items) }
     ensures refused { IfErr result (λ outcome. IsUnread candidates (asked_digest digest) (option_map R.remaining file) (page_of outcome)) }
 {
     let Some(file) = file else {
@@ -53,9 +54,33 @@ pub(crate) fn candidate_requests<R: Read + Drop>(
     }
 }
 
-/// Returns the request that stores the keying in a file, of papers with these columns; or why there is none. The file is None if it
-/// can't be opened, and is read to its end. If it names a batch and a clerk, these are the request's. If a digest is asked for, the
-/// request is that of bytes that have it.
+/// Returns the requests that give out the batches in a file, or the reason why there are none. `file` is None if it couldn't be
+/// opened; otherwise it is read to the end. If a digest is given, the bytes that the requests are read from have that digest.
+pub(crate) fn batch_requests<R: Read + Drop>(
+    alloc: Global,
+    id: &str,
+    file: Option<R>,
+    digest: Option<FileDigest>,
+) -> Result<Vec<Request>, LineOutcome>
+    ensures rows { IfOk result (λ requests. HoldsRequests batches (requests_for batch_asked id.now) (asked_digest digest) (option_map R.remaining file) requests.items) }
+    ensures refused { IfErr result (λ outcome. IsUnread batches (asked_digest digest) (option_map R.remaining file) (page_of outcome)) }
+{
+    let Some(file) = file else {
+        return Err(LineOutcome::Unread(UNOPENED));
+    };
+    let rows = match read_batches(alloc, file, digest) {
+        Ok(rows) => rows,
+        Err(fault) => return Err(LineOutcome::Unread(fault)),
+    };
+    match requests_for(alloc, id, &rows) {
+        Ok(requests) => Ok(requests),
+        Err(_) => Err(LineOutcome::Failed(Fault::Memory)),
+    }
+}
+
+/// Returns the request that stores the keying in a file whose papers have the given columns, or the reason why there is none.
+/// `file` is None if it couldn't be opened; otherwise it is read to the end. If the file names a batch and a clerk, the request has
+/// the same ones. If a digest is given, the bytes that the request is read from have that digest.
 fn keying_in<R: Read + Drop>(
     alloc: Global,
     keyed: KeyingFile<'_>,
@@ -81,9 +106,10 @@ fn keying_in<R: Read + Drop>(
     }
 }
 
-/// Returns the request that stores the keying of a batch in a file, or why there is none. The file is None if it can't be opened.
+/// Returns the request that stores the keying of a batch in a file, or the reason why there is none. `file` is None if it couldn't
+/// be opened.
 ///
-/// The columns are those of the batch's ward; if there is no such batch, the file isn't read.
+/// The columns are those of the batch's ward. If there is no such batch, the file isn't read.
 pub(crate) fn keying_of<S: Alter, R: Read + Drop>(
     alloc: Global,
     office: &mut Office<S>,
@@ -96,7 +122,7 @@ pub(crate) fn keying_of<S: Alter, R: Read + Drop>(
 {
     match office.columns(keyed.batch) {
         Ok(columns) => keying_in(alloc, keyed, columns, file),
-        Err(Stop::Refused(refusal)) => Err(LineOutcome::Refused(refusal)),
-        Err(Stop::Fault(fault)) => Err(LineOutcome::Failed(fault)),
+        Err(ReadError::Refused(refusal)) => Err(LineOutcome::Refused(refusal)),
+        Err(ReadError::Fault(fault)) => Err(LineOutcome::Failed(fault)),
     }
 }

@@ -1,5 +1,5 @@
-//! The journal of the office: its accepted orders as a script. Before it is printed, it is read back and replayed in an empty office,
-//! which must then be the same.
+//! Checking and printing the journal of the office: its accepted orders as a script. Before the journal is printed, it is parsed
+//! and replayed in an empty office, which must end up in the same state.
 
 ghost use Rattle.std.specs.Prelude.{◌≡◌, ◌-◌, ◌^◌, ◌<◌, true, string_bytes, IfOk, IfSome};
 ghost use Rattle.sqlite.specs.State.{HasCleanDisk};
@@ -15,7 +15,7 @@ ghost use Rattle.desk.specs.Pages.{Tells, closed_page, outputs_of, page_of};
 use crate::journal::journal_text;
 use crate::lines::{LineOutcome, tell};
 use crate::orders::Errand;
-use crate::scripts::{ScriptFault, ScriptStep, all_said, lines_in, turns_in};
+use crate::scripts::{ScriptFault, ScriptStep, lines_in, script_steps, typed_lines};
 use office::Office;
 use register::Request;
 use rowcheck::Rows;
@@ -24,14 +24,15 @@ use std::alloc::{AllocError, Global};
 use store::Fault;
 use streams::Sink;
 
-/// The text of a journal that isn't tested yet, and the requests that it is parsed as; None if it is parsed as anything else.
+/// The text of a journal that hasn't been checked yet, and the requests that it parses to; None if it isn't a script of requests
+/// only.
 #[derive(Drop)]
 struct Draft {
     text: String,
     requests: Option<Vec<Request>>,
 }
 
-/// Returns the requests that these steps send; None if one of them reads a file or asks for something.
+/// Returns the requests that the given steps send; None if a step does anything other than send a given request.
 fn requests_of(
     alloc: Global,
     turns: Vec<ScriptStep<'_>>,
@@ -49,20 +50,20 @@ fn requests_of(
     Ok(Some(requests))
 }
 
-/// Returns the requests of a script; None if the text isn't a script of requests alone.
+/// Returns a script's requests; None if the text isn't a script of requests only.
 fn requests_in(alloc: Global, text: &str) -> Result<Option<Vec<Request>>, AllocError>
     ensures { IfOk result (λ found. IfSome found (λ requests. IsScriptOf text.now requests.items)) }
 {
     let lines = lines_in(alloc, text.as_bytes())?;
-    let said = all_said(alloc, &lines)?;
-    match turns_in(alloc, &said) {
+    let said = typed_lines(alloc, &lines)?;
+    match script_steps(alloc, &said) {
         Ok(turns) => requests_of(alloc, turns),
         Err(ScriptFault::Memory) => Err(AllocError),
         Err(ScriptFault::ScriptLine(_, _)) => Ok(None),
     }
 }
 
-/// Returns the text of the journal of the office of these rows, and its requests as they are read back.
+/// Returns the text of the journal for an office with the given rows, and the requests it parses to.
 fn draft_of(alloc: Global, rows: &Rows) -> Result<Draft, AllocError>
     requires { MapsAreSorted (state_of rows.now) }
     ensures { IfOk result (λ draft. IfSome draft.requests (λ requests. IsScriptOf (string_bytes draft.text) requests.items)) }
@@ -72,8 +73,9 @@ fn draft_of(alloc: Global, rows: &Rows) -> Result<Draft, AllocError>
     Ok(Draft { text, requests })
 }
 
-/// Returns the journal of the office of these rows, or why there is none: the text doesn't make that office, or a fault, `Memory` or
-/// `Store`. It is replayed in the empty database of a connection, which is returned with whatever the replay left in it.
+/// Returns the journal for an office with the given rows, or the reason why there is none: the text doesn't reproduce that office,
+/// or a fault, `Memory` or `Store`, occurred. The journal is replayed in the empty database on a connection. That connection is
+/// returned along with whatever the replay left in its database.
 fn journal_of<T: Alter>(
     alloc: Global,
     rows: &Rows,
@@ -97,7 +99,7 @@ fn journal_of<T: Alter>(
     }
 }
 
-/// Returns the journal of the office of a connection, or why there is none.
+/// Returns the journal of the office on a connection, or the reason why there is none.
 fn journalled<S: Alter, T: Alter>(
     alloc: Global,
     conn: &mut Connection<S>,
@@ -113,7 +115,7 @@ fn journalled<S: Alter, T: Alter>(
     }
 }
 
-/// Returns the journal of an open office, which stays open, or why there is none.
+/// Returns the journal of an open office, which stays open, or the reason why there is none.
 fn journalled_open<S: Alter, T: Alter>(
     alloc: Global,
     office: &mut Office<S>,
@@ -132,8 +134,8 @@ fn journalled_open<S: Alter, T: Alter>(
 
 /// Prints the journal of an open office, which stays open, and returns the status. The other connection isn't closed.
 ///
-/// The journal is tested and printed as by `journal_office`, except that the office is open already. It is only read. For a closed
-/// office, it reports that it is closed.
+/// The journal is checked and printed the same way as in `journal_office`, except that the office is already open. The office is
+/// only read. A closed office is reported as such.
 pub fn journal_open<S: Alter, T: Alter, O: Sink, E: Sink>(
     alloc: Global,
     office: &mut Office<S>,
@@ -154,17 +156,17 @@ pub fn journal_open<S: Alter, T: Alter, O: Sink, E: Sink>(
     (tell(None, &outcome, out, err), blank)
 }
 
-/// Prints the journal of the office of an open connection, and returns the status. Neither connection is closed.
+/// Prints the journal of the office on an open connection, and returns the status. Neither connection is closed.
 ///
-/// The journal is a script: each of its lines is an order that was accepted, and `replay` reads it. It needs no other file. Before it
-/// is printed, it is parsed as a script and replayed in an empty office, which is made in the database of the other connection. With
-/// status 0 each line was accepted there, and they made exactly the state of this office, including every receipt. The office itself
-/// is only read.
+/// The journal is a script that `replay` accepts: each line is an order that was accepted. It needs no other file. Before it is
+/// printed, it is parsed as a script and replayed in an empty office, which is created in the database on the other connection.
+/// If the status is 0, every line was accepted there, and together they produced exactly the state of this office, including
+/// every receipt. The office itself is only read.
 ///
-/// If the text doesn't make exactly this office, the page says so, with status 1. That happens if the receipts and the other tables
-/// don't match; nothing guarantees that it happens in no other case. A database that contains no office, or a newer, an older or a
-/// damaged one, is reported by that fault (105, 106, 108, 103), with its cause. For an allocation that fails (101) and a store that
-/// fails (102), nothing tells whether it was while reading the office or during the replay.
+/// If the text doesn't reproduce exactly this office, this is reported with status 1. That happens if the receipts and the other
+/// tables don't match; nothing guarantees that it never happens otherwise. If the database contains no office, or a newer, older or
+/// damaged one, the corresponding fault is reported (105, 106, 108, 103), with its cause. An allocation failure (101) or a failed
+/// store (102) is reported without saying whether it happened while the office was being read or during the replay.
 pub fn journal_office<S: Alter, T: Alter, O: Sink, E: Sink>(
     alloc: Global,
     conn: &mut Connection<S>,

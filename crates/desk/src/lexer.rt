@@ -1,4 +1,4 @@
-//! Splitting a text into lines, and a line into words.
+//! Splitting texts into lines, and lines into words.
 
 ghost use Rattle.std.specs.Prelude.{◌≡◌, [], IfOk, OnOk, map, option_map};
 ghost use Rattle.desk.specs.Lexing.{lexer_entry};
@@ -26,14 +26,14 @@ struct Lexer {
     place: LexerState,
 }
 
-/// Returns whether a byte is a space, a tab, or a carriage return; one may precede a line feed.
+/// Returns true for whitespace within a line: a space, a tab, or a carriage return, which may precede a line feed.
 fn is_blank(byte: u8) -> bool
     ensures { result ≡ is_blank byte }
 {
     byte == b' ' || (byte == b'\t' || byte == b'\r')
 }
 
-/// Returns whether a byte is a quote of either kind.
+/// Returns true for either kind of quote.
 fn is_quote(byte: u8) -> bool
     ensures { result ≡ is_quote byte }
 {
@@ -70,7 +70,7 @@ impl Lexer {
         Ok(())
     }
 
-    /// Processes a byte that isn't a blank, outside quotes.
+    /// Processes a non-whitespace byte outside quotes.
     fn cut_open(&mut self, byte: u8) -> Result<(), AllocError>
         ensures { OnOk result (lexer_entry self.new ≡ cut_open (lexer_entry self.old) byte) }
     {
@@ -99,7 +99,7 @@ impl Lexer {
         }
     }
 
-    /// Returns the words of the line, once all its bytes were processed; None if a quote isn't closed.
+    /// Returns the words of the line after all its bytes have been processed; None if a quote isn't closed.
     fn into_words(mut self, alloc: Global) -> Result<Option<Vec<Vec<u8>>>, AllocError>
         ensures { IfOk result (λ words. option_map (λ ws. map (λ w. w.items) ws.items) words ≡ words_cut (lexer_entry self)) }
     {
@@ -116,8 +116,8 @@ impl Lexer {
 
 /// Splits a line into words. Returns None if a quote isn't closed.
 ///
-/// Blanks outside quotes separate words. Quotes, `"..."` or `'...'`, may begin inside a word, and aren't part of it; there are no
-/// escapes.
+/// Words are separated by whitespace outside quotes. A quoted part, `"..."` or `'...'`, may begin inside a word, and its quotes
+/// aren't part of the word. There are no escapes.
 pub(crate) fn words_of(alloc: Global, line: &[u8]) -> Result<Option<Vec<Vec<u8>>>, AllocError>
     ensures { IfOk result (λ words. option_map (λ ws. map (λ w. w.items) ws.items) words ≡ words_of line.now) }
 {
@@ -128,7 +128,7 @@ pub(crate) fn words_of(alloc: Global, line: &[u8]) -> Result<Option<Vec<Vec<u8>>
     cutter.into_words(alloc)
 }
 
-/// Returns whether a line is skipped: it consists of blanks, or the first byte after its blanks is `#`.
+/// Returns true if a line is skipped: it consists only of whitespace, or its first non-whitespace byte is `#`.
 pub(crate) fn passes_over(line: &[u8]) -> bool
     ensures { result ≡ passes_over line.now }
 {
@@ -140,7 +140,7 @@ pub(crate) fn passes_over(line: &[u8]) -> bool
     true
 }
 
-/// Returns a text without its byte order mark, if it begins with one.
+/// Returns a text without its byte order mark, if it has one.
 fn behind_byte_order_mark(text: &[u8]) -> &[u8]
     ensures { result.now ≡ behind_byte_order_mark text.now }
 {
@@ -150,7 +150,7 @@ fn behind_byte_order_mark(text: &[u8]) -> &[u8]
     }
 }
 
-/// Splits a text into lines. A line feed ends each, and a byte order mark at the beginning is skipped.
+/// Splits a text into lines. A line feed ends a line, and a byte order mark at the beginning is skipped.
 pub(crate) fn lines_of(alloc: Global, text: &[u8]) -> Result<Vec<Vec<u8>>, AllocError>
     ensures { IfOk result (λ lines. map (λ line. line.items) lines.items ≡ lines_of text.now) }
 {

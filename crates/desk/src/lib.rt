@@ -1,13 +1,14 @@
-//! The office's desk: it parses words to an order, performs it, and prints the outcome in lines, with a status.
+//! The desk of the office: parses the words of an order, performs it, prints the outcome, and returns an exit status.
 //!
-//! [`order`](words) parses the words to an [`Order`](orders). [`perform`](perform) performs its task on an open connection to any
-//! store of `sqlite`, and prints its lines; [`plain`] does so with one open file. A [`Folder`](folders) opens a file that the order or
-//! its script names. [`lines`](lines) prints what is wrong with words that aren't an order, and other failures.
-//! [`copy_office`](copying) performs an order to copy, and [`journal_office`](journal_check) one for the journal, each on two
-//! connections; the crate `server` performs one to serve. In an office that is open already, such as a served one,
-//! [`follow`](order_running) does a job, and `copy_open` and `journal_open` copy it and print its journal.
-//! [`files_named_in`](script_files) returns which files a script names, for a client that sends it. The program decides which files,
-//! outputs and sockets these are.
+//! [`order`](words) parses command-line words into an [`Order`](orders). [`perform`](perform) performs its task on an open
+//! connection to any `sqlite` store and prints the resulting lines; [`plain`] does the same with a single file that is already
+//! open. A [`Folder`](folders) opens the files that the order or its script names. [`lines`](lines) prints what is wrong with words
+//! that aren't an order, and other failures. [`copy_office`](copying) performs an order to copy the office, and
+//! [`journal_office`](journal_check) an order to print its journal, each on two connections; an order to serve is performed by
+//! the `server` crate. In an office that is already open, such as one that is being served, [`follow`](order_running) does a job,
+//! and `copy_open` and `journal_open` copy the office and print its journal. [`files_named_in`](script_files) returns the paths
+//! of the files that a script names, for a client that sends them along with it. Which files, outputs and sockets these are is up
+//! to the program.
 //!
 //! ```text
 //! match order(alloc, words) {
@@ -32,7 +33,7 @@ pub mod script_files;
 mod scripts;
 // From an order to requests,
 mod requests;
-// and from those to lines and a status.
+// and from requests to lines and a status.
 mod candidate_names;
 pub mod copying;
 mod counting;
@@ -47,6 +48,7 @@ pub mod perform;
 pub mod plain;
 mod printing;
 pub mod progress;
+mod sealing;
 mod sending;
 mod steps;
 mod ward_status;
@@ -59,7 +61,7 @@ pub use lines::{
     tell_words,
 };
 pub use order_running::follow;
-pub use orders::{Errand, Job, KeyingFile, Order, Question, Task};
+pub use orders::{Errand, ExpectedSeal, Job, KeyingFile, Order, Question, Task};
 pub use progress::ProgressSink;
 pub use script_files::files_named_in;
 pub use words::{WordsFault, order};

@@ -6,10 +6,10 @@ ghost use Rattle.keyfile.specs.Faults.{flaw_batch, flaw_between, flaw_clerk};
 ghost use Rattle.desk.specs.Pages.{IsErrorTold, IsPut, Shows, fronted, line_front, migrated_text, note_line, noted, numbered_line, outputs_of, printed, status_of_file};
 ghost use Rattle.codes.specs.Faults.{fault_line, fault_text as codes_text};
 ghost use Rattle.desk.specs.Pages.{codes_and_office_made_page, codes_made_page, codes_page, codes_place};
-ghost use Rattle.desk.specs.Pages.{failed, failure_number, failure_of, failure_text, page_of, refused, script_page, unjournalled, unread, words_page};
+ghost use Rattle.desk.specs.Pages.{failed, failure_number, failure_of, failure_text, page_of, refused, script_page, unjournalled, unread, unsealed, words_page};
 
 use crate::scripts::ScriptFault;
-use crate::words::{BAD_DIGEST, BAD_ORIGIN, WordsFault};
+use crate::words::{BAD_DIGEST, BAD_ORIGIN, BAD_TITLE, WordsFault};
 use codes::CodesFault;
 use itoa::Buffer;
 use keyfile::{FileFault, Flaw};
@@ -18,42 +18,44 @@ use store::{CopyFault, Fault, Migrated};
 use streams::{Broken, Sink, put_all};
 use thiserror::Error;
 
-/// What is printed if the journal that was written doesn't make its office, for example if its receipts and its other tables don't
+/// The message if replaying the journal doesn't reproduce its office, for example because the receipts and the other tables don't
 /// match.
 const NO_JOURNAL: &str = "no journal: what was written does not make this office";
 
 /// The outcome of an order.
 #[derive(Drop)]
 pub(crate) enum LineOutcome {
-    /// An office was made.
+    /// An office was created.
     Ready,
-    /// An office was migrated, or was of this program's version already.
+    /// An office was migrated, or already had this program's version.
     Migrated(Migrated),
-    /// The reply to a request that was accepted, now or before; or the status of a ward, or what comes next.
+    /// The reply to a request that was accepted, now or earlier; or a ward's status, or what comes next in its election.
     Replied(Reply),
-    /// The reply to a request that was accepted before under this id, with other content. A note says so.
+    /// The reply to a request that was accepted earlier under this id with different content. A note says so.
     Noted { reply: Reply, id: String },
-    /// This text, printed as it is; its lines are terminated.
+    /// A text to print verbatim, in which every line ends with a newline.
     Printed(String),
-    /// No seat is left in a count.
+    /// No seat is left to fill in a count.
     CountFinished,
-    /// A count waits for a lot, so a request for one more stage was refused. This is printed as a reply, not as a refusal.
+    /// A count needs a lot, so a request for another stage was refused. This is printed as a reply, not as a refusal.
     LotNeeded(Refusal),
     /// A request was refused.
     Refused(Refusal),
-    /// The file was refused, or couldn't be read.
+    /// The file was refused or couldn't be read.
     Unread(FileFault),
     /// The office reported a fault.
     Failed(Fault),
-    /// No copy is reported.
+    /// The copy was not confirmed.
     Uncopied(CopyFault),
-    /// The office has no journal: the one that was written doesn't make it.
+    /// The office has no journal: the journal that was written doesn't reproduce the office.
     Unjournalled,
+    /// A ward wasn't sealed because the number of papers given out differs from the expected number.
+    Unsealed { given_out: u128, expected: u32 },
 }
 
-/// Why the program fails. 101 to 106 and 108 are faults of the office. 107 is an output that fails. 109 is a copy that exists already,
-/// and 110 one that can't be written. 111 is an order that isn't allowed for an office that is being served. 113 is an office whose
-/// file was removed or replaced while it was served.
+/// The reason why the program fails. 101 to 106 and 108 are faults of the office. 107 is an output that failed. 109 is a copy
+/// that already exists, and 110 one that can't be written. 111 is an order that isn't allowed in an office that is being served.
+/// 113 is an office whose file was removed or replaced while it was being served.
 #[derive(Clone, Copy, Debug, PartialEq, Eq, Drop, Error)]
 #[error("{}", self.text())]
 pub enum Failure {
@@ -93,7 +95,7 @@ impl Failure {
     }
 }
 
-/// Writes pieces of text one after the other.
+/// Writes pieces of text one after another.
 fn put_pieces<W: Sink>(pieces: &[&str], sink: &mut W) -> Result<(), Broken>
     requires { W.failed sink.old < 2 ^ 64 - 1 }
     ensures { IsPut W.taken W.failed sink.old sink.new (flat_map (λ piece. piece.now) pieces.now) result }
@@ -104,7 +106,7 @@ fn put_pieces<W: Sink>(pieces: &[&str], sink: &mut W) -> Result<(), Broken>
     Ok(())
 }
 
-/// Prints a text in pieces on the output, and returns the status: 0, or 3 if the output fails, which is reported on the error output.
+/// Prints pieces of text to the output. Returns 0, or 3 if the output fails, which is reported to the error output.
 fn tell_text<O: Sink, E: Sink>(pieces: &[&str], out: &mut O, err: &mut E) -> u8
     requires out { O.failed out.old < 2 ^ 64 - 1 }
     requires err { E.failed err.old < 2 ^ 64 - 1 }
@@ -116,8 +118,8 @@ fn tell_text<O: Sink, E: Sink>(pieces: &[&str], out: &mut O, err: &mut E) -> u8
     }
 }
 
-/// Writes the prefix for a script's line, `line 3: `; nothing if it isn't about one.
-fn put_front<W: Sink>(line: Option<usize>, sink: &mut W) -> Result<(), Broken>
+/// Writes the prefix for a script's line, `line 3: `; writes nothing if there is none.
+fn put_line_prefix<W: Sink>(line: Option<usize>, sink: &mut W) -> Result<(), Broken>
     requires { W.failed sink.old < 2 ^ 64 - 1 }
     ensures { IsPut W.taken W.failed sink.old sink.new (line_front line) result }
 {
@@ -127,17 +129,17 @@ fn put_front<W: Sink>(line: Option<usize>, sink: &mut W) -> Result<(), Broken>
     }
 }
 
-/// Writes the prefix, then pieces of text.
+/// Writes the prefix and then pieces of text.
 fn put_line<W: Sink>(line: Option<usize>, pieces: &[&str], sink: &mut W) -> Result<(), Broken>
     requires { W.failed sink.old < 2 ^ 64 - 1 }
     ensures { IsPut W.taken W.failed sink.old sink.new (line_front line ++ flat_map (λ piece. piece.now) pieces.now) result }
 {
-    put_front(line, sink)?;
+    put_line_prefix(line, sink)?;
     put_pieces(pieces, sink)
 }
 
-/// Prints a line in pieces on the error output, and returns the status: this one, or 3 if the error output fails. If it is about a
-/// script's line, it is prefixed by that line's number.
+/// Prints a line, given in pieces, to the error output, with the line number as a prefix if it concerns a script's line. Returns
+/// the given status, or 3 if the error output fails.
 fn tell_error<E: Sink>(line: Option<usize>, pieces: &[&str], status: u8, err: &mut E) -> u8
     requires { E.failed err.old < 2 ^ 64 - 1 }
     ensures { IsErrorTold E.taken E.failed err.old err.new (line_front line ++ flat_map (λ piece. piece.now) pieces.now) status result }
@@ -148,8 +150,7 @@ fn tell_error<E: Sink>(line: Option<usize>, pieces: &[&str], status: u8, err: &m
     }
 }
 
-/// Prints a kind, a number and a text in one line on the error output, and returns the status: this one, or 3 if the error output
-/// fails.
+/// Prints a kind, a number and a text on one line to the error output. Returns the given status, or 3 if the error output fails.
 fn tell_numbered<E: Sink>(
     line: Option<usize>,
     kind: &str,
@@ -166,7 +167,7 @@ fn tell_numbered<E: Sink>(
     tell_error(line, &pieces, status, err)
 }
 
-/// Prints a refusal, and returns the status: 1, or 3 if the error output fails.
+/// Prints a refusal. Returns 1, or 3 if the error output fails.
 fn tell_refusal<E: Sink>(line: Option<usize>, refusal: &Refusal, err: &mut E) -> u8
     requires { E.failed err.old < 2 ^ 64 - 1 }
     ensures { IsErrorTold E.taken E.failed err.old err.new (line_front line ++ (refused refusal.now).err) 1 result }
@@ -174,7 +175,7 @@ fn tell_refusal<E: Sink>(line: Option<usize>, refusal: &Refusal, err: &mut E) ->
     tell_numbered(line, "refused ", refusal.number(), refusal.text(), 1, err)
 }
 
-/// Returns the status for a refused file: 3 if its reading was stopped.
+/// Returns the status for a refused file: 1, or 3 if a read or an allocation failed.
 fn status_of_file(fault: FileFault) -> u8
     ensures { result ≡ status_of_file fault }
 {
@@ -184,7 +185,7 @@ fn status_of_file(fault: FileFault) -> u8
     }
 }
 
-/// Returns the batch that a flaw names, in digits; the empty text if it names none.
+/// Returns the batch that a flaw names, in digits, or an empty string if it names none.
 fn batch_of(flaw: Flaw, digits: &mut Buffer) -> &str
     ensures { result.now ≡ flaw_batch flaw }
 {
@@ -195,7 +196,7 @@ fn batch_of(flaw: Flaw, digits: &mut Buffer) -> &str
 }
 
 /// Returns the text between the batch and the clerk that a flaw names.
-fn between_of(flaw: Flaw) -> &'static str
+fn text_before_clerk(flaw: Flaw) -> &'static str
     ensures { result.now ≡ flaw_between flaw }
 {
     match flaw {
@@ -204,7 +205,7 @@ fn between_of(flaw: Flaw) -> &'static str
     }
 }
 
-/// Returns the clerk that a flaw names, in digits; the empty text if it names none.
+/// Returns the clerk that a flaw names, in digits, or an empty string if it names none.
 fn clerk_of(flaw: Flaw, digits: &mut Buffer) -> &str
     ensures { result.now ≡ flaw_clerk flaw }
 {
@@ -214,7 +215,7 @@ fn clerk_of(flaw: Flaw, digits: &mut Buffer) -> &str
     }
 }
 
-/// Prints why a file is refused, and returns the status: 1, or 3 if its reading was stopped or the error output fails.
+/// Prints why a file is refused. Returns 1, or 3 if a read, an allocation or the error output failed.
 fn tell_file_fault<E: Sink>(line: Option<usize>, fault: FileFault, err: &mut E) -> u8
     requires { E.failed err.old < 2 ^ 64 - 1 }
     ensures { IsErrorTold E.taken E.failed err.old err.new (line_front line ++ (unread fault).err) (status_of_file fault) result }
@@ -229,14 +230,14 @@ fn tell_file_fault<E: Sink>(line: Option<usize>, fault: FileFault, err: &mut E) 
         ": ",
         fault.flaw.words(),
         batch_of(fault.flaw, &mut batch),
-        between_of(fault.flaw),
+        text_before_clerk(fault.flaw),
         clerk_of(fault.flaw, &mut clerk),
         "\n",
     ];
     tell_error(line, &pieces, status_of_file(fault), err)
 }
 
-/// Writes the number of the line with a fault of codes, ` at line 3`; nothing if the fault isn't at a line.
+/// Writes the line number of a codes fault, as in ` at line 3`; writes nothing if the fault has no line.
 fn put_place<W: Sink>(fault: CodesFault, sink: &mut W) -> Result<(), Broken>
     requires { W.failed sink.old < 2 ^ 64 - 1 }
     ensures { IsPut W.taken W.failed sink.old sink.new (codes_place (fault_line fault)) result }
@@ -247,7 +248,7 @@ fn put_place<W: Sink>(fault: CodesFault, sink: &mut W) -> Result<(), Broken>
     }
 }
 
-/// Writes the number of the line with a fault of codes, and the fault's text.
+/// Writes the line number and the text of a codes fault.
 fn put_codes_text<W: Sink>(fault: CodesFault, sink: &mut W) -> Result<(), Broken>
     requires { W.failed sink.old < 2 ^ 64 - 1 }
     ensures { IsPut W.taken W.failed sink.old sink.new (codes_place (fault_line fault) ++ flat_map (λ piece. piece) (codes ": " ∷ codes_text fault ∷ codes "\n" ∷ [])) result }
@@ -256,7 +257,7 @@ fn put_codes_text<W: Sink>(fault: CodesFault, sink: &mut W) -> Result<(), Broken
     put_pieces(&[": ", fault.text(), "\n"], sink)
 }
 
-/// Writes a line that reports a fault of codes.
+/// Writes a line that reports a codes fault.
 fn put_codes_fault<W: Sink>(fault: CodesFault, sink: &mut W) -> Result<(), Broken>
     requires { W.failed sink.old < 2 ^ 64 - 1 }
     ensures { IsPut W.taken W.failed sink.old sink.new (codes_page fault).err result }
@@ -268,7 +269,7 @@ fn put_codes_fault<W: Sink>(fault: CodesFault, sink: &mut W) -> Result<(), Broke
     put_codes_text(fault, sink)
 }
 
-/// Prints why codes are refused, or not made, and returns the status: 1, or 3 if the error output fails.
+/// Prints why codes are refused or weren't made. Returns 1, or 3 if the error output fails.
 pub fn tell_codes_fault<E: Sink>(fault: CodesFault, err: &mut E) -> u8
     requires { E.failed err.old < 2 ^ 64 - 1 }
     ensures { IsErrorTold E.taken E.failed err.old err.new (codes_page fault).err (codes_page fault).status result }
@@ -279,7 +280,7 @@ pub fn tell_codes_fault<E: Sink>(fault: CodesFault, err: &mut E) -> u8
     }
 }
 
-/// Prints for how many clerks codes were made, and returns the status: 0, or 3 if the output fails.
+/// Prints the number of clerks for whom codes were made. Returns 0, or 3 if the output fails.
 pub fn tell_codes_made<O: Sink, E: Sink>(count: u32, out: &mut O, err: &mut E) -> u8
     requires out { O.failed out.old < 2 ^ 64 - 1 }
     requires err { E.failed err.old < 2 ^ 64 - 1 }
@@ -290,7 +291,7 @@ pub fn tell_codes_made<O: Sink, E: Sink>(count: u32, out: &mut O, err: &mut E) -
     tell_text(&pieces, out, err)
 }
 
-/// Prints that codes were made for so many clerks, and one for the office, and returns the status: 0, or 3 if the output fails.
+/// Prints that codes were made for `count` clerks, and one for the office. Returns 0, or 3 if the output fails.
 pub fn tell_codes_and_office_made<O: Sink, E: Sink>(count: u32, out: &mut O, err: &mut E) -> u8
     requires out { O.failed out.old < 2 ^ 64 - 1 }
     requires err { E.failed err.old < 2 ^ 64 - 1 }
@@ -305,7 +306,7 @@ pub fn tell_codes_and_office_made<O: Sink, E: Sink>(count: u32, out: &mut O, err
     tell_text(&pieces, out, err)
 }
 
-/// Prints that an office has no journal, and returns the status: 1, or 3 if the error output fails.
+/// Prints that an office has no journal. Returns 1, or 3 if the error output fails.
 fn tell_no_journal<E: Sink>(line: Option<usize>, err: &mut E) -> u8
     requires { E.failed err.old < 2 ^ 64 - 1 }
     ensures { IsErrorTold E.taken E.failed err.old err.new (line_front line ++ unjournalled.err) 1 result }
@@ -313,7 +314,23 @@ fn tell_no_journal<E: Sink>(line: Option<usize>, err: &mut E) -> u8
     tell_error(line, &[NO_JOURNAL, "\n"], 1, err)
 }
 
-/// Prints a failure, and returns its status, 3.
+/// Prints that a ward wasn't sealed. Returns 1, or 3 if the error output fails.
+fn tell_unsealed<E: Sink>(line: Option<usize>, given_out: u128, expected: u32, err: &mut E) -> u8
+    requires { E.failed err.old < 2 ^ 64 - 1 }
+    ensures { IsErrorTold E.taken E.failed err.old err.new (line_front line ++ (unsealed given_out expected).err) 1 result }
+{
+    let (mut given, mut wanted) = (Buffer::new(), Buffer::new());
+    let pieces = [
+        "not sealed: ",
+        given.format(given_out),
+        " papers were given out, ",
+        wanted.format(expected),
+        " were expected\n",
+    ];
+    tell_error(line, &pieces, 1, err)
+}
+
+/// Prints a failure and returns its status, 3.
 fn tell_failure_at<E: Sink>(line: Option<usize>, failure: Failure, err: &mut E) -> u8
     requires { E.failed err.old < 2 ^ 64 - 1 }
     ensures { IsErrorTold E.taken E.failed err.old err.new (line_front line ++ (failed failure).err) 3 result }
@@ -321,7 +338,7 @@ fn tell_failure_at<E: Sink>(line: Option<usize>, failure: Failure, err: &mut E) 
     tell_numbered(line, "fault ", failure.number(), failure.text(), 3, err)
 }
 
-/// Prints a failure on the error output, and returns its status, 3.
+/// Prints a failure to the error output and returns its status, 3.
 ///
 /// If the error output fails too, nothing more can be printed.
 pub fn tell_failure<E: Sink>(failure: Failure, err: &mut E) -> u8
@@ -331,7 +348,7 @@ pub fn tell_failure<E: Sink>(failure: Failure, err: &mut E) -> u8
     tell_failure_at(None, failure, err)
 }
 
-/// Returns the failure that is printed for a copy that wasn't made; running out of memory is reported as usual.
+/// Returns the failure to print for a copy that wasn't made. An allocation failure is reported as usual.
 fn failure_of(fault: CopyFault) -> Failure
     ensures { result ≡ failure_of fault }
 {
@@ -353,8 +370,8 @@ fn migrated_text(migrated: Migrated) -> &'static str
     }
 }
 
-/// Writes the note that the request with an id was accepted before with other content. If it is about a script's line, it is prefixed
-/// by that line's number.
+/// Writes the note that the request with an id was accepted earlier with different content. The note is prefixed with the line
+/// number if it concerns a script's line.
 fn put_note<W: Sink>(line: Option<usize>, id: &str, sink: &mut W) -> Result<(), Broken>
     requires { W.failed sink.old < 2 ^ 64 - 1 }
     ensures { IsPut W.taken W.failed sink.old sink.new (line_front line ++ note_line id.now) result }
@@ -367,7 +384,7 @@ fn put_note<W: Sink>(line: Option<usize>, id: &str, sink: &mut W) -> Result<(), 
     put_line(line, &pieces, sink)
 }
 
-/// Prints that note on the error output, and returns the status: 0, or 3 if the error output fails.
+/// Prints to the error output the note about a request that was accepted earlier. Returns 0, or 3 if the error output fails.
 fn tell_note<E: Sink>(line: Option<usize>, id: &str, err: &mut E) -> u8
     requires { E.failed err.old < 2 ^ 64 - 1 }
     ensures { IsErrorTold E.taken E.failed err.old err.new (line_front line ++ note_line id.now) 0 result }
@@ -378,7 +395,7 @@ fn tell_note<E: Sink>(line: Option<usize>, id: &str, err: &mut E) -> u8
     }
 }
 
-/// Prints that note, and after it that the output failed. Returns the status, 3.
+/// Prints the note about a request that was accepted earlier, followed by the message that the output failed. Returns 3.
 fn tell_note_and_failure<E: Sink>(line: Option<usize>, id: &str, err: &mut E) -> u8
     requires { E.failed err.old < 2 ^ 64 - 1 }
     ensures { IsErrorTold E.taken E.failed err.old err.new ((line_front line ++ note_line id.now) ++ (failed Failure.Output).err) 3 result }
@@ -389,8 +406,8 @@ fn tell_note_and_failure<E: Sink>(line: Option<usize>, id: &str, err: &mut E) ->
     }
 }
 
-/// Prints the reply to a request that was accepted before with other content, and the note that says so. Returns the status: 0, or 3
-/// if one of the two outputs fails; a prefix was then written to it.
+/// Prints the reply to a request that was accepted earlier with different content, and the note that says so. Returns 0, or 3 if
+/// either output fails, in which case only a prefix was written to it.
 fn tell_noted<O: Sink, E: Sink>(
     line: Option<usize>,
     reply: &str,
@@ -408,10 +425,10 @@ fn tell_noted<O: Sink, E: Sink>(
     }
 }
 
-/// Prints an outcome, and returns its status. The status is 0 if the outcome goes to the output. On the error output it is 1 for a
-/// refusal of a request or a file, and for an office without a journal, and 3 for a fault or a file that couldn't be read. It is 3 too
-/// if one of the two fails; a prefix was then written to that output. If the outcome is that of a script's line, what goes to the
-/// error output begins with that line's number.
+/// Prints an outcome and returns its status. The status is 0 if the outcome is printed to the output. If it is printed to the
+/// error output, the status is 1 for the refusal of a request or a file and for an office without a journal, and 3 for a fault or
+/// a file that couldn't be read. The status is also 3 if either output fails, in which case only a prefix was written to it. If
+/// the outcome is that of a script's line, what is printed to the error output begins with the line number.
 pub(crate) fn tell<O: Sink, E: Sink>(
     line: Option<usize>,
     outcome: &LineOutcome,
@@ -435,11 +452,14 @@ pub(crate) fn tell<O: Sink, E: Sink>(
         LineOutcome::Failed(fault) => tell_failure_at(line, Failure::Office(*fault), err),
         LineOutcome::Uncopied(fault) => tell_failure_at(line, failure_of(*fault), err),
         LineOutcome::Unjournalled => tell_no_journal(line, err),
+        LineOutcome::Unsealed {
+            given_out,
+            expected,
+        } => { tell_unsealed(line, *given_out, *expected, err) }
     }
 }
 
-/// Prints why a text isn't a script, and returns the status: 2 for a line that isn't understood, and 3 if an allocation or the error
-/// output fails.
+/// Prints why a text isn't a script. Returns 2 for a line that isn't understood, and 3 if an allocation or the error output fails.
 pub(crate) fn tell_script_fault<E: Sink>(fault: &ScriptFault, err: &mut E) -> u8
     requires { E.failed err.old < 2 ^ 64 - 1 }
     ensures { IsErrorTold E.taken E.failed err.old err.new (script_page fault.now).err (script_page fault.now).status result }
@@ -450,8 +470,8 @@ pub(crate) fn tell_script_fault<E: Sink>(fault: &ScriptFault, err: &mut E) -> u8
     }
 }
 
-/// Prints why the words aren't an order, and returns the status: 0 for help on the output, 2 for a text on the error output, and 3 if
-/// an allocation failed. If one of the two outputs fails it is 3, and a prefix was written to that output.
+/// Prints why the words aren't an order. Returns 0 for help, which is printed to the output; 2 for text that is printed to the
+/// error output; and 3 if an allocation failed or either output fails. In the last case only a prefix was written to that output.
 pub fn tell_words<O: Sink, E: Sink>(fault: &WordsFault, out: &mut O, err: &mut E) -> u8
     requires out { O.failed out.old < 2 ^ 64 - 1 }
     requires err { E.failed err.old < 2 ^ 64 - 1 }
@@ -462,6 +482,7 @@ pub fn tell_words<O: Sink, E: Sink>(fault: &WordsFault, out: &mut O, err: &mut E
         WordsFault::Verdict => tell_error(None, &["bad verdict word\n"], 2, err),
         WordsFault::Origin => tell_error(None, &[BAD_ORIGIN], 2, err),
         WordsFault::Digest => tell_error(None, &[BAD_DIGEST], 2, err),
+        WordsFault::TitleAlone => tell_error(None, &[BAD_TITLE], 2, err),
         WordsFault::Words { text, status: 0 } => tell_text(&[text.as_str()], out, err),
         WordsFault::Words { text, status } => tell_error(None, &[text.as_str()], *status, err),
     }

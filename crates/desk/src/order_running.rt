@@ -1,4 +1,4 @@
-//! The steps of an order: an errand, or the orders of a script in turn.
+//! Running the steps of an order: a single errand, or the orders of a script one after the other.
 
 ghost use Rattle.std.specs.Prelude.{◌≡◌, ◌∷◌, [], ◌-◌, ◌^◌, ◌<◌, map, option_map, IfErr, IfOk};
 ghost use Rattle.sqlite.specs.State.{HasCleanDisk};
@@ -15,16 +15,17 @@ ghost use Rattle.desk.specs.Scripts.{lines_of, numbered_from};
 
 use crate::counting::count_stages;
 use crate::folders::Folder;
-use crate::import::{UNOPENED, candidate_requests, keying_of};
+use crate::import::{UNOPENED, batch_requests, candidate_requests, keying_of};
 use crate::lines::{LineOutcome, tell, tell_script_fault};
 use crate::orders::{Errand, Job};
 use crate::overviews::answer_to;
 use crate::printing::{index_of, text_of};
 use crate::requests::advances;
 use crate::scripts::{
-    ScriptFault, ScriptLine, ScriptStep, TypedLine, all_said, lines_in, turns_in,
+    ScriptFault, ScriptLine, ScriptStep, TypedLine, lines_in, script_steps, typed_lines,
 };
-use crate::sending::{goes_on, send_all, status_behind};
+use crate::sealing::seal_of;
+use crate::sending::{combined_status, goes_on, send_all};
 use crate::steps::next_of;
 use crate::ward_status::standing_of;
 use office::Office;
@@ -35,7 +36,7 @@ use std::slice;
 use store::Fault;
 use streams::Sink;
 
-/// Opens the file that an errand reads.
+/// Opens the file that an errand reads, if any.
 fn opened<F: Folder>(folder: &F, errand: &Errand<'_>) -> Option<F::File>
     ensures { IsFileAt (F.held folder.now) (file_of errand.now) (option_map F.File.remaining result) }
 {
@@ -45,8 +46,8 @@ fn opened<F: Folder>(folder: &F, errand: &Errand<'_>) -> Option<F::File>
     }
 }
 
-/// Runs an errand in an open office, prints the outcome, and returns the status. If the errand is that of a script's line, what is
-/// written to `err` begins with that line's number. With `keep_going`, a refused request doesn't end it.
+/// Runs an errand in an open office, prints the outcome, and returns the status. If the errand comes from a line of a script,
+/// whatever is written to `err` begins with the line number. With `keep_going`, a refused request doesn't end the errand.
 fn run<S: Alter, F: Folder, O: Sink, E: Sink>(
     alloc: Global,
     office: &mut Office<S>,
@@ -77,6 +78,16 @@ fn run<S: Alter, F: Folder, O: Sink, E: Sink>(
                 Err(outcome) => tell(line, &outcome, out, err),
             }
         }
+        Errand::ImportBatches { id, digest, .. } => {
+            match batch_requests(alloc, id, file, *digest) {
+                Ok(requests) => send_all(office, keep_going, line, &requests, out, err),
+                Err(outcome) => tell(line, &outcome, out, err),
+            }
+        }
+        Errand::SealExpected(seal) => match seal_of(alloc, office, *seal) {
+            Ok(request) => send_all(office, keep_going, line, &[request], out, err),
+            Err(outcome) => tell(line, &outcome, out, err),
+        },
         Errand::ImportKeying(keyed) => match keying_of(alloc, office, *keyed, file) {
             Ok(request) => send_all(office, keep_going, line, &[request], out, err),
             Err(outcome) => tell(line, &outcome, out, err),
@@ -85,18 +96,18 @@ fn run<S: Alter, F: Folder, O: Sink, E: Sink>(
             Ok(requests) => count_stages(office, line, &requests, out, err),
             Err(_) => tell(line, &LineOutcome::Failed(Fault::Memory), out, err),
         },
-        Errand::TellNext { ward } => tell(line, &next_of(alloc, office, *ward), out, err),
-        Errand::TellStatus { ward } => tell(line, &standing_of(alloc, office, *ward), out, err),
+        Errand::PrintNext { ward } => tell(line, &next_of(alloc, office, *ward), out, err),
+        Errand::PrintStatus { ward } => tell(line, &standing_of(alloc, office, *ward), out, err),
         Errand::Print { ward, text } => tell(line, &text_of(office, *ward, *text), out, err),
         Errand::PrintIndex { title } => tell(line, &index_of(office, title), out, err),
         Errand::Ask(question) => tell(line, &answer_to(alloc, office, *question), out, err),
     }
 }
 
-/// Runs steps in turn, and prints each reply. A refusal or a fault is printed after its line's number. The first fault ends it; so
-/// does the first output that fails, and, without `keep_going`, the first refusal. A file is opened when its step is run. The status
-/// is the last one other than 0.
-fn send_turns<S: Alter, F: Folder, O: Sink, E: Sink>(
+/// Runs steps one after the other and prints each reply. A refusal or fault is printed after its line number. The sequence ends at
+/// the first fault, at the first output that fails and, without `keep_going`, at the first refusal. A file is opened when its step
+/// is run. The status is the last nonzero one, or 0.
+fn run_steps<S: Alter, F: Folder, O: Sink, E: Sink>(
     alloc: Global,
     office: &mut Office<S>,
     keep_going: bool,
@@ -128,14 +139,14 @@ fn send_turns<S: Alter, F: Folder, O: Sink, E: Sink>(
         if !goes_on(keep_going, status) {
             return status;
         }
-        ends = status_behind(ends, status);
+        ends = combined_status(ends, status);
     }
     ends
 }
 
-/// Sends the orders in the lines of a script, once each line has been understood. If one isn't, it prints what is wrong with the first
-/// such line, and sends none.
-fn send_lines<S: Alter, F: Folder, O: Sink, E: Sink>(
+/// Sends the orders in a script's lines once every line has been understood. If a line isn't understood, prints what is wrong
+/// with the first such line and sends nothing.
+fn run_script<S: Alter, F: Folder, O: Sink, E: Sink>(
     alloc: Global,
     office: &mut Office<S>,
     keep_going: bool,
@@ -152,13 +163,13 @@ fn send_lines<S: Alter, F: Folder, O: Sink, E: Sink>(
     ensures keeps_connection { KeepsConnection (state S.Store office.old.held) (state S.Store office.new.held) }
     ensures clean { HasCleanDisk (state S.Store office.new.held) → HasCleanDisk (state S.Store office.old.held) }
 {
-    match turns_in(alloc, lines) {
-        Ok(turns) => send_turns(alloc, office, keep_going, &turns, folder, out, err),
+    match script_steps(alloc, lines) {
+        Ok(turns) => run_steps(alloc, office, keep_going, &turns, folder, out, err),
         Err(fault) => tell_script_fault(&fault, err),
     }
 }
 
-/// Returns the bytes of a script's file, or why there are none. The file is None if it can't be opened.
+/// Returns the contents of a script's file, or the reason why there are none. `file` is None if it couldn't be opened.
 fn bytes_of<R: Read + Drop>(alloc: Global, file: Option<R>) -> Result<Vec<u8>, LineOutcome>
     ensures read { IfOk result (λ bytes. HoldsText (option_map R.remaining file) (λ text. bytes.items ≡ text)) }
     ensures unread { IfErr result (λ outcome. IsUnreadScript (page_of outcome)) }
@@ -176,7 +187,7 @@ fn bytes_of<R: Read + Drop>(alloc: Global, file: Option<R>) -> Result<Vec<u8>, L
     }
 }
 
-/// Returns the lines of a script's file, or why there are none.
+/// Returns the lines of a script's file, or the reason why there are none.
 fn script_of<R: Read + Drop>(alloc: Global, file: Option<R>) -> Result<Vec<ScriptLine>, LineOutcome>
     ensures read { IfOk result (λ lines. HoldsText (option_map R.remaining file) (λ text. map line_entry lines.items ≡ numbered_from 1 (lines_of text))) }
     ensures unread { IfErr result (λ outcome. IsUnreadScript (page_of outcome)) }
@@ -191,8 +202,8 @@ fn script_of<R: Read + Drop>(alloc: Global, file: Option<R>) -> Result<Vec<Scrip
     }
 }
 
-/// Sends the orders of a script's file in turn, once all its lines have been understood; with `keep_going`, past those that are
-/// refused. The status is 2 if a line isn't understood; it is printed with its number, and nothing is sent.
+/// Sends the orders in a script's file one after the other, once every line has been understood; with `keep_going`, continues after
+/// refusals. If a line isn't understood, the status is 2: the line is reported with its number, and nothing is sent.
 fn replay<S: Alter, F: Folder, O: Sink, E: Sink>(
     alloc: Global,
     office: &mut Office<S>,
@@ -214,15 +225,15 @@ fn replay<S: Alter, F: Folder, O: Sink, E: Sink>(
         Ok(lines) => lines,
         Err(outcome) => return tell(None, &outcome, out, err),
     };
-    match all_said(alloc, &lines) {
-        Ok(said) => send_lines(alloc, office, keep_going, &said, folder, out, err),
+    match typed_lines(alloc, &lines) {
+        Ok(said) => run_script(alloc, office, keep_going, &said, folder, out, err),
         Err(_) => tell_script_fault(&ScriptFault::Memory, err),
     }
 }
 
 /// Does a job in an open office, prints the outcome, and returns the status.
 ///
-/// `perform` opens an office, and then does the same. An office that is being served is open already: an order that is sent to it is
+/// `perform` opens an office and then does the same. An office that is being served is already open, so an order sent to it is
 /// performed here.
 pub fn follow<S: Alter, F: Folder, O: Sink, E: Sink>(
     alloc: Global,

@@ -1,29 +1,29 @@
-//! The table of orders, and the order that matched words mean.
+//! The table of orders, and the meaning of matched words.
 //!
-//! To add an order, add an entry to [`ORDERS_TO_SEAL`] or [`ORDERS_FROM_SEAL`], and an arm that returns what its words mean. The arm
-//! is in [`command_named`] if the order sends a command, and otherwise in [`order_named`]; it may need a new variant of
-//! [`Errand`](crate::orders::Errand) too. A line of `orders` in specs/Orders.antt defines what the order means.
+//! To add an order, add an entry to [`ORDERS_TO_SEAL`] or [`ORDERS_FROM_SEAL`] and a match arm that returns what its words mean.
+//! The arm goes in [`command_named`] if the order sends a command, and in [`order_named`] otherwise; it may also need a new variant
+//! of [`Errand`](crate::orders::Errand). The meaning of the order is defined by an entry of `orders` in specs/Orders.antt.
 #![tactic(auto, unfolding(crate::specs::Orders::orders))]
 
 ghost use Rattle.std.specs.Prelude.{◌≡◌, ◌⊎◌, false, Err, None, Some, codes, drop, map, take, IfErr, IfOk, option_map, string_bytes};
 ghost use Rattle.clap.specs.Words.{all_of, first_of, found_of, rows_of, subcommand_rows_of};
-ghost use Rattle.desk.specs.Orders.{ask, no_digest, no_origin, no_verdict, orders, print, told, told_errand, told_text, words_of};
+ghost use Rattle.desk.specs.Orders.{ask, no_digest, no_origin, no_verdict, orders, print, title_alone, told, told_errand, told_text, words_of};
 ghost use Rattle.keyfile.specs.Digests.{digest_bytes};
 ghost use Rattle.origins.specs.Origins.{origin_text};
 ghost use Rattle.desk.specs.Words.{digest_at, is_command_name, is_order_name, meaning, meaning_of, names_order, number_at, number_found, origin_at, sent, text_at};
-ghost use Rattle.desk.specs.Words.{flag_at, texts_at};
+ghost use Rattle.desk.specs.Words.{flag_at, public_at, texts_at};
 
 use crate::order_entry::{
     ACTOR, BATCH, CANDIDATE, CLERK, CLERKS, CODES, CODES_FILE, CONNECTIONS, DIGEST, Entry, FILE,
-    FIRST_CLERK, Heading, ID, KEEP_GOING, MARKS, NAME, NEW, ORIGIN, PAPER, PORT, ROUND, SCRIPT,
-    SEATS, SECOND_CLERK, SIZE, STAGE, TITLE, VERDICT, WARD, WITH_OFFICE, Word,
+    FIRST_CLERK, Heading, ID, KEEP_GOING, MARKS, NAME, NEW, ORIGIN, PAPER, PAPERS, PORT, PUBLIC,
+    ROUND, SCRIPT, SEATS, SECOND_CLERK, SIZE, STAGE, TITLE, VERDICT, WARD, WITH_OFFICE, Word,
 };
-use crate::orders::{Errand, Job, KeyingFile, Order, Question, Task};
+use crate::orders::{Errand, ExpectedSeal, Job, KeyingFile, Order, Question, Task};
 use crate::requests::{by_clerk, by_office};
 use crate::verdicts::verdict_in;
 use clap::ArgMatches;
 use keyfile::FileDigest;
-use office::Text;
+use office::WardText;
 use origins::Origin;
 use register::{
     BatchCommand, CandidateCommand, Command, CountCommand, KeyingCommand, VerdictCommand,
@@ -33,7 +33,7 @@ use std::alloc::{AllocError, Global};
 
 // ---- the table
 
-/// Makes the entry of an order: its heading in the help, its name, its words in sequence, and its help.
+/// Makes the entry of an order from its heading in the help, its name, its words in order, and its help.
 macro_rules! order {
     ($heading:ident $name:literal [$($word:ident),*], $help:literal) => {
         Entry {
@@ -45,82 +45,86 @@ macro_rules! order {
     };
 }
 
-/// The orders up to the seal of a ward, in the sequence of an election. They are in a table of their own, since a proof computes each
-/// table whole.
+/// The orders up to the seal of a ward, in the order in which an election uses them. They form a table of their own because a proof
+/// evaluates each table as a whole.
 #[rattlefmt::skip]
-const ORDERS_TO_SEAL: [Entry; 12] = [
+const ORDERS_TO_SEAL: [Entry; 13] = [
     order!(Election "init" [], "Makes an office in DB, a new file or an empty one:\ncount-office town.db init"),
     order!(Election "ward" [WARD, SEATS, NAME, ID], "Adds a ward, its nominations open:\ncount-office town.db ward 7 2 Harbour --id w1"),
     order!(Election "candidate" [WARD, CANDIDATE, NAME, ID], "Adds a candidate to a ward:\ncount-office town.db candidate 7 1 Ann --id c1"),
     order!(Election "import-candidates" [FILE, ID, DIGEST], "Adds the candidates of a file, the first under ID-1:\ncount-office town.db import-candidates names.csv --id c"),
-    order!(Election "withdraw" [WARD, CANDIDATE, ID], "Takes a candidate off a ward, while nominations are open:\ncount-office town.db withdraw 7 5 --id x1"),
+    order!(Election "withdraw" [WARD, CANDIDATE, ID], "Withdraws a candidate, while nominations are open:\ncount-office town.db withdraw 7 5 --id x1"),
     order!(Election "close" [WARD, ID], "Closes the nominations of a ward:\ncount-office town.db close 7 --id n1"),
     order!(Election "batch" [BATCH, WARD, SIZE, FIRST_CLERK, SECOND_CLERK, ID], "Gives out a batch of papers of a ward to two clerks, who key it:\ncount-office town.db batch 12 7 8 4 9 --id b1"),
+    order!(Election "import-batches" [FILE, ID, DIGEST], "Gives out the batches of a file, the first under ID-1:\ncount-office town.db import-batches batches.csv --id b"),
     order!(Election "import-keying" [CLERK, BATCH, ROUND, FILE, ID, DIGEST],
-        "Keeps a clerk's keying of a batch, in a round, from a file:\ncount-office town.db import-keying 4 12 1 k4-12.csv --id k1"),
-    order!(Election "key" [CLERK, BATCH, ROUND, MARKS, ID], "Keeps a clerk's keying of a batch, in a round, a word a paper:\ncount-office town.db key 4 14 1 1,2,, ,1,,2 D --id k3"),
+        "Stores a clerk's keying of a batch, in a round, from a file:\ncount-office town.db import-keying 4 12 1 k4-12.csv --id k1"),
+    order!(Election "key" [CLERK, BATCH, ROUND, MARKS, ID], "Stores a clerk's keying of a batch, in a round, one word per paper:\ncount-office town.db key 4 14 1 1,2,, ,1,,2 D --id k3"),
     order!(Election "again" [BATCH, ID], "Opens the next round of a batch whose keyings differ:\ncount-office town.db again 13 --id r1"),
     order!(Election "third" [BATCH, CLERK, ID], "Gives a batch whose keyings differ to a third clerk too:\ncount-office town.db third 13 5 --id t1"),
     order!(Election "judge" [BATCH, PAPER, VERDICT, ID], "Keeps the verdict on a doubtful paper of a batch that is taken:\ncount-office town.db judge 12 6 accept:1,,, --id v1"),
 ];
 
-/// The other orders: those from the seal on in the same sequence, then `migrate`, those for the office alone, and those for everyone.
+/// The other orders: those from the seal on, in the same order; then `migrate`; then those for the office alone; and then those for
+/// everyone.
 #[rattlefmt::skip]
 const ORDERS_FROM_SEAL: [Entry; 25] = [
-    order!(Election "seal" [WARD, ID], "Seals a ward whose papers are all agreed and judged:\ncount-office town.db seal 7 --id s1"),
+    order!(Election "seal" [WARD, ID, PAPERS], "Seals a ward whose papers are all agreed and judged:\ncount-office town.db seal 7 --id s1"),
     order!(Election "advance" [WARD, ID], "Counts the one stage that is due in a sealed ward:\ncount-office town.db advance 7 --id a1"),
     order!(Election "count" [WARD, ID], "Counts a sealed ward up to a lot or the end, its first stage under ID-1:\ncount-office town.db count 7 --id a"),
     order!(Election "lot" [WARD, STAGE, CANDIDATE, ID], "Records the candidate whom the lot for a stage named:\ncount-office town.db lot 7 3 4 --id l1"),
     order!(Election "declare" [WARD, ID], "Declares the result of a ward whose count is finished:\ncount-office town.db declare 7 --id d1"),
-    order!(Election "status" [WARD], "Prints how a ward stands, at any moment:\ncount-office town.db status 7"),
+    order!(Election "status" [WARD], "Prints the status of a ward:\ncount-office town.db status 7"),
     order!(Election "next" [WARD], "Prints what comes next in a ward, with names:\ncount-office town.db next 7"),
     order!(Election "sheet" [WARD], "Prints the stage sheet of a sealed ward:\ncount-office town.db sheet 7"),
     order!(Election "result" [WARD], "Prints the declaration of a declared ward:\ncount-office town.db result 7"),
-    order!(Election "serve" [PORT, CONNECTIONS, ORIGIN, CODES], "Serves clerks over HTTP on this machine, until it is stopped:\ncount-office town.db serve 8080"),
-    order!(Election "migrate" [], "Brings an office of an earlier program over to this one:\ncount-office town.db migrate"),
-    order!(Office "wards" [], "Prints how each ward stands, and what is left to do:\ncount-office town.db wards"),
-    order!(Office "batches" [WARD], "Prints of each batch of a ward who has keyed it, and how it stands:\ncount-office town.db batches 7"),
+    order!(Election "serve" [PORT, CONNECTIONS, ORIGIN, CODES, PUBLIC, TITLE], "Serves clerks over HTTP on this machine, until it is stopped:\ncount-office town.db serve 8080"),
+    order!(Election "migrate" [], "Migrates an office that an earlier version made:\ncount-office town.db migrate"),
+    order!(Office "wards" [], "Prints the status of each ward, and what is left to do:\ncount-office town.db wards"),
+    order!(Office "batches" [WARD], "Prints each batch of a ward: who has keyed it, and its status:\ncount-office town.db batches 7"),
     order!(Office "doubtful" [WARD], "Prints the doubtful papers of a ward, each open or with its verdict:\ncount-office town.db doubtful 7"),
-    order!(Office "differences" [BATCH], "Prints on which papers a batch differs, which no clerk is to see:\ncount-office town.db differences 13"),
+    order!(Office "differences" [BATCH], "Prints on which papers a batch differs, which no clerk may see:\ncount-office town.db differences 13"),
     order!(Office "papers" [BATCH], "Prints how each paper of a taken batch counts, with the candidates' names:\ncount-office town.db papers 12"),
-    order!(Office "receipts" [ACTOR], "Prints what was kept, under which id, of an actor or of all:\ncount-office town.db receipts 0"),
+    order!(Office "receipts" [ACTOR], "Prints what was accepted, under which id, of an actor or of all:\ncount-office town.db receipts 0"),
     order!(Office "journal" [], "Prints the accepted orders of the office as a script, whole:\ncount-office town.db journal"),
-    order!(Office "replay" [SCRIPT, KEEP_GOING], "Sends the orders of a text file, a line each, up to a refusal:\ncount-office town.db replay evening.txt"),
+    order!(Office "replay" [SCRIPT, KEEP_GOING], "Sends the orders of a text file, one per line, up to a refusal:\ncount-office town.db replay evening.txt"),
     order!(Office "copy" [NEW], "Makes a copy of the office, in a file that isn't there yet:\ncount-office town.db copy evening.db"),
     order!(Office "codes" [CODES_FILE, CLERKS, WITH_OFFICE], "Writes a new file of codes, one for each of these clerks:\ncount-office town.db codes codes.txt 1-40"),
     order!(Everyone "ballots" [WARD], "Prints the ballots of a sealed ward, in a form that counting programs read:\ncount-office town.db ballots 7"),
     order!(Everyone "page" [WARD, TITLE], "Prints the result of a sealed ward as a page for a browser, to print and sign:\ncount-office town.db page 7"),
     order!(Everyone "table" [WARD], "Prints the stages of a sealed ward as a table for a spreadsheet:\ncount-office town.db table 7"),
-    order!(Everyone "index" [TITLE], "Prints how all wards stand, and who is elected, as a page to hang at the door:\ncount-office town.db index"),
+    order!(Everyone "index" [TITLE], "Prints the status of all wards, and who is elected, as a page to hang at the door:\ncount-office town.db index"),
 ];
 
-/// Returns the orders up to the seal, the first 12 of all.
+/// Returns the orders up to the seal, which are the first 13.
 pub(crate) fn entries_to_seal() -> &'static [Entry]
-    ensures { map words_of result.now ≡ map (λ e. e.typed) (take 12 orders) }
+    ensures { map words_of result.now ≡ map (λ e. e.typed) (take 13 orders) }
 {
     &ORDERS_TO_SEAL
 }
 
 /// Returns the orders from the seal on.
 pub(crate) fn entries_from_seal() -> &'static [Entry]
-    ensures { map words_of result.now ≡ map (λ e. e.typed) (drop 12 orders) }
+    ensures { map words_of result.now ≡ map (λ e. e.typed) (drop 13 orders) }
 {
     &ORDERS_FROM_SEAL
 }
 
 // ---- what matched words mean
 
-/// Why matched words mean no order.
+/// The reason why matched words don't mean an order.
 #[derive(Clone, Copy)]
 pub(crate) enum NoOrder {
-    /// They name no order.
+    /// The words don't name an order.
     Unknown,
-    /// The word of a verdict is invalid.
+    /// The word for a verdict is invalid.
     BadVerdict,
-    /// The word of an origin is invalid.
+    /// The word for an origin is invalid.
     BadOrigin,
-    /// The word of a digest is invalid.
+    /// The word for a digest is invalid.
     BadDigest,
+    /// A title is given, but nothing is shown in public.
+    TitleAlone,
     /// An allocation failed.
     Memory,
 }
@@ -176,7 +180,7 @@ fn text_copied(alloc: Global, matches: &ArgMatches<'_>, word: Word) -> Result<St
     String::from_str(alloc, text_in(matches, word))
 }
 
-/// Copies the texts that were matched, if any.
+/// Copies the texts that were matched for a word; empty if there are none.
 fn texts_copied(
     alloc: Global,
     matches: &ArgMatches<'_>,
@@ -193,7 +197,7 @@ fn texts_copied(
     Ok(texts)
 }
 
-/// Returns whether a flag was matched; its value is `true` if it was present.
+/// Returns true if a flag was matched. Its value is `true` if the flag is present.
 fn flag_in(matches: &ArgMatches<'_>, word: Word) -> bool
     ensures { result ≡ flag_at word.name.now (rows_of (found_of matches.now)) }
 {
@@ -228,6 +232,21 @@ fn digest_in(matches: &ArgMatches<'_>) -> Result<Option<FileDigest>, NoOrder>
     }
 }
 
+/// Returns the title of what is shown in public; None if nothing is.
+fn public_in<'a>(matches: &ArgMatches<'a>) -> Result<Option<&'a str>, NoOrder>
+    ensures ok { IfOk result (λ found. public_at (rows_of (found_of matches.now)) ≡ Some (option_map (λ title. title.now) found)) }
+    ensures err { IfErr result (λ why. (why ≡ NoOrder.TitleAlone) × (public_at (rows_of (found_of matches.now)) ≡ None)) }
+{
+    let title = text_in(matches, TITLE);
+    if flag_in(matches, PUBLIC) {
+        return Ok(Some(title));
+    }
+    if title.is_empty() {
+        return Ok(None);
+    }
+    Err(NoOrder::TitleAlone)
+}
+
 // ---- the commands that orders send
 
 fn batch_command(matches: &ArgMatches<'_>) -> Command
@@ -256,13 +275,14 @@ fn verdict_command(alloc: Global, matches: &ArgMatches<'_>) -> Result<Command, N
     }
 }
 
-/// Returns the command that the order of this name sends, with the values that were matched.
+/// Returns the command that the order with the given name sends, with the matched values.
 fn command_named(alloc: Global, name: &str, matches: &ArgMatches<'_>) -> Result<Command, NoOrder>
     ensures ok { IfOk result (λ command. meaning_of name.now (rows_of (found_of matches.now)) ≡ Some (sent (rows_of (found_of matches.now)) command)) }
     ensures unknown { result ≡ Err NoOrder.Unknown → is_command_name name.now ≡ false }
     ensures bad { result ≡ Err NoOrder.BadVerdict → meaning_of name.now (rows_of (found_of matches.now)) ≡ Some no_verdict }
     ensures bad_origin { result ≡ Err NoOrder.BadOrigin → meaning_of name.now (rows_of (found_of matches.now)) ≡ Some no_origin }
     ensures bad_digest { result ≡ Err NoOrder.BadDigest → meaning_of name.now (rows_of (found_of matches.now)) ≡ Some no_digest }
+    ensures title_alone { result ≡ Err NoOrder.TitleAlone → meaning_of name.now (rows_of (found_of matches.now)) ≡ Some title_alone }
 {
     let ward = number_in(matches, WARD);
     let candidate = number_in(matches, CANDIDATE);
@@ -287,7 +307,6 @@ fn command_named(alloc: Global, name: &str, matches: &ArgMatches<'_>) -> Result<
             clerk: number_in(matches, CLERK),
         })),
         "judge" => verdict_command(alloc, matches),
-        "seal" => Ok(Command::Count(CountCommand::Seal { ward })),
         "advance" => Ok(Command::Count(CountCommand::Advance { ward })),
         "lot" => Ok(Command::Count(CountCommand::Lot {
             ward,
@@ -301,14 +320,14 @@ fn command_named(alloc: Global, name: &str, matches: &ArgMatches<'_>) -> Result<
 
 // ---- orders
 
-/// Returns the order to run an errand in an open office.
+/// Returns the order that runs an errand in an open office.
 fn in_office<'a>(errand: Errand<'a>) -> Order<'a>
     ensures { told result ≡ told_errand errand.entry }
 {
     Order::Perform(Task::InOffice(Job::Run(errand)))
 }
 
-/// Returns the order that sends a command of the office under the id that was matched.
+/// Returns the order that sends a command from the office under the matched id.
 fn sending<'a>(
     alloc: Global,
     matches: &ArgMatches<'a>,
@@ -332,6 +351,17 @@ fn import_candidates<'a>(matches: &ArgMatches<'a>) -> Result<Order<'a>, NoOrder>
     }))
 }
 
+fn import_batches<'a>(matches: &ArgMatches<'a>) -> Result<Order<'a>, NoOrder>
+    ensures ok { IfOk result (λ o. meaning_of (codes "import-batches") (rows_of (found_of matches.now)) ≡ Some (told o)) }
+    ensures err { IfErr result (λ why. (why ≡ NoOrder.BadDigest) × (meaning_of (codes "import-batches") (rows_of (found_of matches.now)) ≡ Some no_digest)) }
+{
+    Ok(in_office(Errand::ImportBatches {
+        file: text_in(matches, FILE),
+        id: text_in(matches, ID),
+        digest: digest_in(matches)?,
+    }))
+}
+
 fn import_keying<'a>(matches: &ArgMatches<'a>) -> Result<Order<'a>, NoOrder>
     ensures ok { IfOk result (λ o. meaning_of (codes "import-keying") (rows_of (found_of matches.now)) ≡ Some (told o)) }
     ensures err { IfErr result (λ why. (why ≡ NoOrder.BadDigest) × (meaning_of (codes "import-keying") (rows_of (found_of matches.now)) ≡ Some no_digest)) }
@@ -346,7 +376,7 @@ fn import_keying<'a>(matches: &ArgMatches<'a>) -> Result<Order<'a>, NoOrder>
     })))
 }
 
-/// Returns the order that sends a clerk's keying of the papers that were matched.
+/// Returns the order that sends a clerk's keying of the matched papers.
 fn key<'a>(alloc: Global, matches: &ArgMatches<'a>) -> Result<Order<'a>, NoOrder>
     ensures ok { IfOk result (λ o. meaning_of (codes "key") (rows_of (found_of matches.now)) ≡ Some (told o)) }
     ensures err { IfErr result (λ why. why ≡ NoOrder.Memory) }
@@ -359,6 +389,22 @@ fn key<'a>(alloc: Global, matches: &ArgMatches<'a>) -> Result<Order<'a>, NoOrder
     };
     let clerk = number_in(matches, CLERK);
     Ok(in_office(Errand::Send(by_clerk(clerk, id, Command::Keying(command)))))
+}
+
+/// Returns the order that seals a ward, conditional on the matched number of papers if there is one.
+fn seal<'a>(alloc: Global, matches: &ArgMatches<'a>) -> Result<Order<'a>, NoOrder>
+    ensures ok { IfOk result (λ o. meaning_of (codes "seal") (rows_of (found_of matches.now)) ≡ Some (told o)) }
+    ensures err { IfErr result (λ why. why ≡ NoOrder.Memory) }
+{
+    let ward = number_in(matches, WARD);
+    match number_found_in(matches, PAPERS) {
+        Some(papers) => Ok(in_office(Errand::SealExpected(ExpectedSeal {
+            ward,
+            papers,
+            id: text_in(matches, ID),
+        }))),
+        None => sending(alloc, matches, Command::Count(CountCommand::Seal { ward })),
+    }
 }
 
 fn counting<'a>(matches: &ArgMatches<'a>) -> Order<'a>
@@ -381,18 +427,21 @@ fn replay<'a>(matches: &ArgMatches<'a>) -> Order<'a>
 
 fn serve<'a>(matches: &ArgMatches<'a>) -> Result<Order<'a>, NoOrder>
     ensures ok { IfOk result (λ o. meaning_of (codes "serve") (rows_of (found_of matches.now)) ≡ Some (told o)) }
-    ensures err { IfErr result (λ why. (why ≡ NoOrder.BadOrigin) × (meaning_of (codes "serve") (rows_of (found_of matches.now)) ≡ Some no_origin)) }
+    ensures bad_origin { result ≡ Err NoOrder.BadOrigin → meaning_of (codes "serve") (rows_of (found_of matches.now)) ≡ Some no_origin }
+    ensures title_alone { result ≡ Err NoOrder.TitleAlone → meaning_of (codes "serve") (rows_of (found_of matches.now)) ≡ Some title_alone }
+    ensures err { IfErr result (λ why. (why ≡ NoOrder.BadOrigin) ⊎ (why ≡ NoOrder.TitleAlone)) }
 {
     Ok(Order::Serve {
         port: number_in(matches, PORT),
         connections: number_found_in(matches, CONNECTIONS),
         origin: origin_in(matches)?,
         codes: text_found_in(matches, CODES),
+        public: public_in(matches)?,
     })
 }
 
-/// Returns the order that prints a text of the ward that was matched.
-fn printing<'a>(matches: &ArgMatches<'a>, text: Text<'a>) -> Order<'a>
+/// Returns the order that prints a text of the matched ward.
+fn printing<'a>(matches: &ArgMatches<'a>, text: WardText<'a>) -> Order<'a>
     ensures { told result ≡ told_text (number_at (codes "WARD") (rows_of (found_of matches.now))) text.entry }
 {
     in_office(Errand::Print {
@@ -404,7 +453,7 @@ fn printing<'a>(matches: &ArgMatches<'a>, text: Text<'a>) -> Order<'a>
 fn page<'a>(matches: &ArgMatches<'a>) -> Order<'a>
     ensures { meaning_of (codes "page") (rows_of (found_of matches.now)) ≡ Some (told result) }
 {
-    printing(matches, Text::Page(text_in(matches, TITLE)))
+    printing(matches, WardText::Page(text_in(matches, TITLE)))
 }
 
 fn index<'a>(matches: &ArgMatches<'a>) -> Order<'a>
@@ -421,7 +470,7 @@ fn asking<'a>(question: Question) -> Order<'a>
     in_office(Errand::Ask(question))
 }
 
-/// Returns the order of this name, with the values that were matched.
+/// Returns the order with the given name, with the matched values.
 fn order_named<'a>(
     alloc: Global,
     name: &str,
@@ -432,6 +481,7 @@ fn order_named<'a>(
     ensures bad { result ≡ Err NoOrder.BadVerdict → meaning_of name.now (rows_of (found_of matches.now)) ≡ Some no_verdict }
     ensures bad_origin { result ≡ Err NoOrder.BadOrigin → meaning_of name.now (rows_of (found_of matches.now)) ≡ Some no_origin }
     ensures bad_digest { result ≡ Err NoOrder.BadDigest → meaning_of name.now (rows_of (found_of matches.now)) ≡ Some no_digest }
+    ensures title_alone { result ≡ Err NoOrder.TitleAlone → meaning_of name.now (rows_of (found_of matches.now)) ≡ Some title_alone }
 {
     let ward = number_in(matches, WARD);
     let batch = number_in(matches, BATCH);
@@ -440,16 +490,18 @@ fn order_named<'a>(
         "init" => Ok(Order::Perform(Task::Init)),
         "migrate" => Ok(Order::Perform(Task::Migrate)),
         "import-candidates" => import_candidates(matches),
+        "import-batches" => import_batches(matches),
         "import-keying" => import_keying(matches),
         "key" => key(alloc, matches),
+        "seal" => seal(alloc, matches),
         "count" => Ok(counting(matches)),
-        "next" => Ok(in_office(Errand::TellNext { ward })),
-        "status" => Ok(in_office(Errand::TellStatus { ward })),
-        "sheet" => Ok(printing(matches, Text::Sheet)),
-        "result" => Ok(printing(matches, Text::Declaration)),
-        "ballots" => Ok(printing(matches, Text::Ballots)),
+        "next" => Ok(in_office(Errand::PrintNext { ward })),
+        "status" => Ok(in_office(Errand::PrintStatus { ward })),
+        "sheet" => Ok(printing(matches, WardText::Sheet)),
+        "result" => Ok(printing(matches, WardText::Declaration)),
+        "ballots" => Ok(printing(matches, WardText::Ballots)),
         "page" => Ok(page(matches)),
-        "table" => Ok(printing(matches, Text::Table)),
+        "table" => Ok(printing(matches, WardText::Table)),
         "index" => Ok(index(matches)),
         "serve" => serve(matches),
         "wards" => Ok(asking(Question::Wards)),
@@ -479,6 +531,7 @@ pub(crate) fn order_in<'a>(alloc: Global, matches: &ArgMatches<'a>) -> Result<Or
     ensures bad { result ≡ Err NoOrder.BadVerdict → meaning (subcommand_rows_of matches.now) ≡ Some no_verdict }
     ensures bad_origin { result ≡ Err NoOrder.BadOrigin → meaning (subcommand_rows_of matches.now) ≡ Some no_origin }
     ensures bad_digest { result ≡ Err NoOrder.BadDigest → meaning (subcommand_rows_of matches.now) ≡ Some no_digest }
+    ensures title_alone { result ≡ Err NoOrder.TitleAlone → meaning (subcommand_rows_of matches.now) ≡ Some title_alone }
 {
     match matches.subcommand() {
         Some((name, inner)) => order_named(alloc, name, inner),

@@ -5,7 +5,7 @@ ghost use Rattle.desk.specs.Requests.{file_of, file_of_task};
 ghost use Rattle.desk.specs.Scripts.{sends_requests};
 
 use keyfile::FileDigest;
-use office::Text;
+use office::WardText;
 use origins::Origin;
 use register::Request;
 
@@ -17,8 +17,16 @@ pub struct KeyingFile<'a> {
     pub round: u32,
     pub file: &'a str,
     pub id: &'a str,
-    /// The digest that the file must have, if any.
+    /// The digest that the file must have, if one is given.
     pub digest: Option<FileDigest>,
+}
+
+/// The seal of a ward, provided that the expected number of papers was given out to the ward's batches.
+#[derive(Clone, Copy, Debug)]
+pub struct ExpectedSeal<'a> {
+    pub ward: u32,
+    pub papers: u32,
+    pub id: &'a str,
 }
 
 /// A question that only the office asks.
@@ -26,51 +34,61 @@ pub struct KeyingFile<'a> {
 pub enum Question {
     /// The status of each ward.
     Wards,
-    /// The status of each batch of a ward.
+    /// The status of each batch in a ward.
     Batches { ward: u32 },
-    /// Which papers of a ward are doubtful.
+    /// The doubtful papers in a ward.
     Doubtful { ward: u32 },
-    /// On which papers the keyings of a batch differ.
+    /// The papers on which a batch's keyings differ.
     Differences { batch: u32 },
-    /// How each paper of a batch counts.
+    /// How each paper in a batch counts.
     Papers { batch: u32 },
-    /// The receipts of an actor, or of all.
+    /// The receipts of one actor, or of all actors.
     Receipts { actor: Option<u32> },
 }
 
-/// A task in an existing office. The numbers are as given, in range or not.
+/// A task in an existing office. Numbers are kept as given, whether or not they are in range.
 #[derive(Debug, Drop)]
 pub enum Errand<'a> {
-    /// Send this request: one of the office's own, or a clerk's keying.
+    /// Send this request, which is either the office's or a clerk's keying.
     Send(Request),
-    /// Add the candidates of a file, each under this id, a hyphen, and its record's number. If a digest is given, the file must have
-    /// it.
+    /// Add the candidates in a file. The id of each request is this id, a hyphen, and the record number. If a digest is given, the
+    /// file must have it.
     ImportCandidates {
         file: &'a str,
         id: &'a str,
         digest: Option<FileDigest>,
     },
-    /// Store a clerk's keying.
+    /// Give out the batches in a file. The id of each request is this id, a hyphen, and the record number. If a digest is given,
+    /// the file must have it.
+    ImportBatches {
+        file: &'a str,
+        id: &'a str,
+        digest: Option<FileDigest>,
+    },
+    /// Store a clerk's keying of a batch, read from a file.
     ImportKeying(KeyingFile<'a>),
-    /// Count the stages of a ward up to a lot or the end, each under this id, a hyphen, and its number in this order.
+    /// Seal a ward if the expected number of papers was given out.
+    SealExpected(ExpectedSeal<'a>),
+    /// Count a ward's stages until a lot is needed or the count ends. The id of each request is this id, a hyphen, and its
+    /// number within this order.
     Count {
         ward: u32,
         id: &'a str,
     },
-    /// Print the status of a ward.
-    TellStatus {
+    /// Print a ward's status.
+    PrintStatus {
         ward: u32,
     },
-    /// Print what comes next in a ward.
-    TellNext {
+    /// Print what comes next in a ward's election.
+    PrintNext {
         ward: u32,
     },
-    /// Print a text of a ward.
+    /// Print one of a ward's texts.
     Print {
         ward: u32,
-        text: Text<'a>,
+        text: WardText<'a>,
     },
-    /// Print the page of all wards, under this title.
+    /// Print the page listing all wards, with this title.
     PrintIndex {
         title: &'a str,
     },
@@ -85,12 +103,13 @@ impl<'a> Errand<'a> {
     {
         match self {
             Errand::ImportCandidates { file, .. } => Some(file),
+            Errand::ImportBatches { file, .. } => Some(file),
             Errand::ImportKeying(keying) => Some(keying.file),
             _ => None,
         }
     }
 
-    /// Returns whether the errand sends requests. Only errands that do can be in a script.
+    /// Returns true if the errand sends requests. Only such errands are allowed in a script.
     pub(crate) fn sends(&self) -> bool
         ensures { result ≡ sends_requests self.now }
     {
@@ -98,29 +117,31 @@ impl<'a> Errand<'a> {
             self,
             Errand::Send(_)
                 | Errand::ImportCandidates { .. }
+                | Errand::ImportBatches { .. }
                 | Errand::ImportKeying(_)
+                | Errand::SealExpected(_)
                 | Errand::Count { .. }
         )
     }
 }
 
-/// What is done in an office once it is open.
+/// A job that is done in an open office.
 #[derive(Debug, Drop)]
 pub enum Job<'a> {
     /// Run this errand.
     Run(Errand<'a>),
-    /// Run the errands of a script in turn, up to the first that is refused; with `keep_going` also past those.
+    /// Run the errands of a script one after the other, up to the first refusal; with `keep_going`, continue after refusals.
     Replay { file: &'a str, keep_going: bool },
 }
 
-/// A task on a connection to the office's database, which needs nothing else.
+/// A task that needs nothing but a connection to the office's database.
 #[derive(Debug, Drop)]
 pub enum Task<'a> {
-    /// Make an office.
+    /// Create an office.
     Init,
-    /// Migrate an office that an earlier program made to this version.
+    /// Migrate an office created by an earlier version of the program to this version.
     Migrate,
-    /// Open the office, and do this in it.
+    /// Open the office and do this job in it.
     InOffice(Job<'a>),
 }
 
@@ -137,30 +158,31 @@ impl<'a> Task<'a> {
     }
 }
 
-/// What the program is to do.
+/// What the program is asked to do.
 #[derive(Debug, Drop)]
 pub enum Order<'a> {
-    /// Perform this on the office's database.
+    /// Perform this task on the office's database.
     Perform(Task<'a>),
-    /// Make a copy of the office, in a file that doesn't exist yet.
+    /// Copy the office into a file that doesn't exist yet.
     Copy {
         path: &'a str,
     },
     /// Print the journal of the office.
     Journal,
-    /// Write a new file of codes, which isn't there yet, for the clerks that a word names, and for the office too if that is
-    /// asked for.
+    /// Write a new codes file, which must not exist yet, for the clerks that a word names, and for the office too if requested.
     Codes {
         path: &'a str,
         clerks: &'a str,
         with_office: bool,
     },
-    /// Serve connections on a port of this machine, and pages of an origin through a proxy, if one is given. It ends after this many
-    /// connections, or never if no number is given. Clerks need codes if the path of a file of codes is given.
+    /// Serve connections on a local port. If an origin is given, its pages are also served through a proxy. Serving
+    /// ends after this many connections, or continues forever if no number is given. Clerks need codes if the path of a codes file
+    /// is given. If a title is given, the count is shown in public with that title.
     Serve {
         port: u32,
         connections: Option<u32>,
         origin: Option<Origin<'a>>,
         codes: Option<&'a str>,
+        public: Option<&'a str>,
     },
 }

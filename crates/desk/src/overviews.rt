@@ -1,5 +1,5 @@
-//! Overviews in lines: the wards, the batches of a ward, the differences in a batch, and the receipts; and papers, whose lines are
-//! made in [`papers`](crate::papers).
+//! Overviews, one line each, for wards, a ward's batches, the differences in a batch, receipts and papers. The lines for
+//! papers are built in [`papers`](crate::papers).
 
 ghost use Rattle.std.specs.Prelude.{◌≡◌, ◌⊎◌, ◌++◌, map, IfOk, IfErr, string_bytes};
 ghost use Rattle.std.specs.List.{flat_map};
@@ -18,26 +18,26 @@ use crate::lines::{Failure, LineOutcome};
 use crate::orders::Question;
 use crate::papers::{doubtful_lines, paper_lines};
 use crate::ward_status::phase_word;
-use office::{Office, Stop};
+use office::{Office, ReadError};
 use paper::Columns;
 use register::Receipt;
 use sqlite::Alter;
 use std::alloc::{AllocError, Global};
 use store::{BatchOverview, BatchStanding, ClerkOverview, Differences, Fault, WardOverview};
 
-/// Values that are printed in a line.
+/// A value that is printed on one line.
 trait Lined {
     ghost use Rattle.clap.specs.Words.{Text};
 
-    /// The line, without its end.
+    /// The line, without its newline.
     ghost text: { Self → Text };
 
-    /// Returns the line, without its end.
+    /// Returns the line, without its newline.
     fn line(&self, alloc: Global) -> Result<String, AllocError>
         ensures { IfOk result (λ told. string_bytes told ≡ text self.now) };
 }
 
-/// Appends a number to others: `, 3`.
+/// Appends another number to a list: `, 3`.
 fn put_behind(alloc: Global, text: &mut String, number: u32) -> Result<(), AllocError>
     ensures { IfOk result (λ _. string_bytes text.new ≡ string_bytes text.old ++ behind number) }
 {
@@ -60,7 +60,7 @@ fn listed(alloc: Global, numbers: &[u32]) -> Result<String, AllocError>
     Ok(text)
 }
 
-/// Returns the candidates' numbers of a set, in ascending order.
+/// Returns the candidate numbers in a set, in ascending order.
 fn numbers_in(alloc: Global, columns: &Columns) -> Result<Vec<u32>, AllocError>
     ensures { IfOk result (λ numbers. numbers.items ≡ columns.now) }
 {
@@ -75,7 +75,7 @@ fn numbers_in(alloc: Global, columns: &Columns) -> Result<Vec<u32>, AllocError>
 // ---- a ward
 
 #[tactic(auto, unfolding(crate::specs::Overviews::seats_words))]
-/// Returns the ward, its phase and its seats in words.
+/// Returns the number, phase and seats of the ward, in words.
 fn seats_words(alloc: Global, overview: &WardOverview) -> Result<String, AllocError>
     ensures { IfOk result (λ text. string_bytes text ≡ seats_words (ward_view overview.now)) }
 {
@@ -85,7 +85,7 @@ fn seats_words(alloc: Global, overview: &WardOverview) -> Result<String, AllocEr
 }
 
 #[tactic(auto, unfolding(crate::specs::Overviews::untaken_words))]
-/// Returns its candidates, its batches, and how many of those aren't taken.
+/// Returns how many candidates and batches the ward has, and how many batches aren't taken.
 fn untaken_words(alloc: Global, overview: &WardOverview) -> Result<String, AllocError>
     ensures { IfOk result (λ text. string_bytes text ≡ untaken_words (ward_view overview.now)) }
 {
@@ -95,7 +95,7 @@ fn untaken_words(alloc: Global, overview: &WardOverview) -> Result<String, Alloc
 }
 
 #[tactic(auto, unfolding(crate::specs::Overviews::open_words))]
-/// Returns how many batches differ, how many doubtful papers are open, and how far its count is.
+/// Returns how many batches differ, how many doubtful papers are open, and how many stages have been counted.
 fn open_words(alloc: Global, overview: &WardOverview) -> Result<String, AllocError>
     ensures { IfOk result (λ text. string_bytes text ≡ open_words (ward_view overview.now)) }
 {
@@ -105,7 +105,7 @@ fn open_words(alloc: Global, overview: &WardOverview) -> Result<String, AllocErr
 }
 
 #[tactic(auto, unfolding(crate::specs::Overviews::elected_words))]
-/// Returns who is elected to these seats, once that is declared, and how many seats stay empty.
+/// Returns who is elected to the given seats, once the result is declared, and how many seats stay empty.
 fn elected_words(alloc: Global, seats: u32, elected: &Option<Columns>) -> Result<String, AllocError>
     ensures { IfOk result (λ text. string_bytes text ≡ elected_words seats elected.now) }
 {
@@ -122,7 +122,7 @@ impl Lined for WardOverview {
     ghost text = { λ o. ward_line (ward_view o) };
 
     #[tactic(auto, unfolding(crate::specs::Overviews::ward_line))]
-    /// Returns the line on the ward, its name last.
+    /// Returns the line for the ward, ending with its name.
     fn line(&self, alloc: Global) -> Result<String, AllocError> {
         let seats = seats_words(alloc, self)?;
         let untaken = untaken_words(alloc, self)?;
@@ -136,7 +136,7 @@ impl Lined for WardOverview {
 // ---- a batch
 
 #[tactic(auto, unfolding(crate::specs::Overviews::size_words))]
-/// Returns the batch, its round and its size in words.
+/// Returns the number, round and size of the batch, in words.
 fn size_words(alloc: Global, overview: &BatchOverview) -> Result<String, AllocError>
     ensures { IfOk result (λ text. string_bytes text ≡ size_words (batch_view overview.now)) }
 {
@@ -145,7 +145,7 @@ fn size_words(alloc: Global, overview: &BatchOverview) -> Result<String, AllocEr
     format!(in alloc; "batch {batch} round {round}: {size} papers")
 }
 
-/// Returns whether a clerk has keyed, in words.
+/// Returns the words that say whether a clerk has keyed a batch.
 fn keyed_word(keyed: bool) -> &'static str
     ensures { result.now ≡ keyed_word keyed }
 {
@@ -153,7 +153,7 @@ fn keyed_word(keyed: bool) -> &'static str
 }
 
 #[tactic(auto, unfolding(crate::specs::Overviews::clerk_words))]
-/// Appends a clerk of the batch, and whether the clerk has keyed it.
+/// Appends a clerk of the batch, and whether that clerk has keyed it.
 fn put_clerk(alloc: Global, text: &mut String, overview: &ClerkOverview) -> Result<(), AllocError>
     ensures { IfOk result (λ _. string_bytes text.new ≡ string_bytes text.old ++ clerk_words (clerk_view overview.now)) }
 {
@@ -162,7 +162,7 @@ fn put_clerk(alloc: Global, text: &mut String, overview: &ClerkOverview) -> Resu
     text.push_str(told.as_str())
 }
 
-/// Returns its clerks, and whether each has keyed it.
+/// Returns a batch's clerks, and whether each of them has keyed it.
 fn clerks_words(alloc: Global, clerks: &[ClerkOverview]) -> Result<String, AllocError>
     ensures { IfOk result (λ text. string_bytes text ≡ flat_map clerk_words (map clerk_view clerks.now)) }
 {
@@ -173,7 +173,7 @@ fn clerks_words(alloc: Global, clerks: &[ClerkOverview]) -> Result<String, Alloc
     Ok(text)
 }
 
-/// Returns its status, in a word.
+/// Returns the word for the status of a batch.
 fn standing_word(standing: BatchStanding) -> &'static str
     ensures { result.now ≡ standing_word standing }
 {
@@ -185,7 +185,7 @@ fn standing_word(standing: BatchStanding) -> &'static str
 }
 
 #[tactic(auto, unfolding(crate::specs::Overviews::twin_words))]
-/// Returns which other batch has the same papers, in words, if one does.
+/// Returns the words that name another batch with the same papers, if there is one.
 fn twin_words(alloc: Global, twin: Option<u32>) -> Result<String, AllocError>
     ensures { IfOk result (λ text. string_bytes text ≡ twin_words twin) }
 {
@@ -199,7 +199,7 @@ impl Lined for BatchOverview {
     ghost text = { λ o. batch_line (batch_view o) };
 
     #[tactic(auto, unfolding(crate::specs::Overviews::batch_line))]
-    /// Returns the line on the batch.
+    /// Returns the line for the batch.
     fn line(&self, alloc: Global) -> Result<String, AllocError> {
         let size = size_words(alloc, self)?;
         let clerks = clerks_words(alloc, &self.clerks)?;
@@ -212,7 +212,7 @@ impl Lined for BatchOverview {
 // ---- differences, and receipts
 
 #[tactic(auto, unfolding(crate::specs::Overviews::differences_line))]
-/// Returns the line that says on which papers the keyings of a batch differ.
+/// Returns the line that lists the papers on which a batch's keyings differ.
 fn differences_line(alloc: Global, found: &Differences) -> Result<String, AllocError>
     ensures { IfOk result (λ text. string_bytes text ≡ differences_line (differences_view found.now)) }
 {
@@ -225,7 +225,7 @@ impl Lined for Receipt {
     ghost text = { λ r. receipt_line (receipt_entry r) };
 
     #[tactic(auto, unfolding(crate::specs::Overviews::receipt_line))]
-    /// Returns the line of a receipt: the actor, the id, the subject and the reply.
+    /// Returns the line for a receipt: the actor, the id, the subject and the reply.
     fn line(&self, alloc: Global) -> Result<String, AllocError> {
         let (actor, id) = (self.actor, self.id.as_str());
         let (subject, reply) = (self.subject.as_str(), self.reply.as_str());
@@ -235,7 +235,7 @@ impl Lined for Receipt {
 
 // ---- what is printed
 
-/// Appends a value in a line of its own.
+/// Appends a value on a line of its own.
 fn put_line<T: Lined>(alloc: Global, text: &mut String, told: &T) -> Result<(), AllocError>
     ensures { IfOk result (λ _. string_bytes text.new ≡ string_bytes text.old ++ line (T.text told.now)) }
 {
@@ -244,7 +244,7 @@ fn put_line<T: Lined>(alloc: Global, text: &mut String, told: &T) -> Result<(), 
     text.push_str("\n")
 }
 
-/// Returns each value in a line of its own.
+/// Returns the values, each on a line of its own.
 fn lines_of<T: Lined>(alloc: Global, found: &[T]) -> Result<String, AllocError>
     ensures { IfOk result (λ text. string_bytes text ≡ flat_map (λ t. line (T.text t)) found.now) }
 {
@@ -255,18 +255,18 @@ fn lines_of<T: Lined>(alloc: Global, found: &[T]) -> Result<String, AllocError>
     Ok(text)
 }
 
-/// Returns what is printed if nothing was found.
-fn stopped(stop: Stop) -> LineOutcome
+/// Returns what is printed for a read that was refused or failed.
+fn stopped(stop: ReadError) -> LineOutcome
     ensures { page_of result ≡ page_stopped stop }
 {
     match stop {
-        Stop::Refused(refusal) => LineOutcome::Refused(refusal),
-        Stop::Fault(fault) => LineOutcome::Failed(fault),
+        ReadError::Refused(refusal) => LineOutcome::Refused(refusal),
+        ReadError::Fault(fault) => LineOutcome::Failed(fault),
     }
 }
 
-/// Returns what is printed for the values found, or why there are none; or that an allocation failed.
-fn outcome_of<T: Lined + Drop>(alloc: Global, found: Result<Vec<T>, Stop>) -> LineOutcome
+/// Returns what is printed for the values found, for the reason why there are none, or for a failed allocation.
+fn outcome_of<T: Lined + Drop>(alloc: Global, found: Result<Vec<T>, ReadError>) -> LineOutcome
     ensures lines { IfOk found (λ all. (page_of result ≡ printed (flat_map (λ t. line (T.text t)) all.items)) ⊎ (page_of result ≡ failed (Failure.Office Fault.Memory))) }
     ensures stop { IfErr found (λ stop. page_of result ≡ page_stopped stop) }
 {
@@ -280,7 +280,7 @@ fn outcome_of<T: Lined + Drop>(alloc: Global, found: Result<Vec<T>, Stop>) -> Li
     }
 }
 
-/// Returns a line that says on which papers the keyings of a batch differ, or why there is none.
+/// Returns a line that lists the papers on which a batch's keyings differ, or the reason why there is none.
 fn differences_of<S: Alter>(alloc: Global, office: &mut Office<S>, batch: u32) -> LineOutcome
     ensures found { WhenOpenAt (state S.Store) office.old office.new
         (λ s. IsAskedOf s (Question.Differences batch) (page_of result) office.new.closed (state S.Store office.old.held) (state S.Store office.new.held)) }
@@ -295,7 +295,7 @@ fn differences_of<S: Alter>(alloc: Global, office: &mut Office<S>, batch: u32) -
     }
 }
 
-/// Returns the doubtful papers of a ward in lines, or why there are none.
+/// Returns the lines for a ward's doubtful papers, or the reason why there are none.
 fn doubtful_of<S: Alter>(alloc: Global, office: &mut Office<S>, ward: u32) -> LineOutcome
     ensures found { WhenOpenAt (state S.Store) office.old office.new
         (λ s. IsAskedOf s (Question.Doubtful ward) (page_of result) office.new.closed (state S.Store office.old.held) (state S.Store office.new.held)) }
@@ -310,7 +310,7 @@ fn doubtful_of<S: Alter>(alloc: Global, office: &mut Office<S>, ward: u32) -> Li
     }
 }
 
-/// Returns the papers of a batch as they count in lines, or why there are none.
+/// Returns the lines that say how each paper in a batch counts, or the reason why there are none.
 fn papers_of<S: Alter>(alloc: Global, office: &mut Office<S>, batch: u32) -> LineOutcome
     ensures found { WhenOpenAt (state S.Store) office.old office.new
         (λ s. IsAskedOf s (Question.Papers batch) (page_of result) office.new.closed (state S.Store office.old.held) (state S.Store office.new.held)) }
@@ -325,7 +325,7 @@ fn papers_of<S: Alter>(alloc: Global, office: &mut Office<S>, batch: u32) -> Lin
     }
 }
 
-/// Returns the office's answer to a question, or why there is none.
+/// Returns the office's answer to a question, or the reason why there is none.
 pub(crate) fn answer_to<S: Alter>(
     alloc: Global,
     office: &mut Office<S>,

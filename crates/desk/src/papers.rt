@@ -1,4 +1,4 @@
-//! The papers of a batch as they count, and the doubtful ones of a ward, in lines with the candidates' names.
+//! How each paper in a batch counts, and a ward's doubtful papers, in lines with the candidates' names.
 
 ghost use Rattle.std.specs.Prelude.{◌≡◌, ◌++◌, map, option_map, IfOk, string_bytes};
 ghost use Rattle.register.specs.Offices.{judged_entry};
@@ -14,7 +14,7 @@ use store::{CountedPaper, CountedPapers, DoubtfulPaper, DoubtfulPapers};
 
 // ---- how a paper counts
 
-/// Returns what separates a preference from the one before: nothing before the first.
+/// Returns the separator before a preference, which is empty before the first one.
 fn parting(number: usize) -> &'static str
     ensures { result.now ≡ parting number }
 {
@@ -22,7 +22,7 @@ fn parting(number: usize) -> &'static str
 }
 
 #[tactic(auto, unfolding(crate::specs::Overviews::preference_words))]
-/// Appends a preference: its number, and the candidate's name.
+/// Appends a preference: its number and the candidate's name.
 fn put_preference(
     alloc: Global,
     text: &mut String,
@@ -51,7 +51,7 @@ fn preferences(
     Ok(text)
 }
 
-/// Returns why a paper is rejected, by its code.
+/// Returns the reason why a paper is rejected, given its code.
 fn rejection_words(code: u32) -> &'static str
     ensures { result.now ≡ rejection_words code }
 {
@@ -96,7 +96,7 @@ fn put_line(text: &mut String, told: &str) -> Result<(), AllocError>
 }
 
 #[tactic(auto, unfolding(crate::specs::Overviews::paper_line))]
-/// Returns which paper it is, and how it counts.
+/// Returns the line that identifies a paper and says how it counts.
 fn paper_line(
     alloc: Global,
     names: &NamesByNumber,
@@ -109,7 +109,7 @@ fn paper_line(
     format!(in alloc; "batch {batch} paper {number}: {counts}")
 }
 
-/// Appends a paper in a line of its own.
+/// Appends a paper on a line of its own.
 fn put_paper(
     alloc: Global,
     text: &mut String,
@@ -122,7 +122,7 @@ fn put_paper(
     put_line(text, told.as_str())
 }
 
-/// Returns papers, each in a line of its own.
+/// Returns papers, each on a line of its own.
 fn lines_of_papers(
     alloc: Global,
     names: &NamesByNumber,
@@ -138,7 +138,7 @@ fn lines_of_papers(
 }
 
 #[tactic(auto, unfolding(crate::specs::Overviews::paper_lines))]
-/// Returns the papers of a batch as they count, with the names of the candidates.
+/// Returns how each paper in a batch counts, with the names of the candidates.
 pub(crate) fn paper_lines(alloc: Global, found: &CountedPapers) -> Result<String, AllocError>
     ensures { IfOk result (λ text. string_bytes text ≡ paper_lines (papers_view found.now)) }
 {
@@ -149,7 +149,7 @@ pub(crate) fn paper_lines(alloc: Global, found: &CountedPapers) -> Result<String
 // ---- doubtful papers
 
 #[tactic(auto, unfolding(crate::specs::Overviews::verdict_words))]
-/// Returns the verdict on a paper that counts like this; if it is accepted with marks, how it counts by them.
+/// Returns the verdict on a paper, given how it counts. If the paper is accepted with marks, the verdict includes how it counts.
 fn verdict_words(
     alloc: Global,
     names: &NamesByNumber,
@@ -171,7 +171,7 @@ fn verdict_words(
 }
 
 #[tactic(auto, unfolding(crate::specs::Overviews::doubtful_line))]
-/// Returns which paper it is, and the verdict on it.
+/// Returns the line that identifies a doubtful paper and gives the verdict on it.
 fn doubtful_line(
     alloc: Global,
     names: &NamesByNumber,
@@ -184,7 +184,7 @@ fn doubtful_line(
     format!(in alloc; "batch {batch} paper {number} {verdict}")
 }
 
-/// Appends a doubtful paper in a line of its own.
+/// Appends a doubtful paper on a line of its own.
 fn put_doubtful(
     alloc: Global,
     text: &mut String,
@@ -197,7 +197,7 @@ fn put_doubtful(
     put_line(text, told.as_str())
 }
 
-/// Returns doubtful papers, each in a line of its own.
+/// Returns doubtful papers, each on a line of its own.
 fn lines_of_doubtful(
     alloc: Global,
     names: &NamesByNumber,
@@ -213,7 +213,7 @@ fn lines_of_doubtful(
 }
 
 #[tactic(auto, unfolding(crate::specs::Overviews::doubtful_lines))]
-/// Returns the doubtful papers of a ward, with the names of the candidates.
+/// Returns a ward's doubtful papers, with the names of the candidates.
 pub(crate) fn doubtful_lines(alloc: Global, found: &DoubtfulPapers) -> Result<String, AllocError>
     ensures { IfOk result (λ text. string_bytes text ≡ doubtful_lines (doubtful_papers_view found.now)) }
 {

@@ -1,4 +1,4 @@
-//! What the program does for an order, on a connection to the office's database.
+//! Performs the task of an order on a connection to the office's database.
 
 ghost use Rattle.std.specs.Prelude.{◌-◌, ◌^◌, ◌<◌};
 ghost use Rattle.sqlite.specs.State.{HasCleanDisk};
@@ -16,7 +16,7 @@ use sqlite::{Alter, Connection};
 use std::alloc::Global;
 use streams::Sink;
 
-/// Opens the office of a connection, and does a job in it.
+/// Opens the office on a connection and does a job in it.
 fn in_office<S: Alter, F: Folder, O: Sink, E: Sink>(
     alloc: Global,
     job: &Job<'_>,
@@ -39,7 +39,7 @@ fn in_office<S: Alter, F: Folder, O: Sink, E: Sink>(
     }
 }
 
-/// Makes an office, and prints the outcome.
+/// Creates an office and prints the outcome.
 fn make_office<S: Alter, O: Sink, E: Sink>(
     alloc: Global,
     conn: Connection<S>,
@@ -60,7 +60,7 @@ fn make_office<S: Alter, O: Sink, E: Sink>(
     }
 }
 
-/// Migrates an office that an earlier program made to this version, and prints the outcome.
+/// Migrates an office created by an earlier version of the program to this version, and prints the outcome.
 fn migrate_office<S: Alter, O: Sink, E: Sink>(
     alloc: Global,
     mut conn: Connection<S>,
@@ -78,30 +78,31 @@ fn migrate_office<S: Alter, O: Sink, E: Sink>(
     }
 }
 
-/// Performs a task on an open connection, prints its lines, and returns the status and the connection.
+/// Performs a task on an open connection, prints the resulting lines, and returns the exit status and the connection.
 ///
-/// `folder` opens the file that the task names, once the office is open; and the import files that a script names, each when it is
-/// needed. A file is read to its end before any request from it is sent.
+/// `folder` opens the file that the task names, once the office is open, and each import file that a script names, when it is
+/// needed. A file is read to the end before any request from it is sent.
 ///
-/// The status is 0 if all output was written to `out`: each reply, `office ready`, the outcome of a migration, the status of a ward,
-/// an overview, or a text of a ward. It is 1 if a request or the file was refused, and 3 for a fault; `err` says which. It is 3 too if
-/// one of the two failed; a prefix was then written to it.
+/// The status is 0 if all output was written to `out`: each reply, `office ready`, the outcome of a migration, a ward's status, an
+/// overview, or one of a ward's texts. It is 1 if a request or the file was refused, and 3 on a fault; `err` says which. It is also
+/// 3 if `out` or `err` itself failed, in which case only a prefix was written to it.
 ///
-/// What was replied before the first refusal or fault remains in effect. Whenever the program is stopped, what remains is the state
-/// after the accepted requests of a prefix of all that were ever sent. The prefix contains every answered request, and at most one
-/// more. With status 0 all requests of the task were answered.
+/// Every request that was answered before the first refusal or fault remains in effect. If the program is stopped at any time, what
+/// remains is the state after the accepted requests in a prefix of all requests ever sent. The prefix contains every answered
+/// request and at most one more. If the status is 0, all requests of the task were answered.
 ///
-/// All lines of a script are parsed before its first order is sent. If one isn't understood, the first such line is reported, with
-/// status 2, and nothing is sent. A refusal or a fault of one of its orders ends the script, and is printed after its line's number.
-/// The requests of a script are those of its orders up to that one. With `keep_going` a refusal doesn't end the script: each one is
-/// printed, and the status is 1 unless a fault ends the script.
+/// All lines of a script are parsed before its first order is sent. If any line isn't understood, the first such line is reported
+/// with status 2, and nothing is sent. A refusal or fault of one of its orders ends the script and is printed after the line
+/// number. The requests of a script are those of its orders up to that one. With `keep_going`, a refusal doesn't end the script:
+/// each refusal is printed, and the status is 1 unless a fault ends the script.
 ///
-/// A database that contains no office, or a newer, an older or a damaged one, is reported by that fault, and isn't changed. If a table
-/// has one of our names, `init` makes no office: it reports fault 105, and changes nothing. Only `migrate` accepts an older office. If
-/// it is stopped, what remains is the older office or the whole of the new one, with exactly the same state.
+/// If the database contains no office, or a newer, older or damaged one, the corresponding fault is reported, and the database
+/// isn't changed. If it has a table with one of our names, `init` doesn't create an office: it reports fault 105 and changes
+/// nothing. Only `migrate` accepts an older office. If it is interrupted, what remains is either the older office or the complete
+/// new one, with exactly the same state.
 ///
-/// If an opening or a read reports fault 102, the store failed; or, when a database without a state is opened, rowids aren't the rows'
-/// own. The same holds for a request that isn't accepted.
+/// If opening or reading the office reports fault 102, the store failed; or, when a database without a state is opened, its rowids
+/// aren't distinct integers. The same applies to a request that isn't accepted.
 pub fn perform<S: Alter, F: Folder, O: Sink, E: Sink>(
     alloc: Global,
     task: &Task<'_>,

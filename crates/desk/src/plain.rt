@@ -1,4 +1,4 @@
-//! An order performed with one file, which its caller has opened.
+//! Performing an order with a single file that the caller has opened.
 
 ghost use Rattle.std.specs.Prelude.{◌-◌, ◌^◌, ◌<◌, None, IfSome, IsSome};
 ghost use Rattle.sqlite.specs.State.{HasCleanDisk};
@@ -15,8 +15,8 @@ use std::cell::Cell;
 use std::io::Read;
 use streams::Sink;
 
-/// A folder of one file, which is returned for the first path that is opened, and for no other.
-// No clause can express what a cell contains, so none says which bytes the file has.
+/// A folder of one file, which it returns for the first path that is opened and for no other.
+// No clause can express what a cell contains, so nothing is specified about the file's bytes.
 #[derive(Drop)]
 struct OneFile<R> {
     file: Cell<Option<R>>,
@@ -30,11 +30,12 @@ impl<R: Read + Drop> Folder for OneFile<R> {
     }
 }
 
-/// Performs an order on a connection with the file that it names, prints its lines, and returns the status and the connection.
+/// Performs an order on a connection with the file that the order names, prints its lines, and returns the status and the
+/// connection.
 ///
-/// `file` is `None` if the file can't be opened. It is [`perform`](crate::perform::perform) with a folder of that one file, so a
-/// script can't open the import files that it names. The order is any except those to serve, to copy, to print a journal and to make
-/// codes.
+/// `file` is `None` if the file couldn't be opened. This is [`perform`](crate::perform::perform) with a folder of that one file, so
+/// the import files that a script names can't be opened. It accepts any order except those to serve, to copy, to print a journal,
+/// or to make codes.
 pub fn perform<S: Alter, R: Read + Drop, O: Sink, E: Sink>(
     alloc: Global,
     order: &Order<'_>,

@@ -1,14 +1,14 @@
-//! The progress of a long order, for a user who doesn't see its replies.
+//! Reporting the progress of a long order to a user who doesn't see its replies.
 
 ghost use Rattle.std.specs.Prelude.{◌≡◌};
 
 use std::io::Write;
 use streams::{Broken, Sink};
 
-/// The count is printed each time after this many lines.
+/// The count is printed every time this many lines have been written.
 const STEP: u64 = 100;
 
-/// Counts lines, and reports the count to a writer from time to time.
+/// Counts lines, and reports the count to a writer at regular intervals.
 #[derive(Drop)]
 struct Meter<W> {
     told: W,
@@ -19,7 +19,7 @@ impl<W: Write> Meter<W> {
     fn count_line(&mut self) {
         self.lines = self.lines.saturating_add(1);
         if self.lines % STEP == 0 {
-            // A report that can't be written doesn't stop the order.
+            // Failing to write a report doesn't stop the order.
             let _ = writeln!(self.told, "{} records done", self.lines);
         }
     }
@@ -33,9 +33,9 @@ impl<W: Write> Meter<W> {
     }
 }
 
-/// An output that reports to a writer after every hundredth line how many lines there were.
+/// An output that reports the number of lines to a writer after every hundredth line.
 ///
-/// It accepts what the output accepts, and fails if that fails, never because of the writer.
+/// It accepts whatever the wrapped output accepts, and fails only if that output fails, never because of the writer.
 #[derive(Drop)]
 pub struct ProgressSink<'a, O, W> {
     out: &'a mut O,
@@ -43,7 +43,7 @@ pub struct ProgressSink<'a, O, W> {
 }
 
 impl<'a, O: Sink, W: Write> ProgressSink<'a, O, W> {
-    /// Wraps an output of which no line is counted yet.
+    /// Wraps an output, starting with a line count of 0.
     pub fn new(out: &'a mut O, told: W) -> ProgressSink<'a, O, W>
         ensures { result.out.now ≡ out.old }
     {

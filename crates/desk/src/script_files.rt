@@ -1,12 +1,12 @@
-//! The files that a script names, for a client that sends them along with it.
+//! The files that a script names, for a client that sends them along with the script.
 
 ghost use Rattle.std.specs.Prelude.{◌≡◌, IfOk, map, string_bytes};
 ghost use Rattle.desk.specs.ScriptFiles.{AreNamedIn, files_of};
 
-use crate::scripts::{ScriptFault, ScriptStep, all_said, lines_in, turns_in};
+use crate::scripts::{ScriptFault, ScriptStep, lines_in, script_steps, typed_lines};
 use std::alloc::{AllocError, Global};
 
-/// Returns the paths of the files that steps read, in order and with repetitions.
+/// Returns the paths of the files that steps read, in order, including repeats.
 fn files_of(alloc: Global, turns: &[ScriptStep<'_>]) -> Result<Vec<String>, AllocError>
     ensures { IfOk result (λ paths. map string_bytes paths.items ≡ files_of turns.now) }
 {
@@ -19,14 +19,14 @@ fn files_of(alloc: Global, turns: &[ScriptStep<'_>]) -> Result<Vec<String>, Allo
     Ok(paths)
 }
 
-/// Returns the paths of the files that the lines of a script name, in order. If a line isn't understood, there are none: the order
-/// reports that line, and opens no file.
+/// Returns the paths of the files that a script's lines name, in order. If a line isn't understood, there are none: the order
+/// reports that line and opens no files.
 pub fn files_named_in(alloc: Global, script: &[u8]) -> Result<Vec<String>, AllocError>
     ensures { IfOk result (λ paths. AreNamedIn script.now (map string_bytes paths.items)) }
 {
     let lines = lines_in(alloc, script)?;
-    let said = all_said(alloc, &lines)?;
-    match turns_in(alloc, &said) {
+    let said = typed_lines(alloc, &lines)?;
+    match script_steps(alloc, &said) {
         Ok(turns) => files_of(alloc, &turns),
         Err(ScriptFault::Memory) => Err(AllocError),
         Err(ScriptFault::ScriptLine(_, _)) => Ok(Vec::new(alloc)),

@@ -1,16 +1,16 @@
-//! A script: orders in a text, one per line, parsed to errands.
+//! Scripts: texts with one order per line, parsed into errands.
 
 ghost use Rattle.std.specs.Prelude.{◌≡◌, false, map, IfErr, IfNone, IfOk, IfSome, Some};
 ghost use Rattle.desk.specs.Lexing.{IsFaultOfLine, IsFaultOfLines, line_entry, typed_line_entry, said_words};
-ghost use Rattle.desk.specs.Scripts.{AreTurns, IsFlawOfWords, IsTurn, Means, line_flaw_text, lines_of, numbered_from, stands_in_script, typed, typed_line};
+ghost use Rattle.desk.specs.Scripts.{AreTurns, IsFlawOfWords, IsStep, Means, line_flaw_text, lines_of, numbered_from, is_allowed_in_script, typed, typed_line};
 
 use crate::lexer;
 use crate::orders::{Errand, Job, Order, Task};
-use crate::words::{BAD_DIGEST, BAD_ORIGIN, WordsFault, order};
+use crate::words::{BAD_DIGEST, BAD_ORIGIN, BAD_TITLE, WordsFault, order};
 use std::alloc::{AllocError, Global};
 use std::str;
 
-/// Why a line has no words.
+/// The reason why a line has no words.
 #[derive(Clone, Copy)]
 pub(crate) enum Garbled {
     /// A quote isn't closed.
@@ -19,25 +19,27 @@ pub(crate) enum Garbled {
     NotUtf8,
 }
 
-/// What is wrong with a line.
+/// What is wrong with a line of a script.
 #[derive(Drop)]
 pub(crate) enum LineFlaw {
-    /// It has no words.
+    /// The line can't be split into words.
     NoWords(Garbled),
-    /// The word of a verdict is invalid.
+    /// The word for a verdict is invalid.
     Verdict,
     /// The word after `--origin` is invalid.
     Origin,
     /// The word after `--sha256` is invalid.
     Digest,
-    /// The words aren't an order; this is printed for them.
+    /// `--title` is given without `--public`.
+    TitleAlone,
+    /// The words aren't an order. This text is printed for them.
     Words(String),
     /// The order isn't allowed in a script.
     Elsewhere,
 }
 
 impl LineFlaw {
-    /// Returns what is printed for it; its lines are terminated.
+    /// Returns the error message for this flaw.
     pub(crate) fn text(&self) -> &str
         ensures { result.now ≡ line_flaw_text self.now }
     {
@@ -47,22 +49,23 @@ impl LineFlaw {
             LineFlaw::Verdict => "bad verdict word\n",
             LineFlaw::Origin => BAD_ORIGIN,
             LineFlaw::Digest => BAD_DIGEST,
+            LineFlaw::TitleAlone => BAD_TITLE,
             LineFlaw::Words(text) => text.as_str(),
-            LineFlaw::Elsewhere => "error: this order stands in no script\n",
+            LineFlaw::Elsewhere => "error: this order can't be used in a script\n",
         }
     }
 }
 
-/// Why a text isn't a script.
+/// The reason why a text isn't a script.
 #[derive(Drop)]
 pub(crate) enum ScriptFault {
     /// An allocation failed.
     Memory,
-    /// The line of this number has this flaw.
+    /// The line with this number has this flaw.
     ScriptLine(usize, LineFlaw),
 }
 
-/// A line that isn't skipped: its number, from 1 on, and its words; None if a quote isn't closed.
+/// A line that isn't skipped: its number, starting from 1, and its words; None if a quote isn't closed.
 #[derive(Drop)]
 pub(crate) struct ScriptLine {
     number: usize,
@@ -76,14 +79,14 @@ pub(crate) struct TypedLine<'a> {
     words: Result<Vec<&'a str>, Garbled>,
 }
 
-/// An errand to run, and the number of its line if it is one of a script.
+/// An errand to run, and its line number if it is from a script.
 #[derive(Drop)]
 pub(crate) struct ScriptStep<'a> {
     pub(crate) line: Option<usize>,
     pub(crate) errand: Errand<'a>,
 }
 
-/// Returns those of the lines of a text that aren't skipped, with their numbers.
+/// Returns the lines that aren't skipped, with their numbers.
 fn numbered(alloc: Global, all: &[Vec<u8>]) -> Result<Vec<ScriptLine>, AllocError>
     ensures { IfOk result (λ lines. map line_entry lines.items ≡ numbered_from 1 (map (λ line. line.items) all.now)) }
 {
@@ -99,14 +102,14 @@ fn numbered(alloc: Global, all: &[Vec<u8>]) -> Result<Vec<ScriptLine>, AllocErro
     Ok(lines)
 }
 
-/// Returns the lines of a text that aren't skipped.
+/// Returns the lines of a text that aren't skipped, with their numbers.
 pub(crate) fn lines_in(alloc: Global, text: &[u8]) -> Result<Vec<ScriptLine>, AllocError>
     ensures { IfOk result (λ lines. map line_entry lines.items ≡ numbered_from 1 (lines_of text.now)) }
 {
     numbered(alloc, &lexer::lines_of(alloc, text)?)
 }
 
-/// Returns words as they would be typed, or that one isn't UTF-8.
+/// Returns words as they would be typed, or that one of them isn't UTF-8.
 fn texts_of<'a>(
     alloc: Global,
     words: &'a [Vec<u8>],
@@ -138,7 +141,7 @@ fn as_typed<'a>(alloc: Global, line: &'a ScriptLine) -> Result<TypedLine<'a>, Al
 }
 
 /// Returns lines as they would be typed.
-pub(crate) fn all_said<'a>(
+pub(crate) fn typed_lines<'a>(
     alloc: Global,
     lines: &'a [ScriptLine],
 ) -> Result<Vec<TypedLine<'a>>, AllocError>
@@ -154,7 +157,7 @@ pub(crate) fn all_said<'a>(
 /// Returns the errand of an order, if it has one.
 fn errand_of(order: Order<'_>) -> Option<Errand<'_>>
     ensures some { IfSome result (λ errand. order.entry ≡ Order.Perform (Task.InOffice (Job.Run errand))) }
-    ensures none { IfNone result (stands_in_script order.entry ≡ false) }
+    ensures none { IfNone result (is_allowed_in_script order.entry ≡ false) }
 {
     match order {
         Order::Perform(Task::InOffice(Job::Run(errand))) => Some(errand),
@@ -164,7 +167,7 @@ fn errand_of(order: Order<'_>) -> Option<Errand<'_>>
     }
 }
 
-/// Returns the errand that words mean, or what is wrong with them; None if an allocation failed.
+/// Returns the errand that the given words mean, or what is wrong with them. The error is None if an allocation failed.
 fn errand_in<'a>(alloc: Global, words: &'a [&'a str]) -> Result<Errand<'a>, Option<LineFlaw>>
     ensures ok { IfOk result (λ errand. Means (map (λ s. s.now) words.entry.now) errand) }
     ensures err { IfErr result (λ why. IfSome why (λ flaw. IsFlawOfWords (map (λ s. s.now) words.entry.now) flaw)) }
@@ -179,14 +182,15 @@ fn errand_in<'a>(alloc: Global, words: &'a [&'a str]) -> Result<Errand<'a>, Opti
         Err(WordsFault::Verdict) => Err(Some(LineFlaw::Verdict)),
         Err(WordsFault::Origin) => Err(Some(LineFlaw::Origin)),
         Err(WordsFault::Digest) => Err(Some(LineFlaw::Digest)),
+        Err(WordsFault::TitleAlone) => Err(Some(LineFlaw::TitleAlone)),
         Err(WordsFault::Words { status: 0, .. }) => Err(Some(LineFlaw::Elsewhere)),
         Err(WordsFault::Words { text, .. }) => Err(Some(LineFlaw::Words(text))),
     }
 }
 
-/// Returns the step of a line, or what is wrong with it.
+/// Returns the step that a line means, or what is wrong with the line.
 fn turn_in<'a, 'b>(alloc: Global, said: &'a TypedLine<'b>) -> Result<ScriptStep<'a>, ScriptFault>
-    ensures ok { IfOk result (λ turn. IsTurn (typed_line_entry said.entry.now) turn) }
+    ensures ok { IfOk result (λ turn. IsStep (typed_line_entry said.entry.now) turn) }
     ensures err { IfErr result (λ fault. IsFaultOfLine (typed_line_entry said.entry.now) fault) }
 {
     let words = match &said.words {
@@ -203,8 +207,8 @@ fn turn_in<'a, 'b>(alloc: Global, said: &'a TypedLine<'b>) -> Result<ScriptStep<
     }
 }
 
-/// Returns the steps of a script, one per line; or what is wrong with the first line that isn't one.
-pub(crate) fn turns_in<'a, 'b>(
+/// Returns the steps of a script, one per line, or what is wrong with the first line that isn't a step.
+pub(crate) fn script_steps<'a, 'b>(
     alloc: Global,
     lines: &'a [TypedLine<'b>],
 ) -> Result<Vec<ScriptStep<'a>>, ScriptFault>

@@ -8,32 +8,32 @@ ghost use Rattle.tables.specs.Reading.{OnlyReads};
 ghost use Rattle.store.specs.StateTables.{KeepsConnection};
 ghost use Rattle.office.specs.Answers.{WhenOpenAt};
 ghost use Rattle.desk.specs.Headline.{IsAnswered, IsSent};
-ghost use Rattle.desk.specs.Pages.{Tells, goes_on, outputs_of, page_for, page_kept, page_of, status_behind};
+ghost use Rattle.desk.specs.Pages.{Tells, goes_on, outputs_of, page_for, page_kept, page_of, combined_status};
 ghost use Rattle.desk.specs.Parts.{ComesTo, IsFound, IsOver};
 
 use crate::lines::{LineOutcome, tell};
-use office::{Answer, Office, Stop};
+use office::{Answer, Office, ReadError};
 use register::{Reply, Request};
 use sqlite::Alter;
 use store::Fault;
 use streams::Sink;
 
-/// Returns whether an order continues after a page of this status: after status 0, and with `keep_going` after a refusal.
+/// Returns true if an order continues after output with this status: after status 0, and with `keep_going` also after a refusal.
 pub(crate) fn goes_on(keep_going: bool, status: u8) -> bool
     ensures { result ≡ goes_on keep_going status }
 {
     status == 0 || (keep_going && status == 1)
 }
 
-/// Returns the status after one more page: the last one other than 0.
-pub(crate) fn status_behind(before: u8, status: u8) -> u8
-    ensures { result ≡ status_behind before status }
+/// Returns the combined status of a sequence after another status: the last nonzero one, or 0.
+pub(crate) fn combined_status(before: u8, status: u8) -> u8
+    ensures { result ≡ combined_status before status }
 {
     if status == 0 { before } else { status }
 }
 
-/// Returns the outcome of a request that was accepted before: its reply, with a note if the stored content differs from the request's.
-/// A fault of that read replaces the reply.
+/// Returns the outcome of a request that was accepted earlier: its reply, with a note if the stored content differs from the
+/// request's. If reading the stored content fails, the fault replaces the reply.
 fn kept_before<S: Alter>(office: &mut Office<S>, request: &Request, reply: Reply) -> LineOutcome
     ensures found { WhenOpenAt (state S.Store) office.old office.new
         (λ s. IsFound s (page_kept (string_bytes request.now.id) (string_bytes reply)) (Ok (is_kept_otherwise s request.now)) (page_of result)
@@ -46,12 +46,12 @@ fn kept_before<S: Alter>(office: &mut Office<S>, request: &Request, reply: Reply
             Ok(id) => LineOutcome::Noted { reply, id },
             Err(_) => LineOutcome::Failed(Fault::Memory),
         },
-        Err(Stop::Refused(refusal)) => LineOutcome::Refused(refusal),
-        Err(Stop::Fault(fault)) => LineOutcome::Failed(fault),
+        Err(ReadError::Refused(refusal)) => LineOutcome::Refused(refusal),
+        Err(ReadError::Fault(fault)) => LineOutcome::Failed(fault),
     }
 }
 
-/// Sends one request to an office, and returns its outcome.
+/// Sends a request to an office and returns its outcome.
 fn outcome_of<S: Alter>(office: &mut Office<S>, request: &Request) -> LineOutcome
     ensures told { WhenOpenAt (state S.Store) office.old office.new
         (λ s. (answered : ℕ) × IsAnswered (state S.Store office.old.held) office.new.closed (state S.Store office.new.held) page_for s request.now answered (page_of result)) }
@@ -66,10 +66,10 @@ fn outcome_of<S: Alter>(office: &mut Office<S>, request: &Request) -> LineOutcom
     }
 }
 
-/// Sends requests to an office in turn, and prints each reply, with a note if a request was accepted before with other content. The
-/// first fault ends it, and is printed too. So does the first output that fails; and, without `keep_going`, the first refusal. If the
-/// requests are those of a script's line, a refusal or fault is printed after that line's number. The status is the last one other
-/// than 0.
+/// Sends requests to an office one after another and prints each reply, with a note if a request was accepted earlier with
+/// different content. The sequence ends at the first fault, which is printed too; at the first output that fails; and, without
+/// `keep_going`, at the first refusal. If the requests come from a line of a script, a refusal or fault is printed after the line
+/// number. The status is the last nonzero one, or 0.
 pub(crate) fn send_all<S: Alter, O: Sink, E: Sink>(
     office: &mut Office<S>,
     keep_going: bool,
@@ -93,7 +93,7 @@ pub(crate) fn send_all<S: Alter, O: Sink, E: Sink>(
         if !goes_on(keep_going, status) {
             return status;
         }
-        ends = status_behind(ends, status);
+        ends = combined_status(ends, status);
     }
     ends
 }

@@ -1,4 +1,4 @@
-//! What comes next in the election of a ward, in a line with its candidates' names.
+//! What comes next in a ward's election, in one line with the candidates' names.
 
 ghost use Rattle.std.specs.Prelude.{◌≡◌, ◌++◌, IfOk, map, string_bytes};
 ghost use Rattle.sqlite.specs.Held.{state};
@@ -6,7 +6,7 @@ ghost use Rattle.register.specs.Offices.{candidate_entry};
 ghost use Rattle.register.specs.Status.{status_entry};
 ghost use Rattle.register.specs.NextSteps.{step_entry};
 ghost use Rattle.tables.specs.Reading.{OnlyReads};
-ghost use Rattle.office.specs.Reads.{next_told};
+ghost use Rattle.office.specs.Reads.{next_answer};
 ghost use Rattle.office.specs.Answers.{WhenOpenAt};
 ghost use Rattle.desk.specs.Parts.{IsFound};
 ghost use Rattle.desk.specs.Pages.{page_of, replied};
@@ -15,7 +15,7 @@ ghost use Rattle.desk.specs.Steps.{action_words, all_named, due_words, lot_words
 use crate::candidate_names::candidate_in;
 use crate::lines::LineOutcome;
 use count::{Action, Due, TiedFor};
-use office::{Office, Stop};
+use office::{Office, ReadError};
 use paper::Columns;
 use register::{Candidate, NextStep, Status};
 use sqlite::Alter;
@@ -25,7 +25,7 @@ use store::Fault;
 // ---- candidates
 
 #[tactic(auto, unfolding(crate::specs::Steps::named))]
-/// Returns a number and the name of its candidate: `3 Cy`.
+/// Returns a number and the name of the candidate with that number: `3 Cy`.
 fn named(alloc: Global, candidates: &[Candidate], number: u8) -> Result<String, AllocError>
     ensures { IfOk result (λ text. string_bytes text ≡ named (map candidate_entry candidates.now) number) }
 {
@@ -38,7 +38,7 @@ fn named(alloc: Global, candidates: &[Candidate], number: u8) -> Result<String, 
     }
 }
 
-/// Appends a candidate to others: `, 3 Cy`.
+/// Appends another candidate to a list: `, 3 Cy`.
 fn put_named(
     alloc: Global,
     text: &mut String,
@@ -53,7 +53,7 @@ fn put_named(
 }
 
 #[tactic(auto, unfolding(crate::specs::Steps::all_named))]
-/// Returns several candidates: `2 Bob, 3 Cy`.
+/// Returns a list of candidates: `2 Bob, 3 Cy`.
 fn all_named(
     alloc: Global,
     candidates: &[Candidate],
@@ -74,7 +74,7 @@ fn all_named(
 // ---- what is due in a count
 
 #[tactic(auto, unfolding(crate::specs::Steps::action_words))]
-/// Returns what a stage does, and with which candidates.
+/// Returns what a stage does, and which candidate it concerns.
 fn action_words(
     alloc: Global,
     candidates: &[Candidate],
@@ -110,7 +110,7 @@ fn lot_words(kind: TiedFor) -> &'static str
 }
 
 #[tactic(auto, unfolding(crate::specs::Steps::due_words))]
-/// Returns the stage that is due, the lot that it waits for, or that there is none.
+/// Returns the stage that is due, the lot that it needs, or that no stage is due.
 fn due_words(
     alloc: Global,
     stage: u32,
@@ -137,7 +137,7 @@ fn due_words(
 // ---- what comes next
 
 #[tactic(auto, unfolding(crate::specs::Steps::nominations_words))]
-/// Returns how many candidates there are for how many seats, before the nominations are closed.
+/// Returns how many candidates there are for how many seats, before nominations close.
 fn nominations_words(alloc: Global, candidates: usize, seats: u32) -> Result<String, AllocError>
     ensures { IfOk result (λ text. string_bytes text ≡ nominations_words candidates seats) }
 {
@@ -147,7 +147,8 @@ fn nominations_words(alloc: Global, candidates: usize, seats: u32) -> Result<Str
 }
 
 #[tactic(auto, unfolding(crate::specs::Steps::seal_words))]
-/// Returns what the seal of a ward waits for: it is due once all batches are taken, and all their doubtful papers have a verdict.
+/// Returns what the seal of a ward is waiting for. The seal is due once all batches are taken and all their doubtful papers have
+/// a verdict.
 fn seal_words(status: &Status) -> &'static str
     ensures { result.now ≡ seal_words (status_entry status.now) }
 {
@@ -170,7 +171,7 @@ fn taken_words(alloc: Global, status: &Status) -> Result<String, AllocError>
 }
 
 #[tactic(auto, unfolding(crate::specs::Steps::papers_words))]
-/// Returns the state of the papers of a ward, before its seal.
+/// Returns the state of a ward's papers before its seal.
 fn papers_words(alloc: Global, status: &Status) -> Result<String, AllocError>
     ensures { IfOk result (λ text. string_bytes text ≡ papers_words (status_entry status.now)) }
 {
@@ -180,7 +181,7 @@ fn papers_words(alloc: Global, status: &Status) -> Result<String, AllocError>
 }
 
 #[tactic(auto, unfolding(crate::specs::Steps::step_words))]
-/// Returns what comes next, in words.
+/// Returns the words for what comes next.
 fn step_words(alloc: Global, step: &NextStep) -> Result<String, AllocError>
     ensures { IfOk result (λ text. string_bytes text ≡ step_words (step_entry step.now)) }
 {
@@ -199,7 +200,7 @@ fn step_words(alloc: Global, step: &NextStep) -> Result<String, AllocError>
 }
 
 #[tactic(auto, unfolding(crate::specs::Steps::step_text))]
-/// Returns the line on what comes next in a ward, without its end.
+/// Returns the line that says what comes next in a ward's election, without its newline.
 fn step_text(alloc: Global, ward: u32, step: &NextStep) -> Result<String, AllocError>
     ensures { IfOk result (λ text. string_bytes text ≡ step_text ward (step_entry step.now)) }
 {
@@ -207,10 +208,10 @@ fn step_text(alloc: Global, ward: u32, step: &NextStep) -> Result<String, AllocE
     format!(in alloc; "ward {ward}: {words}")
 }
 
-/// Returns what comes next in a ward, in words; or why it isn't available.
+/// Returns the words for what comes next in a ward's election, or the reason why they aren't available.
 pub(crate) fn next_of<S: Alter>(alloc: Global, office: &mut Office<S>, ward: u32) -> LineOutcome
     ensures found { WhenOpenAt (state S.Store) office.old office.new
-        (λ s. IsFound s (λ step. replied (step_text ward step)) (next_told s ward) (page_of result) office.new.closed (state S.Store office.old.held) (state S.Store office.new.held)) }
+        (λ s. IsFound s (λ step. replied (step_text ward step)) (next_answer s ward) (page_of result) office.new.closed (state S.Store office.old.held) (state S.Store office.new.held)) }
     ensures same { OnlyReads (state S.Store office.old.held) (state S.Store office.new.held) }
 {
     match office.next_step(ward) {
@@ -218,7 +219,7 @@ pub(crate) fn next_of<S: Alter>(alloc: Global, office: &mut Office<S>, ward: u32
             Ok(text) => LineOutcome::Replied(text),
             Err(_) => LineOutcome::Failed(Fault::Memory),
         },
-        Err(Stop::Refused(refusal)) => LineOutcome::Refused(refusal),
-        Err(Stop::Fault(fault)) => LineOutcome::Failed(fault),
+        Err(ReadError::Refused(refusal)) => LineOutcome::Refused(refusal),
+        Err(ReadError::Fault(fault)) => LineOutcome::Failed(fault),
     }
 }

@@ -1,4 +1,4 @@
-//! The words of verdicts.
+//! Parsing the words for verdicts.
 
 ghost use Rattle.std.specs.Prelude.{◌≡◌, option_map, IfOk, Some};
 ghost use Rattle.desk.specs.Verdicts.{behind, judgement_given, judgement_in, rejection_in};
@@ -13,7 +13,7 @@ fn behind<'a>(front: &str, text: &'a str) -> Option<&'a str>
     text.strip_prefix(front)
 }
 
-/// Returns a rejection for the reason with a code.
+/// Returns a rejection for the reason with this code.
 fn rejection_in(code: &str) -> Option<Verdict>
     ensures { option_map judgement_given result ≡ rejection_in (Some code.now) }
 {
@@ -23,7 +23,7 @@ fn rejection_in(code: &str) -> Option<Verdict>
     }
 }
 
-/// Parses the verdict in a word, if there is one, and copies its marks.
+/// Parses a word as a verdict and copies its marks. Returns None if the word isn't a verdict.
 pub(crate) fn verdict_in(alloc: Global, text: &str) -> Result<Option<Verdict>, AllocError>
     ensures { IfOk result (λ verdict. option_map judgement_given verdict ≡ judgement_in text.now) }
 {

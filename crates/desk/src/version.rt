@@ -1,4 +1,4 @@
-//! The versions of the program and of the offices that it makes.
+//! The versions of the program and of the offices that it creates.
 
 ghost use Rattle.std.specs.Prelude.{◌≡◌, IfOk, string_bytes};
 ghost use Rattle.store.specs.EntryRows.{this_version};
@@ -6,17 +6,17 @@ ghost use Rattle.desk.specs.Versions.{version_text};
 
 use std::alloc::{AllocError, Global};
 
-/// The version of the program. It is defined only here: the scripts that make a release read it from this line.
-pub const VERSION: &str = "1.8.0";
+/// The version of the program. It is defined only here; the scripts that build a release read it from this line.
+pub const VERSION: &str = "1.9.0";
 
-/// Returns the version of the offices that the program makes and opens: that of their tables.
+/// Returns the version of the offices that the program creates and opens, which is the version of their tables.
 fn office_version() -> u32
     ensures { result ≡ this_version }
 {
     2
 }
 
-/// Returns what is printed for the version: the program's, and that of its offices.
+/// Returns what is printed when the version is requested: the version of the program and that of its offices.
 pub(crate) fn version_text(alloc: Global) -> Result<String, AllocError>
     ensures { IfOk result (λ text. string_bytes text ≡ version_text) }
 {

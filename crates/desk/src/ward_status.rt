@@ -1,17 +1,17 @@
-//! The status of the election of a ward, in a line.
+//! The status of a ward's election, in one line.
 
 ghost use Rattle.std.specs.Prelude.{◌≡◌, IfOk, string_bytes};
 ghost use Rattle.sqlite.specs.Held.{state};
 ghost use Rattle.register.specs.Status.{status_entry};
 ghost use Rattle.tables.specs.Reading.{OnlyReads};
-ghost use Rattle.office.specs.Reads.{status_told};
+ghost use Rattle.office.specs.Reads.{status_answer};
 ghost use Rattle.office.specs.Answers.{WhenOpenAt};
 ghost use Rattle.desk.specs.Parts.{IsFound};
 ghost use Rattle.desk.specs.Pages.{page_of, replied};
 ghost use Rattle.desk.specs.WardStatus.{batch_words, count_words, phase_word, status_text, ward_words};
 
 use crate::lines::LineOutcome;
-use office::{Office, Stop};
+use office::{Office, ReadError};
 use register::{Phase, Status};
 use sqlite::Alter;
 use std::alloc::{AllocError, Global};
@@ -29,7 +29,7 @@ pub(crate) fn phase_word(phase: Phase) -> &'static str
 }
 
 #[tactic(auto, unfolding(crate::specs::WardStatus::ward_words))]
-/// Returns the ward, its phase and its candidates in words.
+/// Returns the number and phase of the ward, and how many candidates it has.
 fn ward_words(alloc: Global, status: &Status) -> Result<String, AllocError>
     ensures { IfOk result (λ text. string_bytes text ≡ ward_words (status_entry status.now)) }
 {
@@ -39,7 +39,7 @@ fn ward_words(alloc: Global, status: &Status) -> Result<String, AllocError>
 }
 
 #[tactic(auto, unfolding(crate::specs::WardStatus::batch_words))]
-/// Returns its batches in words.
+/// Returns how many batches the ward has, how many of them are taken, and how many differ.
 fn batch_words(alloc: Global, status: &Status) -> Result<String, AllocError>
     ensures { IfOk result (λ text. string_bytes text ≡ batch_words (status_entry status.now)) }
 {
@@ -48,7 +48,7 @@ fn batch_words(alloc: Global, status: &Status) -> Result<String, AllocError>
 }
 
 #[tactic(auto, unfolding(crate::specs::WardStatus::count_words))]
-/// Returns what is open, and how far its count is.
+/// Returns how many doubtful papers are open, and how many stages have been counted.
 fn count_words(alloc: Global, status: &Status) -> Result<String, AllocError>
     ensures { IfOk result (λ text. string_bytes text ≡ count_words (status_entry status.now)) }
 {
@@ -57,7 +57,7 @@ fn count_words(alloc: Global, status: &Status) -> Result<String, AllocError>
 }
 
 #[tactic(auto, unfolding(crate::specs::WardStatus::status_text))]
-/// Returns the status line of a ward, without its end.
+/// Returns the status line of a ward, without its newline.
 pub(crate) fn status_text(alloc: Global, status: &Status) -> Result<String, AllocError>
     ensures { IfOk result (λ text. string_bytes text ≡ status_text (status_entry status.now)) }
 {
@@ -67,10 +67,10 @@ pub(crate) fn status_text(alloc: Global, status: &Status) -> Result<String, Allo
     format!(in alloc; "{ward}, {batches}, {count}")
 }
 
-/// Returns the status of a ward in words, or why it isn't available.
+/// Returns a ward's status in words, or the reason why it isn't available.
 pub(crate) fn standing_of<S: Alter>(alloc: Global, office: &mut Office<S>, ward: u32) -> LineOutcome
     ensures found { WhenOpenAt (state S.Store) office.old office.new
-        (λ s. IsFound s (λ status. replied (status_text status)) (status_told s ward) (page_of result) office.new.closed (state S.Store office.old.held) (state S.Store office.new.held)) }
+        (λ s. IsFound s (λ status. replied (status_text status)) (status_answer s ward) (page_of result) office.new.closed (state S.Store office.old.held) (state S.Store office.new.held)) }
     ensures same { OnlyReads (state S.Store office.old.held) (state S.Store office.new.held) }
 {
     match office.status(ward) {
@@ -78,7 +78,7 @@ pub(crate) fn standing_of<S: Alter>(alloc: Global, office: &mut Office<S>, ward:
             Ok(text) => LineOutcome::Replied(text),
             Err(_) => LineOutcome::Failed(Fault::Memory),
         },
-        Err(Stop::Refused(refusal)) => LineOutcome::Refused(refusal),
-        Err(Stop::Fault(fault)) => LineOutcome::Failed(fault),
+        Err(ReadError::Refused(refusal)) => LineOutcome::Refused(refusal),
+        Err(ReadError::Fault(fault)) => LineOutcome::Failed(fault),
     }
 }

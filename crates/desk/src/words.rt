@@ -1,9 +1,9 @@
-//! The words of the command line, parsed to an order.
+//! Parsing the words of the command line into an order.
 
 ghost use Rattle.std.specs.Prelude.{◌≡◌, ◌≢◌, ◌⊎◌, ◌∷◌, true, false, [], Some, map, string_bytes, IfOk, IfErr};
 ghost use Rattle.clap.specs.Words.{app_of, rule_of, subcommand_of, takes, with_rule, with_subcommand};
 ghost use Rattle.clap.specs.declared.builder.command.Command.TheViews.{out-Command as fields_of};
-ghost use Rattle.desk.specs.Orders.{no_digest, no_origin, no_verdict, told, words_of};
+ghost use Rattle.desk.specs.Orders.{no_digest, no_origin, no_verdict, title_alone, told, words_of};
 ghost use Rattle.desk.specs.Versions.{version_text};
 ghost use Rattle.desk.specs.Words.{IsNoneMeant, IsOwnText, IsToldOf, TellsOwnText, TellsRefusal, meaning, status_of_kind, wrong_with};
 ghost use Rattle.desk.specs.Words.{office_words, order_words, rule_of_kind, start_words, with_orders};
@@ -26,60 +26,66 @@ candidates, their batches of papers as the clerks keyed them, and a receipt of e
 that it accepted: the same request, sent again under the same id, prints the same reply and
 changes nothing.";
 
-/// The end of the help: the orders of [`Heading::Office`] and of [`Heading::Everyone`], and the outcomes of orders.
+/// The end of the help text: the orders of [`Heading::Office`] and of [`Heading::Everyone`], and the outcomes of orders.
 const END_OF_HELP: &str =
-    "For the office alone. The first seven change nothing, and no clerk is to see what they print:
-  wards              How each ward stands, and what is left to do
-  batches WARD       Who has keyed each batch of a ward, how it stands, and which other
+    "For the office alone. The first seven change nothing, and no clerk may see what they print:
+  wards              The status of each ward, and what is left to do
+  batches WARD       Who has keyed each batch of a ward, its status, and which other
                      batch has the very same papers
   doubtful WARD      Which papers of a ward are doubtful, each open or with its verdict
   differences BATCH  On which papers a batch differs
   papers BATCH       How each paper of a taken batch counts, with the candidates' names
-  receipts [ACTOR]   What was kept, under which id: of an actor, 0 for the office, or of all
-  journal            What was kept, as a script of orders that makes the same office anew
-  replay FILE        Sends the orders of a text file, a line each, up to a refusal
+  receipts [ACTOR]   What was accepted, by id: of an actor, 0 for the office, or of all
+  journal            What was accepted, as a script of orders that makes the same office
+  replay FILE        Sends the orders of a text file, one per line, up to a refusal
   copy NEW           Makes a copy of the office, in a file that isn't there yet
-  codes FILE CLERKS  Writes a new file of codes for clerks, as 1-40, to be cut into slips
+  codes FILE CLERKS  Writes a new file of codes for clerks, such as 1-40, to cut into slips
 
 For everyone who wants to see or check a count, once the ward is sealed:
   ballots WARD       Its ballots, in a form that counting programs read (BLT)
   page WARD          Its result as a page for a browser, to print and sign (HTML)
   table WARD         Its stages as a table for a spreadsheet (CSV)
-  index              How all wards stand, sealed or not, and who is elected, as a page
+  index              The status of all wards, sealed or not, and who is elected, as a page
                      to hang at the door (HTML)
 
-An example stands under each order. Its words, with their ranges, are shown by
+Each order's help ends with an example. Its words, with their ranges, are shown by
   count-office DB ORDER --help
 
 A reply goes to standard output, with status 0. What the office refuses goes to standard
 error, with status 1; words that are not understood with 2, and faults with 3.
 
-docs/ELECTION.md leads through an election, order by order. docs/REFUSALS.md says what each
-refusal and each fault means, and what to do about it.";
+docs/officer/by-words.md leads through an election, order by order.
+docs/officer/when-it-says-no.md says what refusals and faults mean, and what to do.";
 
-/// What is printed for words that aren't understood, if nothing else is.
+/// The fallback message for words that aren't understood.
 const NOT_UNDERSTOOD: &str = "error: the words are not understood\n";
 
-/// What is printed if the word after `--origin` is invalid.
+/// The message for an invalid word after `--origin`.
 pub(crate) const BAD_ORIGIN: &str =
     "error: an origin is http:// or https://, a host in small letters, and its port where it isn't the usual one, as https://count.example.org\n";
 
-/// What is printed if the word after `--sha256` is invalid.
+/// The message for an invalid word after `--sha256`.
 pub(crate) const BAD_DIGEST: &str =
     "error: a digest is 64 hexadecimal digits, as sha256sum prints them\n";
 
-/// Why the words aren't an order.
+/// The message for a title without `--public`.
+pub(crate) const BAD_TITLE: &str =
+    "error: --title is the title of what is shown in public, so it needs --public\n";
+
+/// The reason why the words aren't an order.
 #[derive(Drop)]
 pub enum WordsFault {
     /// An allocation failed.
     Memory,
-    /// The word of a verdict is invalid.
+    /// The word for a verdict is invalid.
     Verdict,
     /// The word after `--origin` is invalid.
     Origin,
     /// The word after `--sha256` is invalid.
     Digest,
-    /// The text to print, and the exit status: 0 if help was asked for, and 2 if the words aren't understood.
+    /// `--title` is given without `--public`.
+    TitleAlone,
+    /// The text to print and the exit status: 0 if help was requested, 2 if the words aren't understood.
     Words { text: String, status: u8 },
 }
 
@@ -106,12 +112,16 @@ fn arg_of<'a>(alloc: Global, word: Word) -> Arg<'a>
         Kind::CodesFile => arg.long(word.name).value_name("FILE"),
         Kind::Title => arg.long(word.name).value_name("TEXT"),
         Kind::Digest => arg.long(word.name).value_name("HEX"),
+        Kind::Papers => {
+            let arg = arg.long(word.name).value_name("COUNT");
+            arg.value_parser(value_parser!(u32))
+        }
         Kind::Texts => arg.action(ArgAction::Append),
         Kind::Flag => arg.long(word.name).action(ArgAction::SetTrue),
     }
 }
 
-/// Adds a word to those of a command.
+/// Adds a word to a command.
 fn with_word<'a>(alloc: Global, command: Command<'a>, word: Word) -> Result<Command<'a>, AllocError>
     ensures app { IfOk result (λ c. app_of c ≡ with_rule (app_of command.entry) (rule_of_kind word.kind word.name.now)) }
     ensures local { (fields_of command.entry).has_globals ≡ false → IfOk result (λ c. (fields_of c).has_globals ≡ false) }
@@ -119,7 +129,7 @@ fn with_word<'a>(alloc: Global, command: Command<'a>, word: Word) -> Result<Comm
     command.arg(arg_of(alloc, word))
 }
 
-/// Returns the command that parses the words of one order.
+/// Returns the `clap` command for a single order.
 fn order_command<'a>(alloc: Global, entry: Entry) -> Result<Command<'a>, AllocError>
     ensures app { IfOk result (λ c. app_of c ≡ order_words (words_of entry)) }
     ensures local { IfOk result (λ c. (fields_of c).has_globals ≡ false) }
@@ -146,7 +156,7 @@ fn start_command<'a>(alloc: Global) -> Command<'a>
         .disable_help_subcommand(true)
 }
 
-/// Makes usage show the program's name in place of DB.
+/// Makes the usage line show the program's name in place of DB.
 fn named<'a>(command: Command<'a>) -> Result<Command<'a>, AllocError>
     ensures app { IfOk result (λ c. app_of c ≡ app_of command.entry) }
     ensures local { (fields_of command.entry).has_globals ≡ false → IfOk result (λ c. (fields_of c).has_globals ≡ false) }
@@ -165,7 +175,7 @@ fn with_order<'a>(
     command.subcommand(order_command(alloc, entry)?)
 }
 
-/// Adds the orders of a table.
+/// Adds the orders of a table to a command.
 fn with_orders<'a>(
     alloc: Global,
     mut command: Command<'a>,
@@ -181,7 +191,7 @@ fn with_orders<'a>(
 }
 
 #[tactic(auto, unfolding(crate::specs::Words::office_words))]
-/// Returns the command that parses the words.
+/// Returns the `clap` command for all orders.
 fn office_command<'a>(alloc: Global) -> Result<Command<'a>, AllocError>
     ensures app { IfOk result (λ c. app_of c ≡ office_words) }
     ensures local { IfOk result (λ c. (fields_of c).has_globals ≡ false) }
@@ -190,7 +200,7 @@ fn office_command<'a>(alloc: Global) -> Result<Command<'a>, AllocError>
     with_orders(alloc, command, entries_from_seal())
 }
 
-/// Returns the exit status if words ask for help or the version, or aren't understood.
+/// Returns the exit status for words that ask for help or the version, or that aren't understood.
 fn status_of(kind: ErrorKind) -> u8
     ensures { result ≡ status_of_kind kind }
 {
@@ -200,7 +210,7 @@ fn status_of(kind: ErrorKind) -> u8
     }
 }
 
-/// Returns what a value displays; if that is empty, that the words aren't understood.
+/// Returns the displayed text of a value, or the fallback message if that text is empty.
 fn text_of<D: Display>(alloc: Global, shown: &D) -> Result<String, AllocError>
     ensures some { IfOk result (λ text. string_bytes text ≢ []) }
     ensures own { IfOk result (λ text. IsOwnText (D.output shown.now) (string_bytes text)) }
@@ -213,9 +223,10 @@ fn text_of<D: Display>(alloc: Global, shown: &D) -> Result<String, AllocError>
     }
 }
 
-/// Returns what is printed for words that `clap` rejects: the text that its error displays, by the kind of the error.
+/// Returns what is printed for words that `clap` rejects: the text that its error displays, with the status for the kind of error.
 ///
-/// `clap` guarantees nothing about that text. So the error is any value that displays itself, of which nothing else is known.
+/// `clap` guarantees nothing about that text, so the error may be any value that implements Display, and nothing else is assumed
+/// about it.
 fn refused<D: Display>(alloc: Global, kind: ErrorKind, shown: &D) -> WordsFault
     ensures memory { kind ≡ ErrorKind.OutOfMemory → result ≡ WordsFault.Memory }
     ensures told { TellsRefusal kind result }
@@ -233,7 +244,7 @@ fn refused<D: Display>(alloc: Global, kind: ErrorKind, shown: &D) -> WordsFault
     }
 }
 
-/// Returns what is printed for the version.
+/// Returns what is printed when the version is requested.
 fn version_told(alloc: Global) -> WordsFault
     ensures told { TellsRefusal ErrorKind.DisplayVersion result }
     ensures text { TellsOwnText (Some version_text) result }
@@ -244,7 +255,8 @@ fn version_told(alloc: Global) -> WordsFault
     }
 }
 
-/// Returns what is printed for words that `clap` rejects: the version if they ask for it, and else what its error displays.
+/// Returns what is printed for words that `clap` rejects: the version if they ask for it, otherwise the text that its error
+/// displays.
 fn denied(alloc: Global, kind: ErrorKind, error: &Error) -> WordsFault
     ensures memory { kind ≡ ErrorKind.OutOfMemory → result ≡ WordsFault.Memory }
     ensures told { TellsRefusal kind result }
@@ -256,12 +268,12 @@ fn denied(alloc: Global, kind: ErrorKind, error: &Error) -> WordsFault
     refused(alloc, kind, error)
 }
 
-/// Parses the words, the first of which is DB, to an order.
+/// Parses the words, the first of which is DB, into an order.
 ///
 /// The order and its values are those that `clap` matches in the words, according to the table of orders. Words that `clap` accepts
-/// are refused only if an allocation fails, or if the word of a verdict, an origin or a digest is invalid. Words that it rejects
-/// aren't an order. A text that isn't empty is printed for them. Its status is 0 if the first thing wrong with them is that they ask
-/// for help or the version, and else 2. Or an allocation failure is reported.
+/// are refused only if an allocation fails, if a verdict, an origin or a digest is invalid, or if `serve` is given a title but
+/// shows nothing in public. Words that `clap` rejects aren't an order: a nonempty text is printed for them, with status 0 if their
+/// first error is that they ask for help or the version, and with status 2 otherwise. If an allocation fails, that is reported.
 pub fn order<'a>(alloc: Global, words: &'a [&'a str]) -> Result<Order<'a>, WordsFault>
     ensures accepts { IfOk result (λ _. wrong_with (map (λ s. s.now) words.entry.now) ≡ []) }
     ensures denies { IfErr result (IsToldOf (wrong_with (map (λ s. s.now) words.entry.now))) }
@@ -271,7 +283,8 @@ pub fn order<'a>(alloc: Global, words: &'a [&'a str]) -> Result<Order<'a>, Words
     ensures err { takes office_words (map (λ s. s.now) words.entry.now) ≡ true → IfErr result (λ e. (e ≡ WordsFault.Memory)
         ⊎ (((e ≡ WordsFault.Verdict) × (meaning (subcommand_of office_words (map (λ s. s.now) words.entry.now)) ≡ Some no_verdict))
         ⊎ (((e ≡ WordsFault.Origin) × (meaning (subcommand_of office_words (map (λ s. s.now) words.entry.now)) ≡ Some no_origin))
-        ⊎ ((e ≡ WordsFault.Digest) × (meaning (subcommand_of office_words (map (λ s. s.now) words.entry.now)) ≡ Some no_digest))))) }
+        ⊎ (((e ≡ WordsFault.Digest) × (meaning (subcommand_of office_words (map (λ s. s.now) words.entry.now)) ≡ Some no_digest))
+        ⊎ ((e ≡ WordsFault.TitleAlone) × (meaning (subcommand_of office_words (map (λ s. s.now) words.entry.now)) ≡ Some title_alone)))))) }
 {
     let command = match office_command(alloc) {
         Ok(command) => command,
@@ -287,6 +300,7 @@ pub fn order<'a>(alloc: Global, words: &'a [&'a str]) -> Result<Order<'a>, Words
         Err(NoOrder::BadVerdict) => Err(WordsFault::Verdict),
         Err(NoOrder::BadOrigin) => Err(WordsFault::Origin),
         Err(NoOrder::BadDigest) => Err(WordsFault::Digest),
+        Err(NoOrder::TitleAlone) => Err(WordsFault::TitleAlone),
         Err(NoOrder::Unknown) => Err(WordsFault::Words {
             text: String::new(alloc),
             status: 2,

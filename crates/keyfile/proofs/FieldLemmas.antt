@@ -1,4 +1,4 @@
--- The texts in fields.
+-- The fields of a record as texts.
 use Rattle.std.proofs.Common.{◌≡◌, ◌∙◌, ◌<◌, ◌+◌, ◌∷◌, ◌++◌, ℕ, Bool, true, false, List, [], length, get_or, map, take, Option, Some, None, refl, sym, ap, Bor}
 use Rattle.std.specs.Prelude.{option_map, unwrap_or, IsUtf8}
 use Rattle.std.specs.List.{list_all}
@@ -23,11 +23,11 @@ no_text field not_text = by_test (is_utf8 field) refl
     by_test true is = absurd (not_text (IsUtf8-from_is_utf8 field is))
     by_test false is = refl
 
--- a field that isn't UTF-8
+-- a field isn't UTF-8
 pub not_all_text : (fields : Record) (i : ℕ) (field : List ℕ) → i < length fields → field ≡ get_or fields i [] → ¬ (IsUtf8 field) → list_all is_utf8 fields ≡ false
 not_all_text fields i field there is not_text = list_all_at is_utf8 fields i [] there (ap is_utf8 (sym is) ∙ no_text field not_text)
 
--- one more text
+-- another text was appended
 pub texts_more : (fields : Record) (i : ℕ) (texts : List (Bor (List ℕ))) (text : Bor (List ℕ)) → i < length fields → map (λ t. t.now) texts ≡ take i fields → text.now ≡ get_or fields i []
     → map (λ t. t.now) (texts ++ text ∷ []) ≡ take (i + 1) fields
 texts_more fields i texts text there are is =

@@ -1,11 +1,11 @@
--- The words of a flaw, in the pieces that are printed one after the other.
+-- The text of a flaw is the concatenation of the pieces that are printed one after another.
 use Rattle.std.proofs.Common.{◌≡◌, ◌∙◌, ◌++◌, ℕ, List, codes, refl, sym, ap, append_assoc}
 use Rattle.std.specs.Fmt.{decimal}
 use Rattle.keyfile.specs.Faults.{flaw_batch, flaw_between, flaw_clerk, flaw_text, flaw_words}
 use Rattle.keyfile.specs.declared.fault.Flaw.{Flaw}
 use Rattle.keyfile.specs.declared.fault.Flaw.TheVariants.{Header, RecordLength, Number, PaperOrder, Marks, NotUtf8, TooManyRecords, ReadFailed, Memory, OtherKeying, OtherFile}
 
--- its pieces, followed by a rest
+-- the pieces of a flaw, followed by other text
 pub flaw_in_pieces : (flaw : Flaw) (rest : List ℕ) → flaw_words flaw ++ (flaw_batch flaw ++ (flaw_between flaw ++ (flaw_clerk flaw ++ rest))) ≡ flaw_text flaw ++ rest
 flaw_in_pieces Header rest = refl
 flaw_in_pieces RecordLength rest = refl

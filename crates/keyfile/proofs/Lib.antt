@@ -1,4 +1,4 @@
--- What the proofs of the readers share.
+-- Lemmas shared by the proofs for the readers.
 pub mod KeyedLemmas
 pub mod MarkLemmas
 pub mod FieldLemmas

@@ -15,7 +15,7 @@ use Rattle.keyfile.specs.Reading.{Known}
 use Rattle.keyfile.specs.Records.{Record, file_records}
 use Rattle.keyfile.proofs.RecordLemmas.{file-begins, file-whole}
 
--- no record was read of a newly opened file
+-- no records have been read from a newly opened file
 pub opened : (bytes : Option (List ℕ)) (s : State) → s ≡ st.StartRecord → Follows bytes [] s (option_map strip_bom bytes)
 unfolding Reached
 opened None s e = tt
@@ -52,7 +52,7 @@ module _ {R : Type 0} (rem : R → Option (List ℕ)) where
       let (z, at_z, reached) = rows-more rem a b fields default_config st.StartRecord (strip_bom xs) ys records after.config is h read in
       rw at_z reached
 
-  -- a read that returned a record
+  -- the effect of a read that returned a record
   pub read-more : (a b : Reader R) (bytes : Option (List ℕ)) (records : List Record) (fields : Record) → IsAfter rem bytes records a → ReadRecord rem a b true fields
       → ReadsOn a b → has_failed b ≡ has_failed a → IsNext rem bytes records fields b
   read-more a b bytes records fields after read on failed =
@@ -71,7 +71,7 @@ module _ {R : Type 0} (rem : R → Option (List ℕ)) where
         even = next.1;
       }
 
-  -- a read that returned none
+  -- the effect of a read that returned no record
   pub read-end : (a b : Reader R) (bytes : Option (List ℕ)) (records : List Record) (fields : Record) → IsAfter rem bytes records a → ReadRecord rem a b false fields
       → Known bytes (λ xs. file_records xs ≡ records)
   read-end a b bytes records fields after read = by_bytes bytes (source_of rem a) (pending_of (rem b.rdr) b) (rw after.config at read.0) after.follows
@@ -87,7 +87,7 @@ module _ {R : Type 0} (rem : R → Option (List ℕ)) where
       by_bytes (Some xs) (Some ys) None t h = absurd t
       by_bytes (Some xs) (Some ys) (Some zs) t h = file-whole xs records a.state ys h (ended _ _ _ t)
 
-  -- the file's records begin with those that were read
+  -- the file's records begin with the ones that were read
   pub after-begins : (a : Reader R) (bytes : Option (List ℕ)) (records : List Record) → IsAfter rem bytes records a → Known bytes (λ xs. Begins xs records)
   after-begins a bytes records after = by_bytes bytes (source_of rem a) after.follows
     where
@@ -108,7 +108,7 @@ module _ {R : Type 0} (rem : R → Option (List ℕ)) where
       by_bytes (Some xs) (Some ys) (Some zs) t h =
           (fields, n, file-begins xs (records ++ fields ∷ []) b.state zs (reached_next st.StartRecord a.state b.state (strip_bom xs) ys zs records fields h t), sym after.length ∙ expected, differs)
 
-  -- a read that failed
+  -- the effect of a read that failed
   pub read-failed : (a b : Reader R) (bytes : Option (List ℕ)) (records : List Record) (k : ErrorKind) → IsAfter rem bytes records a
       → ExplainsRead rem a b false k → EndsBefore bytes records (flaw_of k)
   read-failed a b bytes records (kind.UnequalLengths pos expected len) after why =

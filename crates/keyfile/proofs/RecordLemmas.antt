@@ -1,4 +1,4 @@
--- The records that a reader returned one by one are the first of its file's records.
+-- The records that a reader returned one by one are the first records of its file.
 use Rattle.std.proofs.Common.{◌≡◌, ◌∙◌, ◌<◌, ◌≤◌, ◌+◌, ◌++◌, ◌∷◌, ℕ, zero, suc, Bool, true, false, List, [], length, Some, None, refl, sym, ap, arith, inl, inr, cond}
 use Rattle.std.specs.Prelude.{◌⊎◌}
 use Rattle.std.proofs.lemmas.List.{append-nil}
@@ -38,7 +38,7 @@ takes cfg s fields field b (c ∷ rest) p is =
     by_end true is ih = let same : c ∷ rest ≡ p.2 = cc in rw (← same) (omega arith)
     by_end false is ih = let shorter = ih is in omega (arith, shorter)
 
--- enough steps for the records of these bytes: one more than there are bytes; none if there is no record
+-- enough steps for the records in the given bytes: one more than there are bytes, or none if there is no record
 abbrev Suffices : ℕ → State → List ℕ → Type 0
 Suffices n s xs = (length xs < n) ⊎ ((xs ≡ []) × (ends_at_end s ≡ false))
 
@@ -78,7 +78,7 @@ reached-begins : (bytes : List ℕ) (records : List Record) (s : State) (ys : Li
     → (m : ℕ) × (file_records bytes ≡ records ++ records_from default_config m s ys)
 reached-begins bytes records s ys h = begins default_config (length (strip_bom bytes) + 1) st.StartRecord (strip_bom bytes) records s ys (inl (omega arith)) h
 
--- the records so far
+-- the records read so far are the first ones of the file
 pub file-begins : (bytes : List ℕ) (records : List Record) (s : State) (ys : List ℕ) → Reached default_config st.StartRecord (strip_bom bytes) records s ys
     → Begins bytes records
 file-begins bytes records s ys h = let (m, is) = reached-begins bytes records s ys h in (records_from default_config m s ys, is)
@@ -88,7 +88,7 @@ unfolding records_from
 no_more records s ys zero end = append-nil records
 no_more records s ys (suc m) end = rw end (append-nil records)
 
--- and all of them, if no other follows
+-- the records read so far are all the records of the file if no other record follows
 pub file-whole : (bytes : List ℕ) (records : List Record) (s : State) (ys : List ℕ) → Reached default_config st.StartRecord (strip_bom bytes) records s ys
     → next_record default_config s [] [] ys ≡ None → file_records bytes ≡ records
 file-whole bytes records s ys h end = let (m, is) = reached-begins bytes records s ys h in is ∙ no_more records s ys m end

@@ -1,9 +1,10 @@
--- Import files in computed examples: their rows, and their faults.
+-- Computed examples of import files: their rows and their faults.
 use Rattle.std.proofs.Common.{◌≡◌, ℕ, List, [], ◌∷◌, ◌++◌, codes, Result, Ok, Err, refl}
 use Rattle.std.specs.Str.{chars, is_utf8}
 use lib.Utf8.{encode}
 use Rattle.csv.specs.Machine.{next_record}
 use Rattle.csv.specs.Reading.{records_from, strip_bom}
+use Rattle.keyfile.specs.Batches.{BatchRowEntry, batches}
 use Rattle.keyfile.specs.Candidates.{CandidateEntry, candidates}
 use Rattle.keyfile.specs.Files.{fault_at, file_rows}
 use Rattle.keyfile.specs.Keying.{keying}
@@ -11,16 +12,19 @@ use Rattle.keyfile.specs.Records.{file_records}
 use Rattle.keyfile.specs.declared.fault.FileFault.{FileFault}
 use Rattle.keyfile.specs.declared.fault.Flaw.TheVariants.{Header, RecordLength, Number, PaperOrder, Marks, NotUtf8, OtherKeying}
 
--- clerk 4's keying of batch 12, whose papers have the columns 1, 2, 3
+-- clerk 4's keying of batch 12, whose papers have the columns 1, 2 and 3
 abbrev keying_of : List ℕ → Result (List (List ℕ)) FileFault
 keying_of bytes = file_rows (keying (1 ∷ 2 ∷ 3 ∷ []) 12 4) (file_records bytes)
 
--- that keying, by the records after its header
+-- that keying, given the records after its header
 abbrev papers_of : List ℕ → Result (List (List ℕ)) FileFault
 papers_of bytes = keying_of (codes "paper,1,2,3" ++ 10 ∷ bytes)
 
 abbrev candidates_of : List ℕ → Result (List CandidateEntry) FileFault
 candidates_of bytes = file_rows candidates (file_records (codes "ward,candidate,name" ++ 10 ∷ bytes))
+
+abbrev batches_of : List ℕ → Result (List BatchRowEntry) FileFault
+batches_of bytes = file_rows batches (file_records (codes "batch,ward,size,first clerk,second clerk" ++ 10 ∷ bytes))
 
 two_papers : papers_of (codes "1,1,2," ++ 10 ∷ codes "2,D,," ++ 10 ∷ []) ≡ Ok (codes "1,2," ∷ codes "D" ∷ [])
 unfolding chars encode is_utf8 next_record records_from strip_bom
@@ -58,7 +62,7 @@ another_clerk : keying_of (codes "paper 12/9,1,2,3") ≡ Err (fault_at 0 (OtherK
 unfolding chars encode is_utf8 next_record records_from strip_bom
 another_clerk = refl
 
--- the file of a batch of another ward, which has other columns, is reported by the batch that it names
+-- a file for a batch from another ward has other columns, but what is reported is the batch that it names
 another_ward : keying_of (codes "paper 13/9,1,2") ≡ Err (fault_at 0 (OtherKeying 13 9))
 unfolding chars encode is_utf8 next_record records_from strip_bom
 another_ward = refl
@@ -71,7 +75,7 @@ no_columns : keying_of (codes "paper 12/9") ≡ Err (fault_at 0 (OtherKeying 12 
 unfolding chars encode is_utf8 next_record records_from strip_bom
 no_columns = refl
 
--- if it names neither batch nor clerk, or this batch and this clerk, the columns decide
+-- if the header names neither batch nor clerk, or names this batch and clerk, the columns decide
 own_with_other_columns : keying_of (codes "paper 12/4,1,2") ≡ Err (fault_at 0 Header)
 unfolding chars encode is_utf8 next_record records_from strip_bom
 own_with_other_columns = refl
@@ -88,7 +92,7 @@ nobody_without_papers : keying_of (codes "paper,1,2,3") ≡ Ok []
 unfolding chars encode is_utf8 next_record records_from strip_bom
 nobody_without_papers = refl
 
--- a first field that names batch and clerk in any other spelling is no header
+-- a first field that names a batch and a clerk in any other spelling isn't a header
 mistyped_with_other_columns : keying_of (codes "paper 13/09,1,2") ≡ Err (fault_at 0 Header)
 unfolding chars encode is_utf8 next_record records_from strip_bom
 mistyped_with_other_columns = refl
@@ -132,3 +136,11 @@ letter_beside_a_mark = refl
 quoted_name : candidates_of (codes "7,1,Ann" ++ 10 ∷ codes "7,2,\"Bob, jr\"") ≡ Ok ((7, 1, codes "Ann") ∷ (7, 2, codes "Bob, jr") ∷ [])
 unfolding chars encode is_utf8 next_record records_from strip_bom
 quoted_name = refl
+
+a_batch : batches_of (codes "12,7,50,4,9") ≡ Ok (record { batch = 12; ward = 7; size = 50; first_clerk = 4; second_clerk = 9 } ∷ [])
+unfolding chars encode is_utf8 next_record records_from strip_bom
+a_batch = refl
+
+a_clerk_is_missing : batches_of (codes "12,7,50,4,") ≡ Err (fault_at 1 Number)
+unfolding chars encode is_utf8 next_record records_from strip_bom
+a_clerk_is_missing = refl

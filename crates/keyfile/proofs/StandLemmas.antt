@@ -1,4 +1,4 @@
--- What is reported for a file if its reader is after some of its records.
+-- What is reported for a file, given that its reader is positioned after some of its records.
 use Rattle.std.proofs.Common.{◌≡◌, ◌∙◌, ◌≤◌, ◌+◌, ◌∷◌, ◌++◌, ℕ, true, false, List, [], length, Option, Some, None, Result, Ok, Err, refl, sym, ap, subst, arith, length-append, append_assoc}
 use Rattle.std.specs.Prelude.{IfErr}
 use Rattle.std.specs.Result.{IsErrAnd}
@@ -14,11 +14,11 @@ use Rattle.keyfile.specs.declared.fault.Flaw.TheVariants.{Header, RecordLength, 
 use Rattle.keyfile.proofs.FileLemmas.{file_rows-late, file_rows-more, file_rows-told, read_behind, read_behind-even, read_behind-many, read_behind-uneven, some_record}
 use Rattle.keyfile.proofs.ReadLemmas.{after-begins}
 
--- a fault at the header, by its flaw
+-- a fault at the header is determined by its flaw
 at_header : (fault : FileFault) → fault.record_number ≡ 0 → fault ≡ fault_at 0 fault.flaw
 at_header fault at = rw (← at) refl
 
--- what is reported for a file whose bytes are known
+-- what may be reported for a file, if its bytes are known
 abbrev pub Told : {Row : Type 0} → Format Row → Option (List ℕ) → FileFault → Type 0
 Told format bytes fault = Known bytes (λ xs. IsFaultOf format (file_records xs) fault)
 
@@ -27,7 +27,7 @@ known-map None f h = tt
 known-map (Some xs) f h = f xs h
 
 module _ {Row : Type 0} (format : Format Row) where
-  -- the file's own fault, at a record that it has
+  -- the file's own fault may be reported, if it is at a record that the file has
   own_fault : (records : List Record) (fault : FileFault) → file_rows format records ≡ Err fault → fault.record_number ≤ length records → IsFaultOf format records fault
   own_fault records fault is within = record {
     own = λ _. is;
@@ -55,12 +55,12 @@ module _ {Row : Type 0} (format : Format Row) where
       })
 
   module _ {R : Type 0} (rem : R → Option (List ℕ)) (bytes : Option (List ℕ)) (number : ℕ) (rows : List Row) (a : Reader R) (st : StandsAt rem bytes format number rows a) where
-    -- the reading was stopped
+    -- reading stopped
     pub stands-stopped : (fault : FileFault) → fault.record_number ≡ number → is_stop fault.flaw ≡ true → Told format bytes fault
     stands-stopped fault at stop =
         known-map bytes (λ xs (starts : Begins xs st.records). stopped_at xs st.records rows fault starts (at ∙ sym st.count) st.read stop) (after-begins rem a bytes st.records st.after)
 
-    -- no record was read
+    -- no record could be read
     pub stands-ended : (fault : FileFault) → fault.record_number ≡ number → EndsBefore bytes st.records fault.flaw → Told format bytes fault
     stands-ended fault at ends = by_flaw fault.flaw refl ends
       where
@@ -81,7 +81,7 @@ module _ {Row : Type 0} (format : Format Row) where
         by_flaw OtherFile is ends = absurd ends
 
     module _ (b : Reader R) (fields : Record) (next : IsNext rem bytes st.records fields b) where
-      -- one more record that is read as a row
+      -- another record was parsed into a row
       pub stands-more : (row : Row) → number ≤ format.most → read_as_text format number fields ≡ Ok row → StandsAt rem bytes format (number + 1) (rows ++ row ∷ []) b
       stands-more row few read =
           let some = some_record format st.records rows st.read in
@@ -98,13 +98,13 @@ module _ {Row : Type 0} (format : Format Row) where
           known-map bytes (λ xs (starts : Begins xs (st.records ++ fields ∷ [])). told_at xs st.records fields rows fault starts (at ∙ sym st.count) st.read read)
           (after-begins rem b bytes (st.records ++ fields ∷ []) next.after)
 
-      -- a faulty one
+      -- the next record is faulty
       pub stands-told : (fault : FileFault) → fault.record_number ≡ number → number ≤ format.most → read_as_text format number fields ≡ Err fault.flaw → Told format bytes fault
       stands-told fault at few read =
           let some = some_record format st.records rows st.read in
           faulty fault at (read_behind-even format st.records fields some next.even (omega (arith, few, st.count)) ∙ rw st.count read)
 
-      -- one past the limit
+      -- the next record is past the limit
       pub stands-many : (fault : FileFault) → fault.record_number ≡ number → number ≡ format.most + 1 → fault.flaw ≡ TooManyRecords → Told format bytes fault
       stands-many fault at past is =
           let some = some_record format st.records rows st.read in
@@ -113,7 +113,7 @@ module _ {Row : Type 0} (format : Format Row) where
   -- ---- the header
 
   module _ {R : Type 0} (rem : R → Option (List ℕ)) (bytes : Option (List ℕ)) where
-    -- the reading was stopped at the header: no record before it has a fault
+    -- reading stopped at the header, and there is no faulty record before it
     pub header-stopped : (fault : FileFault) → fault.record_number ≡ 0 → is_stop fault.flaw ≡ true → Told format bytes fault
     header-stopped fault at stop = by_bytes bytes
       where
@@ -141,11 +141,11 @@ module _ {Row : Type 0} (format : Format Row) where
 -- ---- results
 
 module _ {Row : Type 0} (format : Format Row) (bytes : Option (List ℕ)) {T : Type 0} where
-  -- a fault that is passed on
+  -- a fault is propagated
   pub passed-on : (r : Result T FileFault) (fault : FileFault) → IsErrAnd r (λ f. f ≡ fault) → Told format bytes fault → IfErr r (Told format bytes)
   passed-on (Ok x) fault is told = absurd is
   passed-on (Err f) fault is told = subst (Told format bytes) (sym is) told
 
-  -- the one fault of a result
+  -- the only fault of a result
   pub told-only : (r : Result T FileFault) (fault : FileFault) → r ≡ Err fault → Told format bytes fault → IfErr r (Told format bytes)
   told-only r fault is told = rw is told

@@ -15,22 +15,22 @@ use Rattle.keyfile.specs.declared.fault.Flaw.TheVariants.{OtherFile}
 abbrev pub digest_bytes : FileDigest → List ℕ
 digest_bytes digest = digest.bytes
 
--- the digest that is asked for, if any
+-- the given digest, if any
 abbrev pub asked_digest : Option FileDigest → Option (List ℕ)
 asked_digest digest = option_map digest_bytes digest
 
--- the digest that a text writes in 64 hexadecimal digits
+-- the digest that a text denotes in 64 hexadecimal digits
 abbrev pub digest_in : List ℕ → Option (List ℕ)
 digest_in text = result_ok (decode_sized text 32)
 
--- P holds of the bytes that a file is read as. These are its own, if they are known. If a digest is asked for, they are bytes with this digest, even if its own aren't
--- known.
+-- P holds for the bytes that a file is read as. If the file's own bytes are known, they are the same. If a digest is given, the bytes have that digest, even if the
+-- file's own bytes aren't known.
 abbrev pub IsReadAs : Option (List ℕ) → Option (List ℕ) → (List ℕ → Type 0) → Type 0
 IsReadAs None told P = Known told P
 IsReadAs (Some digest) told P = (bytes : List ℕ) × (sha256 bytes ≡ digest) × Known told (λ own. own ≡ bytes) × P bytes
 
--- what is reported for a file's bytes: if a digest is asked for and they have another, then that; else what is reported for any file. That the reading was stopped may
--- be reported in either case.
+-- What may be reported for a file with the given bytes. If a digest is given and the bytes have a different one, that is reported; otherwise, whatever is reported
+-- for any file. Either way, the report may instead be that reading stopped.
 abbrev pub IsFaultBy : {Row : Type 0} → Option (List ℕ) → Format Row → List ℕ → FileFault → Type 0
 IsFaultBy None format bytes fault = IsFaultOf format (file_records bytes) fault
 IsFaultBy (Some digest) format bytes fault =

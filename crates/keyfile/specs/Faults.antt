@@ -21,7 +21,7 @@ flaw_number Memory = 9
 flaw_number (OtherKeying batch clerk) = 10
 flaw_number OtherFile = 11
 
--- a flaw in words, up to the batch and the clerk if it names them
+-- the text of a flaw, without the batch and the clerk if it names them
 abbrev pub flaw_words : Flaw → List ℕ
 flaw_words Header = codes "header"
 flaw_words RecordLength = codes "record length"
@@ -35,16 +35,16 @@ flaw_words Memory = codes "memory"
 flaw_words (OtherKeying batch clerk) = codes "the file is of batch "
 flaw_words OtherFile = codes "not the file of this digest"
 
--- a flaw in words, with the batch and the clerk that it names
+-- the text of a flaw, including the batch and the clerk if it names them
 abbrev pub flaw_text : Flaw → List ℕ
 flaw_text (OtherKeying batch clerk) = codes "the file is of batch " ++ (decimal batch ++ (codes ", clerk " ++ decimal clerk))
 flaw_text flaw = flaw_words flaw
 
--- a fault in words: its number, the record and the flaw
+-- the text of a fault: its number, the record and the flaw
 abbrev pub file_fault_text : FileFault → List ℕ
 file_fault_text fault = codes "file fault " ++ (decimal (flaw_number fault.flaw) ++ (codes " at record " ++ (decimal fault.record_number ++ (codes ": " ++ flaw_text fault.flaw))))
 
--- what follows those first words, in three parts: the batch, the text between, and the clerk; all empty if the flaw names neither
+-- the rest of a flaw's text, in three parts: the batch, the text in between, and the clerk; all are empty if the flaw names neither
 abbrev pub flaw_batch : Flaw → List ℕ
 flaw_batch (OtherKeying batch clerk) = decimal batch
 flaw_batch _ = []
@@ -57,7 +57,7 @@ abbrev pub flaw_clerk : Flaw → List ℕ
 flaw_clerk (OtherKeying batch clerk) = decimal clerk
 flaw_clerk _ = []
 
--- whether a flaw isn't the file's, but stopped the reading
+-- whether a flaw is the reason why reading stopped, rather than something wrong with the file
 abbrev pub is_stop : Flaw → Bool
 is_stop Header = false
 is_stop RecordLength = false
@@ -90,7 +90,7 @@ abbrev pub tells_failed_read : {T : Type 0} → Result T FileFault → Bool
 tells_failed_read (Ok value) = false
 tells_failed_read (Err fault) = is_failed_read fault.flaw
 
--- the flaw for an error of `csv` if no read failed: a record of another length than the first, or out of memory
+-- the flaw for a `csv` error, given that no read failed: a record with a different length than the first one, or a failed allocation
 abbrev pub flaw_of : ErrorKind → Flaw
 flaw_of (kind.UnequalLengths pos expected len) = RecordLength
 flaw_of kind.OutOfMemory = Memory

@@ -3,6 +3,7 @@ pub mod Faults
 pub mod Records
 pub mod Files
 pub mod Candidates
+pub mod Batches
 pub mod Headers
 pub mod Keying
 pub mod Reading

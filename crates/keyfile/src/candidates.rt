@@ -1,4 +1,4 @@
-//! The file of candidates, of one ward or several: `ward,candidate,name`.
+//! The candidate file, for one ward or several: `ward,candidate,name`.
 
 ghost use Rattle.std.specs.Prelude.{◌≡◌, false, ◌⊎◌, map, IfOk, IfErr, Ok, Err};
 ghost use Rattle.keyfile.specs.Candidates.{CandidateEntry, candidate_entry, candidates, is_candidate_header, numbered};
@@ -16,11 +16,11 @@ use paper::plain_number_in;
 use std::alloc::Global;
 use std::io::Read;
 
-/// The most candidates of a file: 30 in each of 99 wards.
+/// The maximum number of candidates in a file: 30 in each of 99 wards.
 const MOST_CANDIDATE_ROWS: u32 = 2970;
 
-/// A candidate in an import file. The numbers have 1 to 5 digits and the name is any text: whether they are in range is checked when
-/// the candidate is added.
+/// A candidate in an import file. The numbers have 1 to 5 digits, and the name is any text. Whether the numbers are in range is
+/// checked when the candidate is added.
 #[derive(Drop)]
 pub struct CandidateRow {
     pub ward: u32,
@@ -28,14 +28,14 @@ pub struct CandidateRow {
     pub name: String,
 }
 
-/// Returns the candidates of a file, in file order.
+/// Returns the candidates in a file, in file order.
 ///
-/// The header is `ward,candidate,name`; at most 2970 records follow it. The rows are those of the file's records as `csv` parses them,
-/// or the fault is the first flaw of the first faulty record. `ReadFailed` and `Memory` may be reported at any record up to the first
-/// faulty one.
+/// The header is `ward,candidate,name`, followed by at most 2970 records. The rows are those of the file's records as parsed by
+/// `csv`. The fault is the first flaw of the first faulty record, except that `ReadFailed` and `Memory` may be reported at any
+/// record up to that one.
 ///
-/// If a digest is asked for, the rows are those of bytes that have it. A file of other bytes is `OtherFile`, whatever else is wrong
-/// with it.
+/// If a digest is given, the rows are read from bytes that have that digest. A file with other bytes is refused with `OtherFile`,
+/// whatever else is wrong with it.
 pub fn read_candidates<R: Read + Drop>(
     alloc: Global,
     r: R,
@@ -47,7 +47,7 @@ pub fn read_candidates<R: Read + Drop>(
     read_file(alloc, r, digest, &CandidateFormat)
 }
 
-/// The format of the file of candidates.
+/// The format of the candidate file.
 #[derive(Drop)]
 struct CandidateFormat;
 
@@ -80,7 +80,7 @@ impl FileFormat for CandidateFormat {
     }
 }
 
-/// Returns whether the fields are the header.
+/// Returns true if the fields are the header.
 fn is_candidate_header(fields: &[&str]) -> bool
     ensures { result ≡ is_candidate_header (map (λ f. f.now) fields.now) }
 {
@@ -90,7 +90,7 @@ fn is_candidate_header(fields: &[&str]) -> bool
     }
 }
 
-/// Parses the ward's and the candidate's number, and returns the candidate with this name.
+/// Parses the numbers of the ward and the candidate, and returns the candidate with the given name.
 fn candidate_row(
     alloc: Global,
     ward: &str,

@@ -1,4 +1,4 @@
-//! The digest that a file can be required to have: it identifies the file.
+//! The digest that a file can be required to have, which identifies the file.
 
 ghost use Rattle.std.specs.Prelude.{◌≡◌, ◌≢◌, ◌↔◌, ◌⊎◌, IsTrue, IfErr, IfOk, option_map, true};
 ghost use Rattle.sha2.specs.Sha256.{sha256};
@@ -20,7 +20,7 @@ pub struct FileDigest {
 }
 
 impl FileDigest {
-    /// Parses a digest of 64 hexadecimal digits, upper or lower case. Returns None for any other text.
+    /// Parses a digest of 64 hexadecimal digits in upper or lower case. Returns None for any other text.
     pub fn parse(text: &str) -> Option<FileDigest>
         ensures { option_map digest_bytes result ≡ digest_in text.now }
     {
@@ -30,7 +30,7 @@ impl FileDigest {
         }
     }
 
-    /// Returns whether the bytes have this digest.
+    /// Returns true if the bytes have this digest.
     fn is_of(self, bytes: &[u8]) -> bool
         ensures { IsTrue result ↔ (sha256 bytes.now ≡ digest_bytes self) }
     {
@@ -39,8 +39,8 @@ impl FileDigest {
     }
 }
 
-/// Returns all bytes of a file, which have the digest; or why there are none: it is another file (`OtherFile`), its last read failed
-/// (`ReadFailed`), or an allocation failed (`Memory`). The file is read to its end, however long it is, and kept in memory whole.
+/// Returns all bytes of a file with this digest. Fails if the file has a different digest (`OtherFile`), its last read failed
+/// (`ReadFailed`), or an allocation failed (`Memory`). The whole file is read into memory, however long it is.
 pub(crate) fn read_whole<R: Read + LastRead>(
     alloc: Global,
     file: &mut R,

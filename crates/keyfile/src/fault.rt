@@ -8,31 +8,31 @@ use std::alloc::AllocError;
 use std::error::Error;
 use std::fmt;
 
-/// Why a record of an import file is refused. If it has several flaws, the first in this order is reported: other file, other keying,
-/// header, record length, too many records, not UTF-8, number, paper order, marks.
+/// The reason why a record of an import file is refused. If a record has several flaws, the first one in this order is reported:
+/// other file, other keying, header, record length, too many records, not UTF-8, number, paper order, marks.
 #[derive(Clone, Copy, Debug, PartialEq, Eq)]
 pub enum Flaw {
-    /// There is no record, or the first isn't the header. A first record that isn't UTF-8 is no header, and names no keying.
+    /// There is no record, or the first one isn't the header. A first record that isn't UTF-8 is not a header and names no keying.
     Header,
-    /// The record isn't as long as the header.
+    /// The record doesn't have as many fields as the header.
     RecordLength,
-    /// A number field isn't 1 to 5 digits without a leading 0.
+    /// A number field doesn't consist of 1 to 5 digits without a leading 0.
     Number,
-    /// The paper's number isn't the record's.
+    /// The number of the paper isn't the number of the record.
     PaperOrder,
-    /// A mark field contains a comma, a double quote or a line end.
+    /// A mark field contains a comma, a double quote or a line break.
     Marks,
     /// A field isn't UTF-8.
     NotUtf8,
-    /// The record is past the limit.
+    /// The record exceeds the maximum number of records.
     TooManyRecords,
-    /// The file can't be opened, or a read failed.
+    /// The file couldn't be opened, or a read failed.
     ReadFailed,
     /// An allocation failed.
     Memory,
     /// The header names this batch and this clerk, but a keying of another batch or by another clerk is expected.
     OtherKeying { batch: u32, clerk: u32 },
-    /// The file's digest isn't the one that was asked for.
+    /// The file doesn't have the given digest.
     OtherFile,
 }
 
@@ -40,7 +40,7 @@ pub enum Flaw {
 #[derive(Clone, Copy, Debug, PartialEq, Eq)]
 pub struct FileFault {
     pub flaw: Flaw,
-    /// The record's number; the header is 0. For `ReadFailed` and `Memory` it is the record being read.
+    /// The record's number; the header is record 0. For `ReadFailed` and `Memory`, this is the record being read.
     pub record_number: u32,
 }
 
@@ -64,7 +64,7 @@ impl Flaw {
         }
     }
 
-    /// Returns the flaw in words, up to the batch and the clerk if it names them.
+    /// Returns the text of the flaw, without the batch and the clerk if the flaw names them.
     pub fn words(&self) -> &'static str
         ensures { result.now ≡ flaw_words self.now }
     {
@@ -140,7 +140,7 @@ impl From<AllocError> for Flaw {
     }
 }
 
-/// Returns the value, or the flaw as a fault at the record of this number.
+/// Returns the value, or the flaw as a fault at the record with the given number.
 pub(crate) fn at_record<T>(number: u32, outcome: Result<T, Flaw>) -> Result<T, FileFault>
     ensures ok { IfOk result (λ value. outcome ≡ Ok value) }
     ensures err { IfErr result (λ fault. (outcome ≡ Err fault.flaw) × (fault.record_number ≡ number)) }

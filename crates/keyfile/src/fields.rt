@@ -11,7 +11,7 @@ use csv::ByteRecord;
 use std::alloc::Global;
 use std::str;
 
-/// Returns the fields of a record as texts. Fails with `NotUtf8` if one of them isn't UTF-8, with `Memory` if an allocation fails.
+/// Returns the fields of a record as texts. Fails with `NotUtf8` if a field isn't UTF-8, and with `Memory` if an allocation fails.
 pub(crate) fn texts(alloc: Global, raw: &ByteRecord) -> Result<Vec<&str>, Flaw>
     ensures fields { IfOk result (λ texts. map (λ t. t.now) texts.items ≡ fields_of raw.now) }
     ensures all { IfOk result (λ _. list_all is_utf8 (fields_of raw.now) ≡ true) }

@@ -1,4 +1,4 @@
-//! What an import file contains, and how all of it is read.
+//! The formats of import files, and reading a whole file.
 
 ghost use Rattle.std.specs.Prelude.{◌≡◌, false, ◌∷◌, ◌++◌, ◌+◌, ◌-◌, ◌^◌, ◌<◌, ◌≤◌, ◌⊎◌, [], List, Option, Some, None, ℕ, map, IfOk, IfErr, IfSome, IfNone, Ok, Err, OnOk};
 ghost use Rattle.csv.specs.Reading.{reader_source};
@@ -19,7 +19,7 @@ use csv::{ByteRecord, Reader};
 use std::alloc::Global;
 use std::io::Read;
 
-/// The format of an import file: its header, and the rows that its records are read as.
+/// The format of an import file: its header, and the rows that its records are parsed into.
 pub(crate) trait FileFormat {
     type Row: Drop;
 
@@ -40,14 +40,14 @@ pub(crate) trait FileFormat {
         ensures is { result ≡ (format self.now).header_flaw (map (λ f. f.now) fields.now) }
         ensures file { IfSome result (λ flaw. is_failed_read flaw ≡ false) };
 
-    /// Returns the row of the record of this number, or its first flaw; `Memory` if an allocation fails.
+    /// Returns the row for the record with the given number, or the record's first flaw, or `Memory` if an allocation fails.
     fn read(&self, alloc: Global, number: u32, fields: &[&str]) -> Result<Self::Row, Flaw>
         ensures ok { IfOk result (λ row. (format self.now).read number (map (λ f. f.now) fields.now) ≡ Ok (entry row)) }
         ensures err { IfErr result (λ flaw. (flaw ≡ Flaw.Memory) ⊎ ((format self.now).read number (map (λ f. f.now) fields.now) ≡ Err flaw)) }
         ensures file { IfErr result (λ flaw. is_failed_read flaw ≡ false) };
 }
 
-/// Returns the rows of a file, or its fault. If a digest is asked for, all bytes are first read and checked against it.
+/// Returns the rows of a file, or its fault. If a digest is given, all bytes are first read and checked against it.
 pub(crate) fn read_file<R: Read + Drop, F: FileFormat>(
     alloc: Global,
     r: R,
@@ -71,7 +71,7 @@ pub(crate) fn read_file<R: Read + Drop, F: FileFormat>(
     }
 }
 
-/// Returns the rows of a newly opened file, or its fault. The fault is `ReadFailed` exactly if the file's last read failed.
+/// Returns the rows of a newly opened file, or its fault. The fault is `ReadFailed` if and only if the file's last read failed.
 fn read_rows<R: Read + LastRead + Drop, F: FileFormat>(
     alloc: Global,
     file: &mut Reader<R>,
@@ -138,7 +138,7 @@ fn check_header<F: FileFormat>(alloc: Global, raw: &ByteRecord, format: &F) -> R
     }
 }
 
-/// Returns the row of the record of this number, or None at the end of the file.
+/// Returns the row for the record with the given number, or None at the end of the file.
 fn next_row<R: Read + LastRead + Drop, F: FileFormat>(
     alloc: Global,
     file: &mut Reader<R>,
@@ -160,7 +160,7 @@ fn next_row<R: Read + LastRead + Drop, F: FileFormat>(
     }
 }
 
-/// Returns the row of the record of this number, or its first flaw other than a wrong length or too many records.
+/// Returns the row for the record with the given number, or its first flaw other than a wrong length or too many records.
 fn row_of<F: FileFormat>(
     alloc: Global,
     format: &F,
@@ -175,7 +175,7 @@ fn row_of<F: FileFormat>(
     format.read(alloc, number, &fields)
 }
 
-/// Checks that the file ends before the record of this number, the first past the limit.
+/// Checks that the file ends before the record with the given number, which is the first one past the limit.
 fn check_end<R: Read + LastRead + Drop, F: FileFormat>(
     alloc: Global,
     file: &mut Reader<R>,

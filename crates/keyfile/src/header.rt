@@ -1,4 +1,4 @@
-//! The first field of a keying's header: `paper`, or `paper 12/4` for batch 12 by clerk 4.
+//! The first field of a keying's header: `paper`, or `paper 12/4` for the keying of batch 12 by clerk 4.
 
 ghost use Rattle.std.specs.Prelude.{◌≡◌, false, IfSome, ◌==◌, ◌<◌};
 ghost use Rattle.std.specs.List.{after_first, before_first};
@@ -11,11 +11,11 @@ use paper::plain_number_in;
 /// The highest batch number that the office assigns.
 const HIGHEST_BATCH: u32 = 9999;
 
-/// The highest clerk number that the office knows.
+/// The highest clerk number that the office recognizes.
 const HIGHEST_CLERK: u32 = 999;
 
-/// Splits a text at the first occurrence of this character into what precedes and what follows it. A text without the character is
-/// returned whole, followed by the empty text.
+/// Splits a text at the first occurrence of a character into the part before it and the part after it. If the character doesn't
+/// occur, returns the whole text and an empty one.
 fn parted(text: &str, mark: char) -> (&str, &str)
     requires { mark < 128 }
     ensures before { result.0.now ≡ before_first (λ b. b == mark) text.now }
@@ -41,7 +41,7 @@ fn in_range(batch: Option<u32>, clerk: Option<u32>) -> Option<(u32, u32)>
     }
 }
 
-/// Returns the batch and the clerk that a first field names, if it names them.
+/// Returns the batch and the clerk that a first field names, if any.
 fn named_in(field: &str) -> Option<(u32, u32)>
     ensures { result ≡ named_in field.now }
 {
@@ -53,8 +53,8 @@ fn named_in(field: &str) -> Option<(u32, u32)>
     in_range(plain_number_in(batch), plain_number_in(clerk))
 }
 
-/// Returns what is wrong with the first field of a keying of a batch by a clerk, if anything is. It is `Header` if the field is
-/// neither `paper` nor names a batch and a clerk in range, and `OtherKeying` if it names another batch or clerk.
+/// Returns what is wrong with the first field of a clerk's keying of a batch, if anything is. The flaw is `Header` if the field
+/// is not `paper` and doesn't name a batch and a clerk in range, and `OtherKeying` if it names another batch or clerk.
 pub(crate) fn first_field_flaw(field: &str, batch: u32, clerk: u32) -> Option<Flaw>
     ensures is { result ≡ first_field_flaw batch clerk field.now }
     ensures file { IfSome result (λ flaw. is_failed_read flaw ≡ false) }

@@ -1,4 +1,4 @@
-//! The file of a clerk's keying of a batch: a header of `paper` and the candidates' numbers, then the papers.
+//! The file with a clerk's keying of a batch: a header of `paper` and the candidates' numbers, followed by the papers.
 
 ghost use Rattle.std.specs.Prelude.{◌≡◌, false, ◌++◌, ◌==◌, List, ℕ, length, map, IfOk, IfErr, OnOk, Ok, Err, string_bytes};
 ghost use Rattle.std.specs.List.{join_with_byte, list_all, list_any};
@@ -21,17 +21,17 @@ use std::io::Read;
 /// The maximum number of papers in a file: those of one batch.
 pub(crate) const MOST_PAPERS: u32 = 500;
 
-/// Returns the marks texts of a clerk's keying of a batch whose papers have these columns, in the order of the papers.
+/// Returns the marks texts in a file with a clerk's keying of a batch whose papers have the given columns, in paper order.
 ///
-/// The header is `paper` and the columns in ascending order; at most 500 records follow it, each the number of a paper (1, 2, 3, ..)
-/// and one field per column. A marks text is `D` if the first field is `D` and the others are empty, else the fields separated by
-/// commas. Whether it is valid isn't checked here. The fault is the first flaw of the first faulty record. `ReadFailed` and `Memory`
-/// may be reported at any record up to the first faulty one.
+/// The header is `paper` followed by the columns in ascending order. It is followed by at most 500 records, each of which consists
+/// of a paper number (1, 2, 3, ..) and one field per column. A marks text is `D` if the first field is `D` and the others are
+/// empty; otherwise it is the fields separated by commas. Whether the text is valid isn't checked here. The fault is the first flaw
+/// of the first faulty record, except that `ReadFailed` and `Memory` may be reported at any record up to that one.
 ///
-/// Instead of `paper` the header may have `paper 12/4`: the file is then of batch 12 by clerk 4. A file of another batch or by another
-/// clerk is `OtherKeying`, whatever its columns are; any other file with other columns is `Header`. A header that isn't UTF-8 is
-/// `Header` too, and names nothing. If a digest is asked for, the papers are those of bytes that have it, and a file of other bytes is
-/// `OtherFile`.
+/// Instead of `paper`, the header may begin with `paper 12/4`, which says that the file is a keying of batch 12 by clerk 4. A file
+/// for another batch or by another clerk is refused with `OtherKeying`, whatever its columns are; any other file with the wrong
+/// columns is refused with `Header`. A header that isn't UTF-8 is also refused with `Header`, and names nothing. If a digest is
+/// given, the papers are read from bytes that have that digest, and a file with other bytes is refused with `OtherFile`.
 pub fn read_keying<R: Read + Drop>(
     alloc: Global,
     r: R,
@@ -53,7 +53,7 @@ pub fn read_keying<R: Read + Drop>(
     read_file(alloc, r, digest, &format)
 }
 
-/// The format of the file of a clerk's keying of a batch.
+/// The format of the file with a clerk's keying of a batch.
 #[derive(Drop)]
 pub(crate) struct KeyingFormat {
     pub(crate) columns: Columns,
@@ -96,7 +96,7 @@ impl FileFormat for KeyingFormat {
     }
 }
 
-/// Returns whether the texts write these numbers, one each.
+/// Returns true if the texts are the given numbers in decimal, one per column.
 pub(crate) fn are_columns(texts: &[&str], columns: &[u8]) -> bool
     ensures { result ≡ are_columns (map (λ t. t.now) texts.now) columns.now }
 {
@@ -113,7 +113,7 @@ pub(crate) fn are_columns(texts: &[&str], columns: &[u8]) -> bool
     rest.is_empty()
 }
 
-/// Checks that a paper's number is the record's and that its mark fields can be joined.
+/// Checks that the number of the paper is the number of the record, and that its mark fields can be joined.
 #[tactic(auto, using(crate::proofs::MapLemmas::list_any_map))]
 fn check_paper(number: u32, paper: &str, marks: &[&str]) -> Result<(), Flaw>
     ensures ok { OnOk result (of_number number (plain_number_in paper.now) (map (λ t. t.now) marks.now) ≡ Ok (marks_text (map (λ t. t.now) marks.now))) }
@@ -128,14 +128,14 @@ fn check_paper(number: u32, paper: &str, marks: &[&str]) -> Result<(), Flaw>
     }
 }
 
-/// Returns whether some mark field contains a character that a marks text can't.
+/// Returns true if any mark field contains a character that isn't allowed in a marks text.
 fn any_breaks(marks: &[&str]) -> bool
     ensures { result ≡ list_any (λ t. breaks_marks t.now) marks.now }
 {
     marks.iter().any(|mark| breaks_marks(mark))
 }
 
-/// Returns whether a mark field contains a comma, a double quote or a line end.
+/// Returns true if a mark field contains a comma, a double quote or a line break.
 fn breaks_marks(mark: &str) -> bool
     ensures { result ≡ breaks_marks mark.now }
 {
@@ -144,7 +144,7 @@ fn breaks_marks(mark: &str) -> bool
         .any(|b| *b == b',' || *b == b'"' || *b == b'\n' || *b == b'\r')
 }
 
-/// Returns the letter D if the first field is D and the others are empty, else the fields separated by commas.
+/// Returns `D` if the first field is `D` and the others are empty; otherwise returns the fields separated by commas.
 fn marks_text(alloc: Global, marks: &[&str]) -> Result<String, AllocError>
     ensures { IfOk result (λ text. string_bytes text ≡ marks_text (map (λ t. t.now) marks.now)) }
 {
@@ -165,7 +165,7 @@ fn joined(alloc: Global, marks: &[&str]) -> Result<String, AllocError>
     Ok(text)
 }
 
-/// Returns whether the first field is D and the others are empty.
+/// Returns true if the first field is `D` and the others are empty.
 #[tactic(auto, using(crate::proofs::MapLemmas::list_all_map))]
 fn is_doubtful(marks: &[&str]) -> bool
     ensures { result ≡ is_doubtful (map (λ t. t.now) marks.now) }
@@ -176,7 +176,7 @@ fn is_doubtful(marks: &[&str]) -> bool
     }
 }
 
-/// Returns whether all mark fields are empty.
+/// Returns true if all mark fields are empty.
 fn are_empty(marks: &[&str]) -> bool
     ensures { result ≡ list_all (λ t. length t.now == 0) marks.now }
 {

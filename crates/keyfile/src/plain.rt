@@ -1,4 +1,4 @@
-//! Import files read without options: no digest is asked for, and a keying's header names neither batch nor clerk.
+//! Reading import files without options: no digest is given, and the header of a keying names neither batch nor clerk.
 
 ghost use Rattle.std.specs.Prelude.{◌≡◌, List, ℕ, map, IfOk, IfErr, Ok, string_bytes};
 ghost use Rattle.keyfile.specs.Candidates.{candidate_entry, candidates};
@@ -15,7 +15,7 @@ use paper::Columns;
 use std::alloc::Global;
 use std::io::Read;
 
-/// Returns the candidates of a file, in file order. It is [`read_candidates`](crate::read_candidates) without a digest.
+/// Returns the candidates in a file, in file order. This is [`read_candidates`](crate::read_candidates) without a digest.
 pub fn read_candidates<R: Read + Drop>(alloc: Global, r: R) -> Result<Vec<CandidateRow>, FileFault>
     ensures rows { IfOk result (λ rows. Known (R.remaining r) (λ bytes. file_rows candidates (file_records bytes) ≡ Ok (map candidate_entry rows.items))) }
     ensures fault { IfErr result (λ fault. Known (R.remaining r) (λ bytes. IsFaultOf candidates (file_records bytes) fault)) }
@@ -23,10 +23,10 @@ pub fn read_candidates<R: Read + Drop>(alloc: Global, r: R) -> Result<Vec<Candid
     crate::candidates::read_candidates(alloc, r, None)
 }
 
-/// Returns the marks texts of a keying of papers with these columns, in the order of the papers.
+/// Returns the marks texts in a file with a keying of papers that have the given columns, in paper order.
 ///
-/// The header is `paper` and the columns in ascending order. A first field that names batch and clerk, such as `paper 12/4`, isn't
-/// accepted here, because neither is known. Everything else is as in [`read_keying`](crate::read_keying).
+/// The header is `paper` followed by the columns in ascending order. A first field that names a batch and a clerk, such as `paper
+/// 12/4`, isn't accepted here, because neither is known. Everything else is as in [`read_keying`](crate::read_keying).
 pub fn read_keying<R: Read + Drop>(
     alloc: Global,
     r: R,
@@ -40,7 +40,7 @@ pub fn read_keying<R: Read + Drop>(
     read_file(alloc, r, None, &PlainFormat { columns })
 }
 
-/// The format of the file of a keying whose header names neither its batch nor its clerk.
+/// The format of the file with a keying whose header names neither its batch nor its clerk.
 #[derive(Drop)]
 struct PlainFormat {
     columns: Columns,

@@ -1,4 +1,4 @@
-//! The records of an import file, one at a time.
+//! Reading the records of an import file one at a time.
 
 ghost use Rattle.std.specs.Prelude.{◌≡◌, false, ◌∷◌, ◌++◌, [], List, Option, ℕ, length, IfOk, IfErr, IfSome, IfNone};
 ghost use Rattle.csv.specs.Reading.{error_kind, reader_source};
@@ -14,7 +14,8 @@ use csv::{ByteRecord, Error, ErrorKind, Reader, ReaderBuilder};
 use std::alloc::Global;
 use std::io::Read;
 
-/// Returns a reader at the beginning of a file. Its first record is treated like the others; `csv` checks the length of each.
+/// Returns a reader at the beginning of a file. It treats the first record like any other; `csv` checks that all records have the
+/// same length.
 pub(crate) fn open<R: Read + Drop>(alloc: Global, r: R) -> Reader<R>
     ensures opened { IsAfter R.remaining (R.remaining (reader_source result)) [] result }
     ensures reader { reader_source result ≡ r }
@@ -24,7 +25,7 @@ pub(crate) fn open<R: Read + Drop>(alloc: Global, r: R) -> Reader<R>
         .from_reader(alloc, r)
 }
 
-/// Returns the flaw for an error of `csv` if no read failed.
+/// Returns the flaw for a `csv` error, given that no read failed.
 fn flaw_of(error: &Error) -> Flaw
     ensures flaw { result ≡ flaw_of (error_kind error.now) }
     ensures file { is_failed_read result ≡ false }
@@ -35,8 +36,8 @@ fn flaw_of(error: &Error) -> Flaw
     }
 }
 
-/// Returns the next record, of this number, or None at the end of the file. It fails with `ReadFailed` exactly if the file's last read
-/// failed.
+/// Returns the next record, which has the given number, or None at the end of the file. Fails with `ReadFailed` if and only if the
+/// file's last read failed.
 pub(crate) fn next_record<R: Read + LastRead + Drop>(
     alloc: Global,
     file: &mut Reader<R>,

@@ -1,4 +1,4 @@
-//! A reader that knows whether its last read failed.
+//! A reader that keeps track of whether its last read failed.
 
 ghost use Rattle.std.specs.Prelude.{◌≡◌, Bool, false, is_err};
 ghost use Rattle.std.specs.Io.{ReadsAtMost};
@@ -7,7 +7,7 @@ ghost use Rattle.keyfile.specs.Reading.{last_failed, reader_of};
 
 use std::io::{self, Read};
 
-/// Readers that know whether their last read failed.
+/// A reader that can tell whether its last read failed.
 pub(crate) trait LastRead {
     /// Whether the last read failed.
     ghost failed: { Self → Bool };
@@ -17,7 +17,7 @@ pub(crate) trait LastRead {
         ensures { result ≡ failed self.now };
 }
 
-/// A reader that knows whether its last read failed.
+/// A reader that keeps track of whether its last read failed.
 #[derive(Drop)]
 pub(crate) struct Watched<R> {
     reader: R,
@@ -25,7 +25,7 @@ pub(crate) struct Watched<R> {
 }
 
 impl<R> Watched<R> {
-    /// Wraps a reader none of whose reads has failed yet.
+    /// Wraps a reader, none of whose reads has failed yet.
     pub(crate) fn new(reader: R) -> Watched<R>
         ensures reader { reader_of result ≡ reader }
         ensures failed { last_failed result ≡ false }

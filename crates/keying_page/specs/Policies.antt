@@ -1,16 +1,16 @@
--- What a browser lets a page do, by a policy (`Content-Security-Policy`).
+-- What a policy (`Content-Security-Policy`) allows a page to do in a browser.
 use Rattle.std.specs.Prelude.{List, ◌++◌, codes, ℕ}
 use Rattle.base64.specs.Engines.{standard}
 use Rattle.base64.specs.GeneralPurpose.{encode_of}
 use Rattle.sha2.specs.Sha256.{sha256}
 
--- how a policy names one text that may be used, and no other: by its SHA-256, in base64
+-- the policy source that allows one text and no other: its SHA-256, in base64
 unfoldable pub hash_source : List ℕ → List ℕ
 hash_source text = codes "'sha256-" ++ (encode_of standard (sha256 text) ++ codes "'")
 
--- The policy of a page that has one script and one style. The page runs this script and uses this style; it shows images that are
--- written out in it, and requests nothing but from the server that it came from. It has no base address, sends no form, is shown in no
--- frame, and makes no markup of a text.
+-- The policy of a page with one script and one style. The page runs only this script and uses only this style; it shows only images embedded in it,
+-- and sends requests only to the server that it came from. It has no base address, submits no forms, can't be shown in a frame, and can't turn text
+-- into markup.
 unfoldable pub policy_of : List ℕ → List ℕ → List ℕ
 policy_of style script =
     codes "default-src 'none'; script-src " ++ (hash_source script

@@ -20,7 +20,7 @@ const BODY: &str = r#"
 </head>
 <body>
 <header><h1>Keying: <span id="who"></span></h1>
-<p id="unkept" class="warning" role="alert" hidden>This browser keeps nothing of what you key. If this page is closed, it is gone. Send the batch before, or take another browser.</p>
+<p id="unkept" class="warning" role="alert" hidden>This browser doesn&rsquo;t store what you key. If you close this page, it is lost. Send the batch first, or use another browser.</p>
 <noscript><p class="warning">This page needs JavaScript. Switch it on for this address, or ask the returning officer.</p></noscript>
 </header>
 <main>
@@ -29,19 +29,20 @@ const BODY: &str = r#"
 <h2 id="batches-title" tabindex="-1">Your batches</h2>
 <p id="asked" role="status"></p>
 <ul id="list"></ul>
-<p class="acts"><button id="look" type="button">Ask for new batches</button> <button id="go-away" type="button">Leave this place</button></p>
+<p class="acts"><button id="look" type="button">Refresh</button> <button id="go-away" type="button">Sign out</button></p>
 </section>
 
 <section id="start" aria-labelledby="start-title" hidden>
 <h2 id="start-title" tabindex="-1"></h2>
 <ol>
-<li>See that your pile has the number <b id="start-batch"></b>.</li>
+<li>Check that your pile is batch <b id="start-batch"></b>.</li>
 <li>Count its papers. There must be <b id="start-size"></b>. If there are more or fewer, key nothing, and tell the returning officer.</li>
 <li>Leave the papers in their order. The one on top is paper 1.</li>
-<li>Key what stands on a paper. You correct nothing.</li>
-<li id="anew">This is a new round. Key every paper anew, from the paper.</li>
+<li>Key exactly what is marked on each paper. Correct nothing.</li>
+<li id="anew"></li>
 </ol>
-<p class="acts"><button id="begin" type="button" class="main">Begin (Enter)</button> <button id="not-now" type="button">Your batches</button></p>
+<p class="acts"><button id="through" type="button" class="main">Go through your own keying (Enter)</button>
+<button id="begin" type="button" class="main">Begin (Enter)</button> <button id="not-now" type="button">Your batches</button></p>
 </section>
 
 <section id="papers" aria-labelledby="which" hidden>
@@ -50,6 +51,7 @@ const BODY: &str = r#"
 <p class="where"><b id="paper"></b> <span id="state"></span> <span id="done"></span></p>
 <p id="cursor"></p>
 </div>
+<div id="read" role="status" hidden><p id="read-what"></p><ul id="read-marks"></ul></div>
 <div class="wide"><table id="table">
 <caption class="unseen">The papers, one in each row, with a column for each candidate</caption>
 <thead id="heads"></thead><tbody id="rows"></tbody></table></div>
@@ -57,34 +59,35 @@ const BODY: &str = r#"
 <p id="notice" role="alert"></p>
 <details id="keys"><summary>The keys</summary>
 <dl>
-<dt><kbd>1</kbd> to <kbd>9</kbd></dt><dd>the number beside the candidate; the cursor goes on</dd>
-<dt><kbd>0</kbd> or the space bar</dt><dd>nothing beside the candidate; the cursor goes on</dd>
+<dt><kbd>1</kbd> to <kbd>9</kbd></dt><dd>a number next to the candidate; the cursor moves on</dd>
+<dt><kbd>0</kbd> or the space bar</dt><dd>no number next to the candidate; the cursor moves on</dd>
 <dt><kbd>.</kbd> or <kbd>,</kbd> and two digits</dt><dd>a number from 10 to 99</dd>
-<dt><kbd>/</kbd> and a candidate&rsquo;s number</dt><dd>the cursor goes to him; where another digit may follow, <kbd>Enter</kbd> ends the number</dd>
+<dt><kbd>/</kbd> and a candidate&rsquo;s number</dt><dd>moves the cursor to that candidate; if another digit may follow, <kbd>Enter</kbd> ends the number</dd>
 <dt><kbd>D</kbd> or <kbd>*</kbd></dt><dd>the paper is doubtful: no official mark, a number that can&rsquo;t be read or is over 99, a name, a signature, a drawing</dd>
-<dt><kbd>Enter</kbd></dt><dd>the paper is keyed; the next one comes</dd>
+<dt><kbd>Enter</kbd></dt><dd>finishes the paper and shows the next one</dd>
+<dt><kbd>Enter</kbd>, in your own keying</dt><dd>the paper says just what is shown; hold it down, and it counts once</dd>
 <dt><kbd>0</kbd> and <kbd>Enter</kbd></dt><dd>a paper without any number</dd>
-<dt><kbd>Backspace</kbd></dt><dd>takes the last key back, also Enter</dd>
-<dt><kbd>Delete</kbd></dt><dd>empties this paper, to be keyed anew</dd>
+<dt><kbd>Backspace</kbd></dt><dd>undoes the last key, also Enter</dd>
+<dt><kbd>Delete</kbd></dt><dd>clears this paper, so that you can key it again</dd>
 <dt><kbd>&larr;</kbd> <kbd>&rarr;</kbd> <kbd>Home</kbd></dt><dd>to another candidate</dd>
 <dt><kbd>&uarr;</kbd> <kbd>&darr;</kbd></dt><dd>to another paper</dd>
 <dt><kbd>End</kbd></dt><dd>to the paper that comes next, or to the end of the batch</dd>
 <dt><kbd>G</kbd>, a number, <kbd>Enter</kbd></dt><dd>to the paper of that number</dd>
-<dt><kbd>Insert</kbd></dt><dd>puts in a paper before this one, where you left one out</dd>
-<dt><kbd>Shift</kbd>+<kbd>Delete</kbd></dt><dd>takes this paper out, where you keyed it twice</dd>
+<dt><kbd>Insert</kbd></dt><dd>adds a paper before this one, if you left one out</dd>
+<dt><kbd>Shift</kbd>+<kbd>Delete</kbd></dt><dd>removes this paper, if you keyed it twice</dd>
 </dl></details>
 <p class="tools"><button id="doubt" type="button">Doubtful (D)</button>
-<button id="put-in" type="button">Put a paper in (Insert)</button>
-<button id="take-out" type="button">Take this paper out (Shift+Delete)</button>
+<button id="put-in" type="button">Add a paper (Insert)</button>
+<button id="take-out" type="button">Remove this paper (Shift+Delete)</button>
 <label>Go to paper (G) <input id="go" type="text" inputmode="numeric" autocomplete="off" size="4"></label>
 <button id="leave-papers" type="button">Your batches</button></p>
 <dialog id="out" aria-labelledby="out-text"><p id="out-text"></p>
-<p class="acts"><button id="out-no" type="button">Leave it in</button> <button id="out-yes" type="button">Take it out</button></p></dialog>
+<p class="acts"><button id="out-no" type="button">Keep it</button> <button id="out-yes" type="button">Remove it</button></p></dialog>
 </section>
 
 <section id="end" aria-labelledby="end-title" hidden>
 <h2 id="end-title" tabindex="-1"></h2>
-<div id="check"><p>Is your pile at its end? If a paper is left, or one was wanting, don&rsquo;t send. Go back and look for the place where it slipped. There you put a paper in, or take one out.</p>
+<div id="check"><p>Have you reached the end of the pile? If a paper is left over, or one is missing, don&rsquo;t send. Go back, find where the screen and the pile differ, and add or remove a paper there.</p>
 <ul id="summary"></ul></div>
 <p id="said" role="status"></p>
 <p class="acts"><button id="send" type="button" class="main">Send (S)</button>
@@ -101,7 +104,7 @@ const TAIL: &str = r#"
 "#;
 
 #[tactic(auto, unfolding(crate::specs::Page::page_of))]
-/// Returns the page that has this style and this script. The only error is that an allocation failed.
+/// Returns the page with the given style and script. The only error is a failed allocation.
 pub(crate) fn page_around(alloc: Global, style: &str, script: &str) -> Result<String, AllocError>
     ensures { IfOk result (λ text. string_bytes text ≡ page_of style.now script.now) }
 {

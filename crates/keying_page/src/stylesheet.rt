@@ -1,9 +1,9 @@
-//! The style of the page, a sheet of CSS: for widths from 400 pixels, with nothing that colour alone tells.
+//! The style of the page, as CSS: for widths of 400 pixels or more, with nothing conveyed by colour alone.
 
 /// The style.
 pub(crate) const STYLE: &str = r#"
 * { box-sizing: border-box; }
-body { margin: 0 auto; max-width: 68rem; padding: 0 .75rem 2rem; font: 1rem/1.4 sans-serif; color: #000; background: #fff; }
+body { margin: 0 auto; max-width: 100rem; padding: 0 .75rem 2rem; font: 1rem/1.4 sans-serif; color: #000; background: #fff; }
 h1 { font-size: 1rem; margin: .5rem 0; }
 h2 { font-size: 1.15rem; margin: .25rem 0; overflow-wrap: anywhere; }
 p { margin: .5rem 0; }
@@ -30,21 +30,25 @@ li { margin: .25rem 0; }
 #said:not(:empty) { padding: .4rem .6rem; border: 3px solid #1b4f91; }
 #notice.refused { border-color: #8a1500; }
 
+p, li, dl, dialog { max-width: 62rem; }
+#read { padding: .3rem .6rem; border: 3px solid #1b4f91; }
+#read p { margin: 0; font-weight: bold; }
+#read-marks { columns: 18rem; margin: .2rem 0; padding: 0; list-style: none; font-size: 1.5rem; }
+#read-marks li { display: flex; gap: .75rem; margin: .1rem 0; break-inside: avoid; overflow-wrap: anywhere; }
+#read-marks b { flex: none; width: 2.2rem; text-align: right; font-variant-numeric: tabular-nums; }
+
 .wide { overflow-x: auto; max-width: 100%; }
 table { border-collapse: separate; border-spacing: 0; }
 th, td { width: var(--field); min-width: var(--field); max-width: var(--field); height: 2rem; padding: 0; border: solid #999; border-width: 0 1px 1px 0; }
 th, td { text-align: center; background: #fff; font-size: 1.1rem; font-variant-numeric: tabular-nums; }
-.few { --field: 8rem; }
-.some { --field: 3.6rem; }
-.many { --field: 1.75rem; }
 td[colspan] { max-width: none; }
 table .number { --field: 3.4rem; position: sticky; left: 0; z-index: 1; border-left-width: 1px; font-weight: bold; }
 table .end { --field: 4rem; border-color: transparent; }
 thead th { padding-top: .15rem; vertical-align: top; border-top-width: 1px; font-weight: normal; font-size: .85rem; }
 thead th b { display: block; }
 thead th span { display: block; overflow: hidden; text-overflow: ellipsis; }
-.few thead th span { display: -webkit-box; -webkit-box-orient: vertical; -webkit-line-clamp: 4; padding: 0 .2rem; overflow-wrap: anywhere; }
-.some thead th span, .many thead th span { writing-mode: vertical-rl; max-height: 14rem; margin: 0 auto; white-space: nowrap; }
+.across thead th span { display: -webkit-box; -webkit-box-orient: vertical; -webkit-line-clamp: 6; padding: 0 .2rem; overflow-wrap: anywhere; }
+.upright thead th span { writing-mode: vertical-rl; max-height: min(22rem, 36vh); margin: 0 auto; white-space: nowrap; }
 thead .here { background: #1b4f91; color: #fff; }
 tbody td { color: #444; }
 tbody .now th { font-size: 1.35rem; background: #ffe9a8; }
@@ -68,9 +72,6 @@ kbd { padding: 0 .3rem; border: 1px solid #767676; border-radius: .2rem; font: i
 dialog { max-width: 30rem; border: 3px solid #8a1500; }
 
 @media (max-width: 640px) {
-.few { --field: 3.2rem; }
-.some { --field: 2.2rem; }
-.few thead th span { display: block; writing-mode: vertical-rl; max-height: 10rem; margin: 0 auto; white-space: nowrap; }
 .where b { font-size: 1.8rem; }
 table .number { --field: 2.8rem; }
 dl { grid-template-columns: 1fr; gap: 0; }

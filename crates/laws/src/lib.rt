@@ -1,8 +1,8 @@
-//! Laws of lists of requests: clerks are blind to one another, and a sealed ward doesn't change.
+//! Laws about lists of requests: clerks are blind to one another's work, and a sealed ward doesn't change.
 //!
-//! `register` defines what one request does to the state; these laws state what follows for whole lists, whoever sends the
-//! requests. `server` cites the first for everything sent over HTTP. Two functions decide: `may_observe`, whether a clerk
-//! may observe a request, and `is_past_keying`, whether a ward's papers are final.
+//! `register` defines how a single request changes the state. These laws state what follows for entire lists, no matter who
+//! sends the requests. `server` relies on the first law for everything sent over HTTP. Two functions compute what the laws are
+//! about: `may_observe`, whether a clerk may observe a request, and `is_past_keying`, whether a ward's papers are final.
 #![tactic(auto)]
 
 mod blindness;

@@ -1,14 +1,16 @@
-//! Ballots counted by the call itself: each text, a lot that is needed, lots that are added, and what can't be counted. (The figures
-//! are those of `tools/try recount`, which counts in another language; what else is printed is played in examples/checking.sh.)
+//! Ballots counted by a direct call: each text, a lot that is needed, lots that are added, and ballots that can't be
+//! counted. (The figures are those of `tools/try recount`, which counts in a different language; the rest of the output
+//! is covered by examples/checking.sh.)
 
 use crate::checker_texts::{BALLOTS, DECLARATION, SHEET};
 use crate::sheet_outputs::is_text;
-use checker::{CountProblem, CountText, CountedText, count_ballots};
+use checker::{CountProblem, CountText, CountedText, RecordsWard, count_ballots, count_records};
+use paper::MAX_CANDIDATES;
 use std::alloc::{AllocError, Global};
 use std::process::Abort;
 use std::test::Fail;
 
-/// A seat, for which two candidates are tied at the second stage.
+/// The ballots of an election for one seat, with two candidates tied at the second stage.
 pub(crate) const TIED: &str = r#"3 1
 2 1 0
 1 2 0
@@ -20,7 +22,7 @@ pub(crate) const TIED: &str = r#"3 1
 "Harbour"
 "#;
 
-/// The sheet as far as the count goes without a lot.
+/// The sheet up to the stage at which the count needs a lot.
 pub(crate) const TIED_SHEET: &str = "Ward 1 Harbour
 Seats 1, valid 4, quota 3.00000
 Rejected 1: 0, 2: 0, 3: 0, 4: 0, 5: 0
@@ -32,10 +34,10 @@ Stage 1: first preferences
          0.00000 lost by fractions
 ";
 
-/// The line about the lot that it waits for.
+/// The line about the lot that the count waits for.
 pub(crate) const TIED_LINE: &str = "lot needed at stage 2 among 2 Bob, 3 Cy\n";
 
-/// The sheet where the lot names the third candidate.
+/// The sheet if the lot falls on the third candidate.
 const DRAWN_SHEET: &str = "Ward 1 Harbour
 Seats 1, valid 4, quota 3.00000
 Rejected 1: 0, 2: 0, 3: 0, 4: 0, 5: 0
@@ -74,7 +76,7 @@ const DRAWN_BALLOTS: &str = r#"3 1
 # Lot at stage 2: 3
 "#;
 
-/// The table of the ward whose ballots are counted to the end without a lot.
+/// The table for a ward whose count needs no lot.
 const TABLE: &str =
     r#""candidate","name","Stage 1: first preferences","Stage 1 gained","Stage 1 lost","Stage 1 standing","Stage 2: surplus of 1","Stage 2 gained","Stage 2 lost","Stage 2 standing","Stage 3: exclusion of 2, last vacancies","Stage 3 gained","Stage 3 lost","Stage 3 standing"
 "1","Ann","6.00000","6.00000","0.00000","elected","4.00000","0.00000","2.00000","elected","4.00000","0.00000","0.00000","elected"
@@ -87,7 +89,8 @@ const TABLE: &str =
 /// Two candidates for three seats, and no papers.
 const UNCONTESTED: &str = "2 3\n0\n\"Ann\"\n\"Bob\"\n\"Harbour\"\n";
 
-/// Ballots, lots that are added, and a text; and what it is, with the line about a lot that is needed.
+/// Ballots, the lots added to them, and a kind of text; then the expected text, and the line about a lot that is
+/// needed.
 const COUNTED: [(&str, &[(u8, u8)], CountText, &str, &str); 10] = [
     (BALLOTS, &[], CountText::Sheet, SHEET, ""),
     (BALLOTS, &[], CountText::Declaration, DECLARATION, ""),
@@ -107,7 +110,7 @@ const COUNTED: [(&str, &[(u8, u8)], CountText, &str, &str); 10] = [
     ),
 ];
 
-/// Ballots, lots that are added, and why they aren't counted.
+/// Ballots, the lots added to them, and why they can't be counted.
 const NOT_COUNTED: [(&str, &[(u8, u8)], &str); 6] = [
     ("3 0\n", &[], "line 1 of the ballots: no seats"),
     (
@@ -129,7 +132,7 @@ const NOT_COUNTED: [(&str, &[(u8, u8)], &str); 6] = [
     ),
 ];
 
-/// The count of ballots that are counted.
+/// Counts ballots, which must succeed.
 fn counted(
     alloc: Global,
     ballots: &str,
@@ -142,7 +145,7 @@ fn counted(
     }
 }
 
-/// This text of the count of ballots is printed, and this line about a lot that is needed.
+/// Checks the text printed for the given ballots, and the line about a lot that is needed.
 fn counts(
     rt: &(impl Abort + AllocGlobal),
     (ballots, lots, text, wanted, line): &(&str, &[(u8, u8)], CountText, &str, &str),
@@ -156,7 +159,7 @@ fn counts(
     Ok(())
 }
 
-/// Why ballots aren't counted, in words.
+/// Returns, in words, why ballots can't be counted.
 fn words_of(alloc: Global, problem: &CountProblem) -> Result<String, AllocError> {
     match problem {
         CountProblem::LotTwice { stage } => format!(in alloc; "two lots at stage {stage}"),
@@ -164,7 +167,7 @@ fn words_of(alloc: Global, problem: &CountProblem) -> Result<String, AllocError>
     }
 }
 
-/// Why ballots aren't counted.
+/// Returns why ballots can't be counted.
 fn problem_of(alloc: Global, ballots: &str, lots: &[(u8, u8)]) -> Result<CountProblem, Fail> {
     match count_ballots(alloc, ballots.as_bytes(), lots, &CountText::Sheet) {
         Ok(text) => {
@@ -175,7 +178,7 @@ fn problem_of(alloc: Global, ballots: &str, lots: &[(u8, u8)]) -> Result<CountPr
     }
 }
 
-/// Ballots aren't counted, for this reason.
+/// Checks that the given ballots can't be counted, and why.
 fn refuses(
     rt: &(impl Abort + AllocGlobal),
     (ballots, lots, wanted): &(&str, &[(u8, u8)], &str),
@@ -186,7 +189,7 @@ fn refuses(
     Ok(())
 }
 
-/// The page of ballots has this title, and says whether the result is declared.
+/// Checks that the page of the given ballots has its title, and whether it says that the result is declared.
 fn shows_page(rt: &(impl Abort + AllocGlobal), ballots: &str, declared: bool) -> Result<(), Fail> {
     let text = CountText::Page("A <title>");
     let page = counted(rt.alloc(), ballots, &[], &text)?;
@@ -200,6 +203,203 @@ fn shows_page(rt: &(impl Abort + AllocGlobal), ballots: &str, declared: bool) ->
     Ok(())
 }
 
+/// A ward's cast-vote records, with a byte order mark, carriage returns and an empty line. One paper has no first preference, and
+/// two have several.
+const RECORDS: &str = "\u{feff}count,\"Ann \"\"A\"\", jr.\",Bob,Cy\r
+4,1,2,\r
+\r
+2,1,,2\r
+1,,1,\r
+2,,,1\r
+1,,2,\r
+2,1,1,2\r
+";
+
+/// The ballots that result from `RECORDS`.
+const RECORDED: &str = r#"3 2
+4 1 2 0
+2 1 3 0
+1 2 0
+2 3 0
+0
+"Ann \"A\", jr."
+"Bob"
+"Cy"
+"Harbour"
+# Ward 1
+# Rejected 1: 1, 2: 2, 3: 0, 4: 0, 5: 0
+"#;
+
+/// Records that can't be read, and the first faulty line of each.
+const NOT_RECORDS: [(&str, &str); 11] = [
+    (
+        "",
+        "line 1 of the ballots: the file ends before the line of its columns",
+    ),
+    ("Ann,", "line 1 of the ballots: a column has no name"),
+    (
+        "Rank 1,Rank 2",
+        "line 1 of the ballots: a column may be of something other than a candidate",
+    ),
+    ("Ann", "line 1 of the ballots: a single column"),
+    (
+        "Ann,B\"ob",
+        "line 1 of the ballots: a field is not in quotation marks as a whole",
+    ),
+    (
+        "Ann,\"Bob",
+        "line 1 of the ballots: a quotation mark is not closed",
+    ),
+    (
+        "Ann,Bob,Cy\n1,2",
+        "line 2 of the ballots: another number of fields than columns",
+    ),
+    (
+        "Ann,Bob,Cy\n1,2,x",
+        "line 2 of the ballots: a field is not a rank",
+    ),
+    (
+        "Ann,Bob,Cy\n1,2,\n1,02,",
+        "line 3 of the ballots: a field is not a rank",
+    ),
+    (
+        "count,Ann,Bob,Cy\n0,1,2,",
+        "line 2 of the ballots: no papers",
+    ),
+    (
+        "count,Ann,Bob,Cy\n,1,2,",
+        "line 2 of the ballots: a word is not a number",
+    ),
+];
+
+/// The candidates of that ward, ordered by number.
+const CANDIDATES: [&str; 3] = ["Ann \"A\", jr.", "Bob", "Cy"];
+
+/// The same records with one column per rank, and candidates by number and by name. A paper that gives the same rank to
+/// several candidates can't be written this way; two papers without a first preference replace those.
+const RANKED: &str = "count,rank1,Rank 2,rank 3
+4,1,Bob,
+2,\"Ann \"\"A\"\", jr.\",3,
+1,Bob,,
+2,3,,
+1,,\"1\",
+2,,,
+";
+
+/// The ballots that result from `RANKED`.
+const RANKED_BALLOTS: &str = r#"3 2
+4 1 2 0
+2 1 3 0
+1 2 0
+2 3 0
+0
+"Ann \"A\", jr."
+"Bob"
+"Cy"
+"Harbour"
+# Ward 1
+# Rejected 1: 3, 2: 0, 3: 0, 4: 0, 5: 0
+"#;
+
+/// Records for these candidates that can't be read, and the first faulty line of each.
+const NOT_RANKED: [(&str, &str); 8] = [
+    (
+        "rank1,rank3\n",
+        "line 1 of the ballots: a column is not that of the next rank",
+    ),
+    (
+        "Ann,Bob\n",
+        "line 1 of the ballots: a column is not that of the next rank",
+    ),
+    ("count\n", "line 1 of the ballots: a single column"),
+    (
+        "rank1,rank2\n1,2\n1,4\n",
+        "line 3 of the ballots: a field names no candidate",
+    ),
+    (
+        "rank1,rank2\nBob,2\n",
+        "line 2 of the ballots: a candidate twice",
+    ),
+    (
+        "rank1,rank2\n1,2,3\n",
+        "line 2 of the ballots: another number of fields than columns",
+    ),
+    (
+        "rank1,rank2\n1\n",
+        "line 2 of the ballots: another number of fields than columns",
+    ),
+    (
+        "rank1,rank2\n1,\"2\n",
+        "line 2 of the ballots: a quotation mark is not closed",
+    ),
+];
+
+/// Counts a ward's records, and returns the result in words.
+fn recorded(
+    alloc: Global,
+    candidates: &[&str],
+    records: &str,
+    text: &CountText,
+) -> Result<String, Fail> {
+    if candidates.len() > MAX_CANDIDATES {
+        return Err(Fail::from("too many candidates"));
+    }
+    let ward = RecordsWard {
+        seats: 2,
+        name: "Harbour",
+        candidates: Vec::from_slice(alloc, candidates)?,
+    };
+    match count_records(alloc, &ward, records.as_bytes(), &[], text) {
+        Ok(counted) => {
+            let CountedText { text, lot_needed } = counted;
+            drop(lot_needed);
+            Ok(text)
+        }
+        Err(problem) => Ok(words_of(alloc, &problem)?),
+    }
+}
+
+/// Checks that the given candidates' records are counted as the given ballots.
+fn counts_as(
+    rt: &(impl Abort + AllocGlobal),
+    candidates: &[&str],
+    records: &str,
+    ballots: &str,
+) -> Result<(), Fail> {
+    let told = recorded(rt.alloc(), candidates, records, &CountText::Ballots)?;
+    is_text(rt, told.as_str(), ballots);
+    let sheet = recorded(rt.alloc(), candidates, records, &CountText::Sheet)?;
+    let wanted = counted(rt.alloc(), ballots, &[], &CountText::Sheet)?;
+    is_text(rt, sheet.as_str(), wanted.text.as_str());
+    Ok(())
+}
+
+/// Checks that records are counted in the same way as the ballots made from them.
+fn counts_records(rt: &(impl Abort + AllocGlobal)) -> Result<(), Fail> {
+    counts_as(rt, &[], RECORDS, RECORDED)?;
+    counts_as(rt, &CANDIDATES, RANKED, RANKED_BALLOTS)?;
+    for (records, flaw) in &NOT_RECORDS {
+        let told = recorded(rt.alloc(), &[], *records, &CountText::Sheet)?;
+        is_text(rt, told.as_str(), *flaw);
+    }
+    for (records, flaw) in &NOT_RANKED {
+        let told = recorded(rt.alloc(), &CANDIDATES, *records, &CountText::Sheet)?;
+        is_text(rt, told.as_str(), *flaw);
+    }
+    let told = recorded(
+        rt.alloc(),
+        &["Ann", "1"],
+        "rank1,rank2\n1,2\n",
+        &CountText::Sheet,
+    )?;
+    is_text(
+        rt,
+        told.as_str(),
+        "line 2 of the ballots: a field may name several candidates",
+    );
+    Ok(())
+}
+
 #[test]
 fn ballots_are_counted(rt: HostRuntime) -> Result<(), Fail> {
     for case in &COUNTED {
@@ -209,5 +409,6 @@ fn ballots_are_counted(rt: HostRuntime) -> Result<(), Fail> {
         refuses(&rt, case)?;
     }
     shows_page(&rt, BALLOTS, true)?;
-    shows_page(&rt, TIED, false)
+    shows_page(&rt, TIED, false)?;
+    counts_records(&rt)
 }

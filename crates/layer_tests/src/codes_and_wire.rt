@@ -1,5 +1,5 @@
-//! Codes of clerks and of the office: their file, which requests are authenticated, how many wrong codes reach the limit, and which
-//! codes are made.
+//! The codes of clerks and of the office: their file, which requests are authenticated, how many wrong codes it takes
+//! to reach the limit, and how codes are generated.
 
 ghost use Rattle.std.specs.Prelude.{Some, take};
 
@@ -15,23 +15,23 @@ use std::process::Abort;
 use std::test::Fail;
 use wire::{Gate, HttpSettings, Page, Routes, parse};
 
-/// A file of codes, one line of which a Windows program ended.
+/// A file of codes; one of its lines has a Windows line ending.
 const FILE: &str = "4 kf7m-2wxt\r\n\n9 w3hd-4psn\n";
 
-/// What clerk 4 sends, and what clerk 9 does.
+/// The credentials that clerk 4 sends, and those of clerk 9.
 const FOUR: &str = "Basic NDprZjdtLTJ3eHQ=";
 
 const NINE: &str = "Basic OTp3M2hkLTRwc24=";
 
-/// A file with a code of the office.
+/// A file that includes a code for the office.
 const WITH_OFFICE: &str = "4 kf7m-2wxt\noffice abcd-efgh-jkmn-prst\r\n9 w3hd-4psn\n";
 
-/// What the office sends with that code.
+/// The credentials that the office sends with that code.
 const OFFICE: &str = "Basic b2ZmaWNlOmFiY2QtZWZnaC1qa21uLXByc3Q=";
 
-/// What may be sent to the office, and whether it is the office's. After its own come two clerks', nothing, the office's code under
-/// clerk 4's name, and clerk 4's code under the office's. Then the office's name has a capital, its code is cut, and another scheme
-/// is named.
+/// Values that may be sent to the office, and whether it accepts them. First its own. Then those of two clerks, an
+/// empty value, the office's code under clerk 4's name, and clerk 4's code under the office's name. Last, the office's
+/// name with a capital letter, its code cut short, and a different scheme.
 const TO_OFFICE: [(&str, bool); 9] = [
     (OFFICE, true),
     (FOUR, false),
@@ -44,7 +44,7 @@ const TO_OFFICE: [(&str, bool); 9] = [
     ("Bearer b2ZmaWNlOmFiY2QtZWZnaC1qa21uLXByc3Q=", false),
 ];
 
-/// Texts that are no files of codes, and the fault of each.
+/// Texts that aren't valid files of codes, and the fault in each.
 const FAULTS: [(&str, &str); 24] = [
     ("4", "2 at 1"),
     ("kf7m-2wxt\n", "1 at 1"),
@@ -81,14 +81,19 @@ const FAULTS: [(&str, &str); 24] = [
     ),
 ];
 
-/// Requests under a clerk's number, by the values of `Authorization`.
-const SENT: [(&str, &str, &str); 19] = [
+/// Requests under a clerk's number, with their values of `Authorization`.
+const SENT: [(&str, &str, &str); 20] = [
     ("GET /clerks/4/work", FOUR, "Work { clerk: 4 }"),
     ("GET /clerks/9/work", NINE, "Work { clerk: 9 }"),
     (
         "GET /clerks/4/batches/12/candidates",
         FOUR,
         "Candidates { clerk: 4, batch: 12 }",
+    ),
+    (
+        "GET /clerks/4/batches/12/keyed",
+        FOUR,
+        "Keyed { clerk: 4, batch: 12 }",
     ),
     (
         "GET /clerks/4/",
@@ -104,7 +109,8 @@ const SENT: [(&str, &str, &str); 19] = [
     ("GET /clerks/4/work", NINE, "WrongCode(Clerk(4))"),
     ("GET /clerks/9/work", FOUR, "WrongCode(Clerk(9))"),
     ("GET /clerks/5/work", FOUR, "WrongCode(Clerk(5))"),
-    // in capitals, cut, with clerk 9's name, with clerk 9's code, with another number, under another scheme
+    // In capitals, cut short, with clerk 9's name, with clerk 9's code, with a different number, and under a different
+    // scheme.
     (
         "GET /clerks/4/work",
         "Basic NDpLRjdNLTJXWFQ=",
@@ -137,8 +143,8 @@ const SENT: [(&str, &str, &str); 19] = [
     ),
 ];
 
-/// Requests for no clerk's number, with two codes, and from a page from elsewhere.
-const BESIDE: [(&str, &str, &str); 5] = [
+/// Requests under no clerk's number, with two codes, and from a foreign page.
+const OTHER_REQUESTS: [(&str, &str, &str); 5] = [
     ("GET /wards/7/sheet", "", "Sheet { ward: 7 }"),
     ("GET /clerks//work", "", "NotFound"),
     ("GET /clerks/04/work", "", "NotFound"),
@@ -154,8 +160,8 @@ const BESIDE: [(&str, &str, &str); 5] = [
     ),
 ];
 
-/// Codes sent under clerk 4's number, how often, and when; and whether the limit is then reached.
-const KNOCKS: [(&str, u32, u64, bool); 9] = [
+/// Codes sent under clerk 4's number, how many times, and when; and whether the limit has then been reached.
+const CODES_SENT: [(&str, u32, u64, bool); 9] = [
     (FOUR, 6_001, 0, false),
     (NINE, 5_999, 100_000, false),
     (NINE, 1, 159_999, true),
@@ -167,22 +173,22 @@ const KNOCKS: [(&str, u32, u64, bool); 9] = [
     (NINE, 1, 220_000, false),
 ];
 
-/// Bytes that draw the codes of clerks 4 and 5: the seventh and the eleventh draw no letter.
+/// Bytes that generate the codes of clerks 4 and 5; the seventh and the eleventh generate no letter.
 const DRAWN: [u8; 26] = [
     0, 1, 2, 3, 24, 239, 240, 5, 6, 20, 255, 21, 22, 23, 8, 9, 10, 11, 12, 13, 14, 15, 16, 17, 18,
     19,
 ];
 
-/// The codes that these bytes draw.
+/// The codes generated from `DRAWN`.
 const MADE: &str = "4 abcd-a7fg-2347\n5 jkmn-prst-uwxy\n";
 
-/// Bytes that draw the office's code, one letter each.
+/// Bytes that generate the office's code, one letter each.
 const DRAWN_FOR_OFFICE: [u8; 16] = [0, 1, 2, 3, 4, 5, 6, 7, 8, 9, 10, 11, 12, 13, 14, 15];
 
-/// The codes that the bytes for the clerks draw, and then these.
+/// The codes generated from the clerks' bytes followed by the office's.
 const MADE_WITH_OFFICE: &str = "4 abcd-a7fg-2347\n5 jkmn-prst-uwxy\noffice abcd-efgh-jkmn-prst\n";
 
-/// Returns the report on a text as a file of codes.
+/// Returns the report on a text read as a file of codes.
 fn fault_in(alloc: Global, text: &str) -> Result<String, AllocError> {
     match Codes::read(alloc, text.as_bytes()) {
         Ok(_) => String::from_str(alloc, "none"),
@@ -194,7 +200,7 @@ fn fault_in(alloc: Global, text: &str) -> Result<String, AllocError> {
     }
 }
 
-/// Asks with these header lines.
+/// Sends a request with the given header lines.
 fn asks_at(
     rt: &(impl Abort + AllocGlobal),
     given: HttpSettings<'_>,
@@ -206,8 +212,8 @@ fn asks_at(
     asks_of(rt, given, request.as_bytes(), asked)
 }
 
-/// Sends requests under clerk 4's number, with this value of `Authorization`, so often, at this time; returns whether the limit is
-/// then reached.
+/// Sends the given number of requests under clerk 4's number at the given time, with the given value of
+/// `Authorization`. Returns whether the limit has then been reached.
 fn is_reached_after(
     alloc: Global,
     given: HttpSettings<'_>,
@@ -230,7 +236,7 @@ fn is_reached_after(
     Ok(limit.is_reached(now))
 }
 
-/// Returns these bytes, one after the other. Then it fails.
+/// A random source that returns its bytes in turn, and then fails.
 #[derive(Drop)]
 struct Known<'a> {
     bytes: &'a [u8],
@@ -255,7 +261,7 @@ impl RandomSource for Known<'_> {
     }
 }
 
-/// The gate of these codes, and nothing else.
+/// Returns settings with nothing but a gate, which has the given codes.
 fn gate_of(codes: &Codes) -> HttpSettings<'_> {
     let page = Page {
         text: "<p>keying</p>",
@@ -271,10 +277,11 @@ fn gate_of(codes: &Codes) -> HttpSettings<'_> {
                 policy: "default-src 'self'",
             },
         }),
+        public: None,
     }
 }
 
-/// What is reported of texts that are no files of codes.
+/// Checks the reports on texts that aren't valid files of codes.
 fn faults_are_told(rt: &(impl Abort + AllocGlobal)) -> Result<(), Fail> {
     for (text, told) in &FAULTS {
         is_text(rt, fault_in(rt.alloc(), *text)?.as_str(), *told);
@@ -282,7 +289,8 @@ fn faults_are_told(rt: &(impl Abort + AllocGlobal)) -> Result<(), Fail> {
     Ok(())
 }
 
-/// Asserts the request with one value of `Authorization`, or with none if it is empty.
+/// Checks what a request with the given value of `Authorization` asks for, or one without that header if the value is
+/// empty.
 fn asks_sent(
     rt: &(impl Abort + AllocGlobal),
     given: HttpSettings<'_>,
@@ -297,7 +305,7 @@ fn asks_sent(
     asks_at(rt, given, line, headers.as_str(), asked)
 }
 
-/// Each value that is sent.
+/// Sends each of the values in `SENT`.
 fn asks_all(rt: &(impl Abort + AllocGlobal), given: HttpSettings<'_>) -> Result<(), Fail> {
     for (line, value, asked) in &SENT {
         asks_sent(rt, given, *line, *value, *asked)?;
@@ -305,15 +313,16 @@ fn asks_all(rt: &(impl Abort + AllocGlobal), given: HttpSettings<'_>) -> Result<
     Ok(())
 }
 
-/// Asserts that one code is required, of a clerk only, and that a page from elsewhere is rejected first.
-fn asks_beside(rt: &(impl Abort + AllocGlobal), given: HttpSettings<'_>) -> Result<(), Fail> {
-    for (line, headers, asked) in &BESIDE {
+/// Checks that exactly one code is required, only under a clerk's number, and that a request from a foreign page is
+/// rejected before its code is checked.
+fn asks_other(rt: &(impl Abort + AllocGlobal), given: HttpSettings<'_>) -> Result<(), Fail> {
+    for (line, headers, asked) in &OTHER_REQUESTS {
         asks_at(rt, given, *line, *headers, *asked)?;
     }
     Ok(())
 }
 
-/// Requests for the console with this value of `Authorization`, or with none if it is empty.
+/// Requests to the console, each with a value of `Authorization`, or without that header if the value is empty.
 const OF_CONSOLE: [(&str, &str, &str); 13] = [
     (
         "GET /office/",
@@ -334,7 +343,7 @@ const OF_CONSOLE: [(&str, &str, &str); 13] = [
     ("GET /clerks/4/work", OFFICE, "WrongCode(Clerk(4))"),
 ];
 
-/// The bodies of orders, and what they ask.
+/// The bodies of orders, and what they ask for.
 const ORDERS: [(&str, &str); 12] = [
     (r#"{"files":{},"words":["wards"]}"#, "office: wards"),
     (
@@ -356,7 +365,7 @@ const ORDERS: [(&str, &str); 12] = [
     ("wards", "BadRequest"),
 ];
 
-/// What is asked of the console, if the office has a code.
+/// Checks what requests to the console ask for if the office has a code.
 fn asks_console(rt: &(impl Abort + AllocGlobal), given: HttpSettings<'_>) -> Result<(), Fail> {
     for (line, value, asked) in &OF_CONSOLE {
         asks_sent(rt, given, *line, *value, *asked)?;
@@ -371,14 +380,14 @@ fn asks_console(rt: &(impl Abort + AllocGlobal), given: HttpSettings<'_>) -> Res
     Ok(())
 }
 
-/// When the limit of wrong codes is reached, and until when.
+/// Checks when the limit on wrong codes is reached, and for how long it applies.
 fn limits_wrong_codes(
     rt: &(impl Abort + AllocGlobal),
     given: HttpSettings<'_>,
 ) -> Result<(), Fail> {
     let alloc = rt.alloc();
     let mut limit = RateLimit::new();
-    for (value, times, now, is_reached) in &KNOCKS {
+    for (value, times, now, is_reached) in &CODES_SENT {
         assert!(rt;
             is_reached_after(alloc, given, &mut limit, *value, *times, *now)? == *is_reached
         );
@@ -386,7 +395,7 @@ fn limits_wrong_codes(
     Ok(())
 }
 
-/// Asserts which requests a file with a code of the office authenticates.
+/// Checks which requests are authenticated if the file has a code for the office.
 fn office_is_let_in(rt: &(impl Abort + AllocGlobal), held: &Codes) -> Result<(), Fail> {
     assert!(rt; held.has_office());
     for (sent, is_its) in &TO_OFFICE {
@@ -399,7 +408,7 @@ fn office_is_let_in(rt: &(impl Abort + AllocGlobal), held: &Codes) -> Result<(),
     Ok(())
 }
 
-/// The codes of a file's text.
+/// Returns the codes in a file's text.
 fn codes_of(alloc: Global, text: &str) -> Result<Codes, Fail> {
     match Codes::read(alloc, text.as_bytes()) {
         Ok(held) => Ok(held),
@@ -412,10 +421,10 @@ fn codes_of_clerks(rt: HostRuntime) -> Result<(), Fail> {
     faults_are_told(&rt)?;
     let held = codes_of(rt.alloc(), FILE)?;
     asks_all(&rt, gate_of(&held))?;
-    asks_beside(&rt, gate_of(&held))?;
+    asks_other(&rt, gate_of(&held))?;
     assert_eq!(rt; held.weak_clerks(), [4, 9].as_slice());
     limits_wrong_codes(&rt, gate_of(&held))?;
-    // without a line of the office nothing is the office's
+    // If the file has no line for the office, no code is accepted as the office's.
     assert!(rt; !held.has_office());
     assert!(rt; !held.admits_office(OFFICE.as_bytes()));
     asks_sent(&rt, gate_of(&held), "GET /office/", OFFICE, "NotFound")?;
@@ -427,7 +436,8 @@ fn codes_of_clerks(rt: HostRuntime) -> Result<(), Fail> {
     office_is_let_in(&rt, &with_office)
 }
 
-/// Returns the codes for clerks 4 and 5, and for the office or not, made of these bytes: the text, or the reason why there is none.
+/// Returns the codes for clerks 4 and 5, and for the office if `office` is true, generated from the given bytes: their
+/// text, or the reason there are none.
 fn made_of(alloc: Global, bytes: &[u8], office: bool) -> Result<String, AllocError> {
     let clerks = ClerkRange { first: 4, last: 5 };
     let mut known = Known {
@@ -448,7 +458,7 @@ fn made_of(alloc: Global, bytes: &[u8], office: bool) -> Result<String, AllocErr
     }
 }
 
-/// Asserts that codes are made of just the bytes drawn, and that no file with the same code twice is made.
+/// Checks that codes are generated from the drawn bytes alone, and that no file with two equal codes is made.
 fn makes_codes(rt: &(impl Abort + AllocGlobal)) -> Result<(), Fail> {
     let alloc = rt.alloc();
     is_text(rt, made_of(alloc, &DRAWN, false)?.as_str(), MADE);
@@ -475,7 +485,7 @@ fn makes_codes(rt: &(impl Abort + AllocGlobal)) -> Result<(), Fail> {
     Ok(())
 }
 
-/// Asserts that the office's code is made of the bytes after those of the clerks' codes.
+/// Checks that the office's code is generated from the bytes that follow those of the clerks' codes.
 fn makes_with_office(rt: &(impl Abort + AllocGlobal)) -> Result<(), Fail> {
     let alloc = rt.alloc();
     let mut bytes = vec![in alloc; 0; 40]?;

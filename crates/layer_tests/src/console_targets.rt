@@ -1,11 +1,11 @@
-//! What the targets of the officer's console name.
+//! The resources named by the targets of the officer's console.
 
 use crate::wire_requests::asks_of;
 use std::process::Abort;
 use std::test::Fail;
 use wire::HttpSettings;
 
-/// What is read at each target.
+/// The resource at each target.
 const READS: [(&str, &str); 9] = [
     ("/office/wards", "Office(Wards)"),
     ("/office/wards/7", "Office(Ward { ward: 7 })"),
@@ -30,7 +30,7 @@ const READS: [(&str, &str); 9] = [
     ),
 ];
 
-/// Targets at which nothing is read.
+/// Targets without a resource.
 const NOTHING: [&str; 15] = [
     "/office/wards/",
     "/office/wards/0",
@@ -49,7 +49,7 @@ const NOTHING: [&str; 15] = [
     "/office/wards?actor=0",
 ];
 
-/// A request for this target, with this value of `Authorization`.
+/// Checks what a request for the given target, with the given value of `Authorization`, asks for.
 fn asks_target(
     rt: &(impl Abort + AllocGlobal),
     given: HttpSettings<'_>,
@@ -61,7 +61,7 @@ fn asks_target(
     asks_of(rt, given, request.as_bytes(), asked)
 }
 
-/// What is read at the gate with the office's code.
+/// Checks what is read with the office's code.
 pub fn asks_reads(
     rt: &(impl Abort + AllocGlobal),
     given: HttpSettings<'_>,

@@ -1,4 +1,4 @@
-//! Import files, read whole or refused, and the texts of their faults.
+//! Import files that are read in full or refused, and the texts of their faults.
 
 use crate::sheet_outputs::is_text;
 use keyfile::{CandidateRow, FileDigest, FileFault, Flaw, read_candidates, read_keying};
@@ -10,7 +10,7 @@ use std::io::{ErrorKind, Read};
 use std::process::Abort;
 use std::test::Fail;
 
-/// A reader that returns some bytes, one at a time, and fails at the read after them.
+/// A reader that returns its bytes one at a time, and then fails.
 #[derive(Drop)]
 struct TornFile<'a> {
     left: &'a [u8],
@@ -32,12 +32,12 @@ impl<'a> Read for TornFile<'a> {
     }
 }
 
-/// The columns of the keyings.
+/// Returns the columns of the keyings.
 fn three() -> Columns {
     Columns::empty().with(1).with(2).with(3)
 }
 
-/// Returns papers, each after a bar.
+/// Returns the papers, each preceded by a bar.
 fn papers_text(alloc: Global, papers: &[String]) -> Result<String, AllocError> {
     let mut text = String::new(alloc);
     for paper in papers {
@@ -47,7 +47,7 @@ fn papers_text(alloc: Global, papers: &[String]) -> Result<String, AllocError> {
     Ok(text)
 }
 
-/// Returns the papers of clerk 4's keying of batch 12, or the fault, as text. The error is a failed allocation.
+/// Returns the papers in clerk 4's keying of batch 12, or the fault, as text. The error is a failed allocation.
 fn keying_text<R: Read + Drop>(
     alloc: Global,
     file: R,
@@ -59,7 +59,7 @@ fn keying_text<R: Read + Drop>(
     }
 }
 
-/// Returns candidates, each after a bar.
+/// Returns the candidates, each preceded by a bar.
 fn rows_text(alloc: Global, rows: &[CandidateRow]) -> Result<String, AllocError> {
     let mut text = String::new(alloc);
     for row in rows {
@@ -85,8 +85,8 @@ fn fault_text(alloc: Global, fault: FileFault) -> Result<String, AllocError> {
     format!(in alloc; "{fault}")
 }
 
-/// Files of a keying of the candidates 1, 2 and 3, and the result of each: its papers, or its fault. `~` and `^` are the bytes FF
-/// and FE, which never occur in UTF-8.
+/// Files with a keying for candidates 1, 2 and 3, and the result of each: its papers or its fault. `~` and `^`
+/// represent the bytes FF and FE, which never occur in UTF-8.
 const KEYINGS: [(&str, &str); 22] = [
     ("paper,1,2,3\n1,1,2,\n2,D,,\n", "|1,2,|D"),
     (
@@ -119,8 +119,8 @@ const KEYINGS: [(&str, &str); 22] = [
         "paper 12/04,1,2,3\n1,1,2,\n",
         "file fault 1 at record 0: header",
     ),
-    // As other programs save them: a byte order mark, other line ends, quotes, empty or blank lines at the end or lines of commas,
-    // other separators, UTF-16.
+    // Files as other programs save them: with a byte order mark, different line endings, quotes, empty or blank lines
+    // or lines of commas at the end, different separators, or in UTF-16.
     ("\u{feff}paper,1,2,3\n1,1,2,\n", "|1,2,"),
     ("paper,1,2,3\r\n1,1,2,\r\n2,D,,\r\n", "|1,2,|D"),
     ("paper,1,2,3\r1,1,2,\r2,D,,", "|1,2,|D"),
@@ -148,7 +148,7 @@ const KEYINGS: [(&str, &str); 22] = [
     ),
 ];
 
-/// A file by its digest: `paper,1,2,3` and `1,1,2,`.
+/// The digest of a file with the lines `paper,1,2,3` and `1,1,2,`.
 const DIGEST: &str = "A07A0DF7acf3e17b2096413e8f3ac12de041078e12e444496ea6ad4fca589c35";
 
 /// Files that must have this [`DIGEST`], and the result of each.
@@ -164,7 +164,7 @@ const DIGESTED: [(&str, &str); 3] = [
     ),
 ];
 
-/// Returns the bytes of a text in which `~` and `^` are two that never occur in UTF-8.
+/// Returns the bytes of a text, with `~` and `^` replaced by two bytes that never occur in UTF-8.
 fn bytes_of(alloc: Global, text: &str) -> Result<Vec<u8>, AllocError> {
     let mut bytes = Vec::new(alloc);
     for byte in text.as_bytes() {
@@ -177,7 +177,7 @@ fn bytes_of(alloc: Global, text: &str) -> Result<Vec<u8>, AllocError> {
     Ok(bytes)
 }
 
-/// Asserts that a file has these papers, or this fault.
+/// Checks that reading a file results in the given papers, or in the given fault.
 fn gives<R: Read + Drop>(
     rt: &(impl Abort + AllocGlobal),
     file: R,
@@ -189,7 +189,7 @@ fn gives<R: Read + Drop>(
     Ok(())
 }
 
-/// Asserts the result of each file.
+/// Checks the result for each file.
 fn all_give(
     rt: &(impl Abort + AllocGlobal),
     files: &[(&str, &str)],
@@ -202,14 +202,14 @@ fn all_give(
     Ok(())
 }
 
-/// Asserts the candidates of a file.
+/// Checks the candidates read from a file.
 fn gives_candidates(rt: &(impl Abort + AllocGlobal), file: &str, wanted: &str) -> Result<(), Fail> {
     let text = candidates_text(rt.alloc(), file.as_bytes())?;
     is_text(rt, text.as_str(), wanted);
     Ok(())
 }
 
-/// The file of a keying of 501 papers, one more than there may be.
+/// Returns a file with a keying of 501 papers, one more than is allowed.
 fn long_file(alloc: Global) -> Result<String, AllocError> {
     let mut file = String::from_str(alloc, "paper,1,2,3\n")?;
     for number in 1..502 {
@@ -218,7 +218,7 @@ fn long_file(alloc: Global) -> Result<String, AllocError> {
     Ok(file)
 }
 
-/// Asserts that a failed read is reported at its record.
+/// Checks that a failed read is reported with its record number.
 fn break_off(rt: &(impl Abort + AllocGlobal), digest: Option<FileDigest>) -> Result<(), Fail> {
     let left = b"paper,1,2,3\n1,,,\n2,,".as_slice();
     gives(

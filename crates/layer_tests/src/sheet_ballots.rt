@@ -11,7 +11,7 @@ use std::process::Abort;
 use std::test::Fail;
 use streams::{Broken, Sink};
 
-/// There are no candidates 2, 4 and 5, and names have quotation marks and backslashes, which are escaped.
+/// Numbers 2, 4 and 5 have no candidate, and names contain quotation marks and backslashes, which are escaped.
 const GAPS: &str = r#"6 2
 -2 -4 -5
 2 1 0
@@ -32,7 +32,7 @@ const GAPS: &str = r#"6 2
 # Lot at stage 4: 6
 "#;
 
-/// The ballots of a ward.
+/// A ward's ballots.
 #[derive(Drop)]
 struct WardBallots<'a> {
     ward: &'a Ward<'a>,
@@ -56,10 +56,10 @@ impl<'a> Printed for WardBallots<'a> {
     }
 }
 
-/// The candidates of the ward.
+/// The ward's candidates.
 const NAMED: [(u8, &str); 3] = [(1, "Ann"), (3, "B. \"Bob\" \\ Brün"), (6, "Cy")];
 
-/// Its papers.
+/// The ward's papers.
 const PAPERS: [(u32, &[u8]); 4] = [(1, &[6]), (2, &[1, 6]), (3, &[1, 3, 6]), (2, &[1])];
 
 fn prints_poll_of(

@@ -1,4 +1,5 @@
-//! Pages, and the page of all wards, byte for byte but for their style, which its definition has.
+//! The pages of wards, and the page of all wards, compared byte for byte except for their style, which its definition
+//! gives.
 
 ghost use Rattle.std.specs.Prelude.{◌-◌, ◌^◌, ◌<◌};
 
@@ -14,7 +15,7 @@ use std::process::Abort;
 use std::test::Fail;
 use streams::{Broken, Sink};
 
-/// The text before the style.
+/// A page's text before its style.
 const HEAD: &str = r##"<!DOCTYPE html>
 <html lang="en">
 <head>
@@ -23,7 +24,7 @@ const HEAD: &str = r##"<!DOCTYPE html>
 <title>Ward 7 &lt;Harbour&gt;</title>
 "##;
 
-/// The text after it on the page of a declared ward.
+/// The text after the style, on the page of a declared ward.
 const DECLARED: &str = r##"
 </head>
 <body>
@@ -122,7 +123,7 @@ const DECLARED: &str = r##"
 </html>
 "##;
 
-/// The same before the first stage.
+/// The text after the style, on the page of a ward before the first stage.
 const NO_STAGE: &str = r##"
 </head>
 <body>
@@ -160,7 +161,7 @@ const NO_STAGE: &str = r##"
 </html>
 "##;
 
-/// The same of an uncontested ward, which has a seat more than candidates.
+/// The text after the style, on the page of an uncontested ward, which has one more seat than candidates.
 const UNCONTESTED: &str = r##"
 </head>
 <body>
@@ -196,7 +197,8 @@ const UNCONTESTED: &str = r##"
 </html>
 "##;
 
-/// The same before its declaration: that a seat stays empty is known without a count.
+/// The text after the style, on the page of that ward before its declaration: even without a count, it is known that a
+/// seat stays empty.
 const NOT_DECLARED: &str = r##"
 </head>
 <body>
@@ -219,7 +221,7 @@ const NOT_DECLARED: &str = r##"
 </html>
 "##;
 
-/// The text before the style of the page of all wards.
+/// The text before the style, on the page of all wards.
 const INDEX_HEAD: &str = r##"<!DOCTYPE html>
 <html lang="en">
 <head>
@@ -228,7 +230,7 @@ const INDEX_HEAD: &str = r##"<!DOCTYPE html>
 <title>Wards</title>
 "##;
 
-/// The text after it.
+/// The text after the style, on the page of all wards.
 const INDEX: &str = r##"
 </head>
 <body>
@@ -266,7 +268,7 @@ const INDEX: &str = r##"
 /// A title that looks like markup.
 const TITLE: &str = "Vote & <Council>";
 
-/// What would load something from elsewhere.
+/// Strings that would load something from another site.
 const FOREIGN: [&str; 5] = ["//", "@import", "<script", "<link", "<img"];
 
 /// The page of a ward.
@@ -314,14 +316,14 @@ impl<'a> Printed for WardsPage<'a> {
     }
 }
 
-/// Returns the text before the style of a page, and the text after it.
+/// Returns a page's text before its style, and the text after it.
 fn around_style(text: &str) -> Option<(&str, &str)> {
     let (above, behind) = text.split_once("<style>")?;
     let (_, below) = behind.split_once("</style>")?;
     Some((above, below))
 }
 
-/// Returns whether anything is loaded from elsewhere.
+/// Returns whether a page loads anything from another site.
 fn is_foreign(text: &str) -> bool {
     for word in &FOREIGN {
         if text.contains(*word) {
@@ -331,7 +333,7 @@ fn is_foreign(text: &str) -> bool {
     false
 }
 
-/// Compares a page with the text before and after its style, and checks that nothing is loaded from elsewhere.
+/// Compares a page with the text before and after its style, and checks that it loads nothing from another site.
 fn compare(rt: &impl Abort, text: &str, above: &str, body: &str) -> Result<(), Fail> {
     match around_style(text) {
         Some((head, below)) => {
@@ -344,7 +346,7 @@ fn compare(rt: &impl Abort, text: &str, above: &str, body: &str) -> Result<(), F
     }
 }
 
-/// Prints a page, and compares it.
+/// Prints a page, and compares it with the expected texts.
 fn prints_page<P: Printed>(
     rt: &(impl Abort + AllocGlobal),
     printed: &P,
@@ -355,7 +357,7 @@ fn prints_page<P: Printed>(
     compare(rt, text.as_str(), above, body)
 }
 
-/// Checks that a page has these words.
+/// Checks that a page contains the given words.
 fn has_words<P: Printed>(
     rt: &(impl Abort + AllocGlobal),
     printed: &P,
@@ -368,7 +370,7 @@ fn has_words<P: Printed>(
     Ok(())
 }
 
-/// The words of two tables, of eight stages and of one.
+/// The words of two tables, one with eight stages and one with a single stage.
 const TABLES: [&str; 4] = [
     " aria-label=\"Stages 1 to 8\">",
     "<caption>Stages 1 to 8</caption>",
@@ -376,13 +378,13 @@ const TABLES: [&str; 4] = [
     "<caption>Stage 9</caption>",
 ];
 
-/// Those of a lot among three, and of one whose stage isn't done yet.
+/// The words for a lot among three candidates, and for a lot whose stage hasn't been counted yet.
 const LOTS: [&str; 2] = [
     "<li>Lot at stage 2 between 1 <bdi>Ann &lt;b&gt;</bdi>, 2 <bdi>&quot;Bob&quot; &amp; &#39;Co&#39;</bdi> and 3 <bdi>רות</bdi>: excluded 3 <bdi>רות</bdi></li>",
     "<li>Lot at stage 3 between 1 <bdi>Ann &lt;b&gt;</bdi> and 2 <bdi>&quot;Bob&quot; &amp; &#39;Co&#39;</bdi>: drawn 1 <bdi>Ann &lt;b&gt;</bdi></li>",
 ];
 
-/// The page of a ward without a title, which isn't declared.
+/// Returns the page of a ward that has no title and isn't declared.
 fn undeclared<'a>(ward: &'a Ward<'a>, stages: &'a [Stage], lots: &'a [(u8, u8)]) -> WardPage<'a> {
     WardPage {
         ward,
@@ -393,7 +395,7 @@ fn undeclared<'a>(ward: &'a Ward<'a>, stages: &'a [Stage], lots: &'a [(u8, u8)])
     }
 }
 
-/// A ward of the page of all wards.
+/// Returns a ward for the page of all wards.
 fn listed(
     alloc: Global,
     number: u32,
@@ -410,7 +412,7 @@ fn listed(
     })
 }
 
-/// A declared ward, with its elected candidates.
+/// Returns a declared ward, with its elected candidates.
 fn declared(alloc: Global) -> Result<ListedWard, AllocError> {
     let mut ward = listed(alloc, 7, "<Harbour>", 2, WardStanding::Declared)?;
     for (c, name) in &[(1, "Ann <b>"), (3, "רות")] {
@@ -426,7 +428,7 @@ const OTHERS: [(u32, &str, u32, WardStanding); 3] = [
     (10, "Hill", 1, WardStanding::Nominations),
 ];
 
-/// All wards.
+/// Returns all wards.
 fn wards_of(alloc: Global) -> Result<Vec<ListedWard>, AllocError> {
     let mut wards = Vec::new(alloc);
     wards.push(declared(alloc)?)?;
@@ -445,7 +447,7 @@ fn prints_index(rt: &(impl Abort + AllocGlobal)) -> Result<(), Fail> {
     prints_page(rt, &printed, INDEX_HEAD, INDEX)
 }
 
-/// The ward of these candidates.
+/// Returns the ward with the given candidates.
 fn harbour<'a>(candidates: &'a [(u8, String)], seats: u8, poll: Option<Poll>) -> Ward<'a> {
     Ward {
         number: 7,
@@ -456,12 +458,12 @@ fn harbour<'a>(candidates: &'a [(u8, String)], seats: u8, poll: Option<Poll>) ->
     }
 }
 
-/// The papers of a poll, of which so many are rejected.
+/// Returns the poll with the given numbers of rejected papers.
 fn poll_of(rejected: [u32; 5]) -> Option<Poll> {
     Some(Poll { valid: 9, rejected })
 }
 
-/// The ward of a poll with rejected papers of each code.
+/// Returns the ward of a poll that has rejected papers for each code.
 fn with_rejected<'a>(candidates: &'a [(u8, String)]) -> Ward<'a> {
     harbour(candidates, 2, poll_of([1, 20, 300, 4000, 50000]))
 }
@@ -481,7 +483,7 @@ fn prints_tables_and_lots(
     has_words(rt, &undeclared(&ward, &stages, &[(2, 3), (3, 1)]), &LOTS)
 }
 
-/// Prints the page of a declared ward, and those before its first stage and at more of them.
+/// Prints the page of a declared ward, and its pages before the first stage and after later ones.
 fn prints_contested(
     rt: &(impl Abort + AllocGlobal),
     candidates: &[(u8, String)],

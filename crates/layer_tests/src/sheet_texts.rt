@@ -48,7 +48,7 @@ Elected
  3 Cy
 ";
 
-/// The sheet of a ward.
+/// A ward's sheet.
 #[derive(Drop)]
 struct SheetCase<'a> {
     ward: &'a Ward<'a>,
@@ -71,7 +71,7 @@ impl<'a> Printed for SheetCase<'a> {
     }
 }
 
-/// The declaration of a ward.
+/// A ward's declaration.
 #[derive(Drop)]
 struct WardDeclaration<'a> {
     ward: &'a Ward<'a>,
@@ -94,7 +94,7 @@ impl<'a> Printed for WardDeclaration<'a> {
     }
 }
 
-/// The ward of these candidates and papers.
+/// Returns the ward with the given candidates and papers.
 fn harbour<'a>(candidates: &'a [(u8, String)], valid: u32, rejected: [u32; 5]) -> Ward<'a> {
     Ward {
         number: 7,
@@ -105,7 +105,7 @@ fn harbour<'a>(candidates: &'a [(u8, String)], valid: u32, rejected: [u32; 5]) -
     }
 }
 
-/// Prints what there is of a ward once it is counted.
+/// Prints the sheet and the declaration of a ward that has been counted.
 fn prints_counted(
     rt: &(impl Abort + AllocGlobal),
     candidates: &[(u8, String)],

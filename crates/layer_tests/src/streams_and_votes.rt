@@ -1,4 +1,4 @@
-//! Votes, their text, and the streams to which it is written.
+//! Votes, their text, and the streams to which the text is written.
 
 use crate::sheet_outputs::{is_text, is_told};
 use std::alloc::{AllocError, Global};
@@ -32,7 +32,7 @@ impl Write for Narrow {
     }
 }
 
-/// A writer that accepts no byte.
+/// A writer that accepts no bytes.
 #[derive(Drop)]
 struct Full;
 
@@ -46,7 +46,8 @@ impl Write for Full {
     }
 }
 
-/// A stream that fails at the first call and at every second one after it; in between it accepts all bytes, and returns one.
+/// A stream that fails on the first call and on every second call after it; in between, a write accepts all bytes, and
+/// a read returns one.
 #[derive(Drop)]
 struct TornStream {
     page: Vec<u8>,
@@ -82,12 +83,12 @@ impl Read for TornStream {
     }
 }
 
-/// The text of a value.
+/// Returns the text of a value.
 fn text_of(alloc: Global, votes: Votes) -> Result<String, AllocError> {
     format!(in alloc; "{votes}")
 }
 
-/// Returns the bytes of a value that a sink in memory accepts.
+/// Returns the bytes of a value's text that an in-memory sink accepts.
 fn written(alloc: Global, votes: Votes) -> Result<Vec<u8>, Broken> {
     let mut page = Vec::new(alloc);
     votes.write(&mut Counted::new(&mut page))?;
@@ -102,7 +103,7 @@ fn prints(rt: &(impl Abort + AllocGlobal), votes: Votes, text: &str) -> Result<(
     Ok(())
 }
 
-/// Quotas, transfer values, and nothing.
+/// Returns quotas, transfer values, and zero.
 fn values() -> [Votes; 6] {
     let surplus = Votes::from_units(250000);
     let credited = Votes::from_units(650000);
@@ -116,7 +117,7 @@ fn values() -> [Votes; 6] {
     ]
 }
 
-/// Their texts.
+/// The texts of those values.
 const TEXTS: [&str; 6] = [
     "2499751.00000",
     "312469.00000",
@@ -136,7 +137,8 @@ fn values_and_their_text(rt: HostRuntime) -> Result<(), Fail> {
     Ok(())
 }
 
-/// Writes a value to a writer with so much room. Returns whether it was enough, the number of failures, and the accepted bytes.
+/// Writes a value to a writer with the given amount of room. Returns whether that was enough, the number of failures,
+/// and the accepted bytes.
 fn writes_narrowly(alloc: Global, room: usize) -> (bool, u64, Vec<u8>) {
     let mut narrow = Narrow {
         page: Vec::new(alloc),
@@ -149,7 +151,7 @@ fn writes_narrowly(alloc: Global, room: usize) -> (bool, u64, Vec<u8>) {
     (is_whole, failures, page)
 }
 
-/// Returns whether a prefix is accepted and one failure counted, if there isn't room for the whole text.
+/// Returns whether a prefix is accepted and one failure counted if there isn't room for the whole text.
 fn keeps_a_beginning(alloc: Global, text: &[u8], room: usize) -> bool {
     let whole = room == text.len();
     let (is_whole, failures, page) = writes_narrowly(alloc, room);
@@ -166,7 +168,7 @@ fn a_sink_that_fails_keeps_a_beginning(rt: HostRuntime) {
     }
 }
 
-/// Returns how many of some bytes a sink accepts; it has failed at most a few times.
+/// Returns how many of the given bytes a sink accepts. The sink has failed at most a few times before.
 fn put<S: Sink>(sink: &mut S, bytes: &[u8]) -> Option<usize> {
     if sink.failures() > 9 {
         return None;
@@ -174,7 +176,7 @@ fn put<S: Sink>(sink: &mut S, bytes: &[u8]) -> Option<usize> {
     sink.put(bytes).ok()
 }
 
-/// Returns how many bytes a source returns; it has failed at most a few times.
+/// Returns how many bytes are read from a source. The source has failed at most a few times before.
 fn fetch<S: Source>(source: &mut S, room: &mut [u8]) -> Option<usize> {
     if source.failures() > 9 {
         return None;
@@ -182,18 +184,18 @@ fn fetch<S: Source>(source: &mut S, room: &mut [u8]) -> Option<usize> {
     source.fetch(room).ok()
 }
 
-/// Returns whether a sink accepts all of some bytes; it has failed at most a few times.
+/// Returns whether a sink accepts all the given bytes. The sink has failed at most a few times before.
 fn takes_all<S: Sink>(sink: &mut S, bytes: &[u8]) -> bool {
     sink.failures() <= 9 && put_all(sink, bytes).is_ok()
 }
 
-/// Asserts that a sink that accepts nothing is broken.
+/// Checks that writing to a sink without room fails.
 fn is_full<S: Sink>(rt: &impl Abort, sink: &mut S) {
     assert!(rt; takes_all(sink, b"") && sink.failures() == 0);
     assert!(rt; !takes_all(sink, b"x") && sink.failures() == 1);
 }
 
-/// Asserts that a source returns so many bytes, and that the buffer then has these.
+/// Checks that a source returns the given number of bytes, and what the buffer then contains.
 fn gives<S: Source>(
     rt: &impl Abort,
     source: &mut S,
@@ -206,7 +208,7 @@ fn gives<S: Source>(
     );
 }
 
-/// Asserts that a source of `ballot` returns it four bytes at a time.
+/// Checks that a source of the text `ballot` returns it four bytes at a time.
 fn gives_ballot<S: Source>(rt: &impl Abort, source: &mut S) {
     let mut room = [0; 4];
     gives(rt, source, &mut room, (4, b"ball"));
@@ -215,17 +217,17 @@ fn gives_ballot<S: Source>(rt: &impl Abort, source: &mut S) {
     assert_eq!(rt; source.failures(), 0);
 }
 
-/// Asserts how many bytes are accepted; none if the call fails.
+/// Checks that `taken` bytes are accepted, or that the call fails if `taken` is `None`.
 fn puts<S: Sink>(rt: &impl Abort, sink: &mut S, bytes: &[u8], taken: Option<usize>) {
     assert!(rt; put(sink, bytes) == taken, "{taken:?} taken");
 }
 
-/// Asserts how many bytes are read; none if the call fails.
+/// Checks that `given` bytes are read, or that the call fails if `given` is `None`.
 fn fetches<S: Source>(rt: &impl Abort, source: &mut S, room: &mut [u8], given: Option<usize>) {
     assert!(rt; fetch(source, room) == given, "{given:?} given");
 }
 
-/// Asserts that a failure concerns one call alone.
+/// Checks that a failure affects only the call in which it occurs.
 fn fails_call_by_call<S: Sink + Source>(
     rt: &impl Abort,
     torn: &mut S,

@@ -1,4 +1,5 @@
-//! What requests over HTTP ask, from readers that return all at once, or one byte at a time, and that fail.
+//! What HTTP requests ask for, read from readers that return everything at once, that return one byte at a time, or
+//! that fail.
 
 ghost use Rattle.std.specs.Prelude.{◌-◌, ◌^◌, ◌<◌};
 
@@ -11,7 +12,8 @@ use std::process::Abort;
 use std::test::Fail;
 use streams::{Counted, Source};
 use wire::{
-    ConsoleOrder, HttpRequest, HttpSettings, Keying, ReadFailure, RequestError, Show, read_request,
+    ConsoleOrder, FixedPage, HttpRequest, HttpSettings, Keying, ReadFailure, RequestError,
+    read_request,
 };
 
 /// The longest head, in bytes, the most headers, and the longest body.
@@ -21,7 +23,7 @@ const MAX_HEADERS: usize = 32;
 
 const MAX_BODY_BYTES: u32 = 1_048_576;
 
-/// A reader that returns some bytes, one at a time; after them it ends, or fails.
+/// A reader that returns its bytes one at a time, and then ends or fails.
 #[derive(Drop)]
 struct Slow<'a> {
     left: &'a [u8],
@@ -42,7 +44,7 @@ impl<'a> Read for Slow<'a> {
     }
 }
 
-/// Returns a requested keying, in short.
+/// Returns a keying, in short form.
 fn keying_words(alloc: Global, keying: &Keying) -> Result<String, AllocError> {
     let (clerk, batch, round) = (keying.clerk, keying.batch, keying.round);
     let id = keying.id.as_str();
@@ -53,26 +55,26 @@ fn keying_words(alloc: Global, keying: &Keying) -> Result<String, AllocError> {
     Ok(text)
 }
 
-/// Why a request is denied, in short.
-fn denial_words(alloc: Global, why: &RequestError) -> Result<String, AllocError> {
+/// Returns why a request is denied, in short form.
+fn rejection_words(alloc: Global, why: &RequestError) -> Result<String, AllocError> {
     match why {
         RequestError::MethodNotAllowed { allowed } => format!(in alloc; "only {allowed:?}"),
         _ => format!(in alloc; "{why:?}"),
     }
 }
 
-/// What a clerk or the office is shown, in short.
-fn shown_words(alloc: Global, clerk: &str, what: &Show<'_>) -> Result<String, AllocError> {
+/// Returns what a clerk or the office is shown, in short form.
+fn shown_words(alloc: Global, clerk: &str, what: &FixedPage<'_>) -> Result<String, AllocError> {
     match what {
-        Show::Page(page) => {
+        FixedPage::Page(page) => {
             let (text, policy) = (page.text, page.policy);
             format!(in alloc; "{clerk} sees {text} by {policy}")
         }
-        Show::Left => format!(in alloc; "{clerk} leaves"),
+        FixedPage::SignedOut => format!(in alloc; "{clerk} leaves"),
     }
 }
 
-/// An order, in short: its words, and its files.
+/// Returns an order, in short form: its words, and its files.
 fn order_words(alloc: Global, order: &ConsoleOrder) -> Result<String, AllocError> {
     let mut text = String::from_str(alloc, "office:")?;
     for word in &order.words {
@@ -84,17 +86,18 @@ fn order_words(alloc: Global, order: &ConsoleOrder) -> Result<String, AllocError
     Ok(text)
 }
 
-/// What a request asks, or why it wasn't read, in short.
+/// Returns what a request asks for, or why it couldn't be read, in short form.
 fn words_of(alloc: Global, came: &Result<HttpRequest, ReadFailure>) -> Result<String, AllocError> {
     match came {
         Ok(HttpRequest::Keying(keying)) => keying_words(alloc, keying),
-        Ok(HttpRequest::Shown(clerk, what)) => {
+        Ok(HttpRequest::ClerkPage(clerk, what)) => {
             shown_words(alloc, format!(in alloc; "{clerk}")?.as_str(), what)
         }
         Ok(HttpRequest::ConsolePage(what)) => shown_words(alloc, "office", what),
         Ok(HttpRequest::Order(order)) => order_words(alloc, order),
         Ok(HttpRequest::Resource(what)) => format!(in alloc; "{what:?}"),
-        Ok(HttpRequest::Denied(why)) => denial_words(alloc, why),
+        Ok(HttpRequest::Public(_, what)) => format!(in alloc; "{what:?}"),
+        Ok(HttpRequest::Denied(why)) => rejection_words(alloc, why),
         Err(ReadFailure::Broken) => String::from_str(alloc, "broken"),
         Err(ReadFailure::Memory) => String::from_str(alloc, "memory"),
     }
@@ -104,9 +107,10 @@ fn words_of(alloc: Global, came: &Result<HttpRequest, ReadFailure>) -> Result<St
 pub const NOTHING: HttpSettings<'static> = HttpSettings {
     origin: None,
     gate: None,
+    public: None,
 };
 
-/// Returns what is asked, in short, of an office with these settings.
+/// Returns what a request to an office with the given settings asks for, in short form.
 fn asked_text<R: Source>(
     alloc: Global,
     given: HttpSettings<'_>,
@@ -117,7 +121,7 @@ fn asked_text<R: Source>(
     words_of(alloc, &read_request(alloc, given, reader))
 }
 
-/// Reads a request.
+/// Checks what a request from the given reader asks for.
 fn asks_in<R: Source>(
     rt: &(impl Abort + AllocGlobal),
     given: HttpSettings<'_>,
@@ -131,7 +135,7 @@ fn asks_in<R: Source>(
     Ok(())
 }
 
-/// Reads a request given at once, and one byte at a time.
+/// Checks what a request asks for, both when it is read at once and when it is read one byte at a time.
 pub fn asks_of(
     rt: &(impl Abort + AllocGlobal),
     given: HttpSettings<'_>,
@@ -146,23 +150,23 @@ pub fn asks_of(
     asks_in(rt, given, &mut Counted::new(slow), asked)
 }
 
-/// Does the same for an office without settings.
+/// Does the same as `asks_of` for an office without settings.
 pub fn asks(rt: &(impl Abort + AllocGlobal), request: &[u8], asked: &str) -> Result<(), Fail> {
     asks_of(rt, NOTHING, request, asked)
 }
 
-/// A keying with these headers and this body.
+/// Returns a keying request with the given headers and body.
 fn keying(alloc: Global, headers: &str, body: &str) -> Result<String, AllocError> {
     format!(in alloc; "POST /clerks/4/batches/12/keying HTTP/1.1\r\n{headers}\r\n{body}")
 }
 
-/// Its body.
+/// The body of a keying.
 pub const BODY: &str = r#"{"id":"h1","round":1,"papers":["1,2,","D"]}"#;
 
-/// What it asks.
+/// What a keying with the body `BODY` asks for.
 pub const KEYED: &str = "4 keys 12 round 1 as h1: [1,2,] [D]";
 
-/// First lines, each without a valid length after it.
+/// First lines of requests, none followed by a valid length.
 const TARGETS: [(&str, &str); 23] = [
     ("GET /clerks/4/work HTTP/1.1", "Work { clerk: 4 }"),
     ("GET /clerks/99999/work HTTP/1.0", "Work { clerk: 99999 }"),
@@ -189,7 +193,7 @@ const TARGETS: [(&str, &str); 23] = [
     ("X", "BadRequest"),
 ];
 
-/// Headers of a keying whose body has 43 bytes.
+/// Headers for a keying whose body has 43 bytes.
 const LENGTHS: [(&str, &str); 14] = [
     ("Content-Length: 43\r\n", KEYED),
     ("cONTENT-lENGTH:\t0043 \r\nHost: x\r\n", KEYED),
@@ -216,7 +220,7 @@ const LENGTHS: [(&str, &str); 14] = [
     ),
 ];
 
-/// Bodies of a keying, of the length that its header says.
+/// Bodies for a keying whose header gives their length.
 const BODIES: [(&str, &str); 13] = [
     (
         r#" { "papers" : [] , "round" : 4294967295 , "id" : "" } "#,
@@ -276,7 +280,7 @@ fn targets_lengths_and_bodies(rt: HostRuntime) -> Result<(), Fail> {
     Ok(())
 }
 
-/// Returns a text followed by another so many times.
+/// Returns a text followed by the given number of repetitions of another.
 fn repeated(alloc: Global, text: &str, more: &str, times: usize) -> Result<String, AllocError> {
     let mut long = String::from_str(alloc, text)?;
     for _ in 0..times {
@@ -285,7 +289,7 @@ fn repeated(alloc: Global, text: &str, more: &str, times: usize) -> Result<Strin
     Ok(long)
 }
 
-/// Reads a text followed by another so many times, and by an end.
+/// Checks what a request asks for if it consists of a text, the given number of repetitions of another, and an end.
 fn asks_long(
     rt: &(impl Abort + AllocGlobal),
     text: &str,
@@ -298,7 +302,7 @@ fn asks_long(
     asks(rt, request.as_bytes(), asked)
 }
 
-/// A head that is one header of so many bytes, with such an end.
+/// Checks what a request asks for if its head has the given length, the given end, and a single header.
 fn asks_long_head(
     rt: &(impl Abort + AllocGlobal),
     (length, end, asked): &(usize, &str, &str),
@@ -308,33 +312,34 @@ fn asks_long_head(
     asks_long(rt, begun, ("x", times), *end, *asked)
 }
 
-/// How long a head is, its end, and what it asks.
+/// The length of a head, its end, and what the request asks for.
 const LONG_HEADS: [(usize, &str, &str); 3] = [
     (MAX_HEAD_BYTES, "\r\n\r\n", "Sheet { ward: 7 }"),
     (MAX_HEAD_BYTES + 1, "\r\n\r\n", "BadRequest"),
     (MAX_HEAD_BYTES + 1, "xxxx", "BadRequest"),
 ];
 
-/// How many headers there are, and what is asked with them.
+/// The number of headers, and what a request with them asks for.
 const MANY_HEADERS: [(usize, &str); 2] = [
     (MAX_HEADERS, "Sheet { ward: 7 }"),
     (MAX_HEADERS + 1, "BadRequest"),
 ];
 
-/// A body that is nothing but brackets.
+/// Checks that a body of nested brackets is rejected.
 fn asks_nested(rt: &(impl Abort + AllocGlobal)) -> Result<(), Fail> {
     let nested = repeated(rt.alloc(), "", "[", 200)?;
     asks_keying(rt, "Content-Length: 200\r\n", nested.as_str(), "BadRequest")
 }
 
-/// A keying whose body is the longest that may be, of spaces alone.
+/// Returns a keying whose body has the maximum length and consists of spaces.
 fn spaces(alloc: Global) -> Result<String, AllocError> {
     let headers = format!(in alloc; "Content-Length: {MAX_BODY_BYTES}\r\n")?;
     let head = keying(alloc, headers.as_str(), "")?;
     repeated(alloc, head.as_str(), " ", MAX_BODY_BYTES as usize)
 }
 
-/// It is read at once: one byte at a time it would take long.
+/// Checks that such a keying is rejected. It is read only in one piece; reading it one byte at a time would take too
+/// long.
 fn asks_spaces(rt: &(impl Abort + AllocGlobal)) -> Result<(), Fail> {
     let request = spaces(rt.alloc())?;
     let mut reader = Counted::new(request.as_bytes());
@@ -354,8 +359,8 @@ fn long_heads_and_bodies(rt: HostRuntime) -> Result<(), Fail> {
     asks_spaces(&rt)
 }
 
-/// Reads a request of which only this arrives before the reader fails: nothing is asked, and one failure is counted, unless it is
-/// complete.
+/// Reads a request when only the given bytes arrive before the reader fails. Unless the request is complete, nothing is
+/// asked for, and one failure is counted.
 fn breaks_off(rt: &(impl Abort + AllocGlobal), left: &[u8], is_whole: bool) -> Result<(), Fail> {
     let mut reader = Counted::new(Slow { left, fails: true });
     let wanted = if is_whole { KEYED } else { "broken" };

@@ -6,3 +6,4 @@ pub mod SheetLemmas
 pub mod StopLemmas
 mod TextLemmas
 mod IndexLemmas
+pub mod DecisionLemmas

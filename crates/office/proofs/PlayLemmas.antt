@@ -10,7 +10,7 @@ use Rattle.office.specs.declared.answers.Answer.{Answer}
 use Rattle.office.specs.Answers.{told, told_of, is_done}
 use Rattle.office.specs.Runs.{outcomes, are_accepted}
 
--- the content of an answer is that of an accepted request if and only if the machine accepts it
+-- an answer belongs to an accepted request if and only if the machine accepts the request
 done_where_accepted : (o : Outcome) → is_done (told_of o) ≡ is_accepted o
 done_where_accepted (accepted next reply) = refl
 done_where_accepted (kept reply) = refl
@@ -20,14 +20,14 @@ all_done_where_accepted : (os : List Outcome) → list_all is_done (map told_of 
 all_done_where_accepted [] = refl
 all_done_where_accepted (o ∷ os) = rw (done_where_accepted o, all_done_where_accepted os) refl
 
--- if each request got the machine's answer, all answers are those of accepted requests if and only if all are accepted
+-- if each request got the machine's answer, then all answers belong to accepted requests if and only if all requests are accepted
 pub answers_done : (s : OfficeState) (rs : List Request) (answers : List Answer) → length answers ≡ length rs → map told answers ≡ map told_of (outcomes s (take (length answers) rs))
     → list_all (λ answer. is_done (told answer)) answers ≡ are_accepted s rs
 answers_done s rs answers all same =
     sym (list_all-map is_done told answers)
     ∙ ap (list_all is_done) (same ∙ ap (λ l. map told_of (outcomes s l)) (take_all (length answers) rs (omega (arith, all)))) ∙ all_done_where_accepted (outcomes s rs)
 
--- if a property of a value implies another, the value has the other
+-- if one property of values implies another, a result that has the first property also has the second
 pub ok_then : {X E : Type 0} {P Q : X → Type 0} (r : Result X E) → ((x : X) → P x → Q x) → IfOk r P → IfOk r Q
 ok_then (Ok x) follows p = follows x p
 ok_then (Err e) follows p = tt

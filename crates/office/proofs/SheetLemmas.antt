@@ -1,4 +1,4 @@
--- Proof that the texts of a textual election can be printed, and that the election of each ward of a state is textual.
+-- Proofs that the texts of a textual election can be printed, and that the election of every ward of a state is textual.
 use Rattle.std.proofs.Common.{◌≡◌, ℕ, ◌≤◌, ◌&&◌, nat_le, ◌==◌, Bool, true, false, List, [], ◌∷◌, length, map, Option, Some, None, if◌then◌else◌, string_bytes, String, refl, sym, subst, ap, ◌∙◌}
 use Rattle.std.specs.List.{list_all}
 use Rattle.std.specs.declared.alloc.Global.{Global}
@@ -42,7 +42,7 @@ textual_can_be_printed ward poll e same textual few =
       few_papers = subst HasFewPapers (ap (λ (x : SheetEntry). x.poll) (sym same)) few;
     }
 
--- the papers of a textual election are few enough
+-- a textual election has few enough papers
 pub few_shown : (e : ElectionEntry) → length e.ballots.papers ≤ max_papers → HasFewPapers (poll_shown e)
 few_shown e few = go (has_count e)
   where
@@ -63,7 +63,7 @@ ward_number_few s w wards there =
     let parts = and_parts (is_ward_number w.number) (is_seat_number w.seats && is_name w.name) own in
     leb-true w.number 99 (and_parts (nat_le 1 w.number) (nat_le w.number 99) parts.0).1
 
--- the election of each ward of a state is textual, by the columns of its candidates
+-- the election of every ward of a state is textual, given that the columns are the candidates' numbers
 pub state_is_textual : (s : OfficeState) (w : WardEntry) → IsState s → columns_of (candidates_of s w.number) ≡ map (λ c. c.number) (candidates_of s w.number) → ward_at s w.number ≡ Some w
     → IsTextual (election_of s w)
 state_is_textual s w is columns there =

@@ -3,6 +3,8 @@ pub mod Answers
 pub mod Runs
 pub mod Clerks
 pub mod Reads
+pub mod EarlierKeyings
 pub mod Sheets
 pub mod Index
 pub mod Overviews
+pub mod Decisions

@@ -11,26 +11,26 @@ use Rattle.store.specs.StateTables.{LeavesState}
 use Rattle.office.specs.declared.answers.Answer.{Answer}
 use Rattle.office.specs.Answers.{told, told_of, IsOpenAt, Handled}
 
--- the machine's outcomes for these requests, each at the state that those before it lead to
+-- the machine's outcomes for the given requests, each in the state that the requests before it lead to
 abbrev pub outcomes : OfficeState → List Request → List Outcome
 outcomes s [] = []
 outcomes s (r ∷ rs) = step_of s r ∷ outcomes (after_one s r) rs
 
--- each of these requests is accepted at the state that those before it lead to
+-- each of the given requests is accepted in the state that the requests before it lead to
 abbrev pub are_accepted : OfficeState → List Request → Bool
 are_accepted s requests = list_all is_accepted (outcomes s requests)
 
--- Requests lead to a state: replayed in an empty office each of them is accepted, and the last one leaves that state.
+-- Requests lead to a state: when they are replayed in an empty office, each of them is accepted, and they result in that state.
 pub record LeadTo (requests : List Request) (s : OfficeState) : Type 0 where
   pub accepted : are_accepted empty_office requests ≡ true
   pub leads : after empty_office requests ≡ s
 
--- the answers are those of the machine to the first requests, one for each answer
+-- the answers are the machine's answers to the first requests, one request for each answer
 pub record AnswersFirst (s : OfficeState) (requests : List Request) (answers : List Answer) : Type 0 where
   pub within : length answers ≤ length requests
   pub same : map told answers ≡ map told_of (outcomes s (take (length answers) requests))
 
--- The state after the accepted requests in a prefix of the list: all that were answered, and at most one more.
+-- The state after the accepted requests in a prefix of the list, which contains all answered requests and at most one more.
 pub record IsAfterBeginning (earlier requests : List Request) (answered : ℕ) (s : OfficeState) : Type 0 where
   pub count : ℕ
   pub all_answered : answered ≤ count
@@ -38,23 +38,23 @@ pub record IsAfterBeginning (earlier requests : List Request) (answered : ℕ) (
   pub within : count ≤ length requests
   pub is : s ≡ after empty_office (accepted_of empty_office (earlier ++ take count requests))
 
--- The guarantee of the office. Whatever a stop leaves is the state after the accepted requests in a prefix. That prefix contains every earlier request, every
--- answered one of these, and at most one more.
+-- The guarantee of the office. After a stop, the state is the one after the accepted requests in a prefix, which contains every earlier request, every answered
+-- request of the list, and at most one more.
 abbrev pub Keeps : List Request → List Request → ℕ → State → Type 0
 Keeps earlier requests answered st = LeavesState st (IsAfterBeginning earlier requests answered)
 
--- the answers could not be allocated: nothing was handled, and the office stays open at the state before
-pub record HadNoRoom (s : OfficeState) (answered : ℕ) (f : Fault) (closed : Bool) (st : State) : Type 0 where
+-- the answers couldn't be allocated: no request was handled, and the office stays open in its previous state
+pub record FailedToAllocate (s : OfficeState) (answered : ℕ) (f : Fault) (closed : Bool) (st : State) : Type 0 where
   pub none : answered ≡ 0
   pub memory : f ≡ Memory
   pub open_at : IsOpenAt s closed st
 
--- the request after the answered ones met the fault, and left what such an exit leaves
+-- the request after the answered ones hit the fault, which had the effect specified for it
 pub record MetFault (s : OfficeState) (requests : List Request) (answered : ℕ) (f : Fault) (closed : Bool) (st : State) : Type 0 where
   pub request : Request
   pub next : take (answered + 1) requests ≡ take answered requests ++ request ∷ []
   pub handled : Handled (after s (take answered requests)) (step_of (after s (take answered requests)) request) (Err f) closed st
 
--- why a fault ended the list after this number of answers, and what it leaves
+-- why a fault ended the list after the given number of answers, and its effect
 abbrev pub StopsAfter : OfficeState → List Request → ℕ → Bool → State → Fault → Type 0
-StopsAfter s requests answered closed st f = HadNoRoom s answered f closed st ⊎ MetFault s requests answered f closed st
+StopsAfter s requests answered closed st f = FailedToAllocate s answered f closed st ⊎ MetFault s requests answered f closed st

@@ -1,4 +1,4 @@
--- What contracts see of an office: the connection of its store, and whether a fault closed it.
+-- The part of an office that contracts refer to: the connection of its store, and whether a fault closed it.
 use Rattle.std.specs.Prelude.{Bool, refl}
 use Rattle.std.specs.Coded.{Coded, code_by, coded×, coded_bool}
 use Rattle.sqlite.specs.Held.{Held, held_code}

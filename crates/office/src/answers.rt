@@ -9,37 +9,37 @@ use store::Fault;
 /// The answer to a request.
 #[derive(Drop)]
 pub enum Answer {
-    /// It was accepted just now, and is stored: no stop undoes it.
+    /// The request was accepted just now and is stored: stopping the program doesn't undo it.
     Done(Reply),
-    /// It was accepted before, under the same id: this is the original reply.
+    /// The request was accepted earlier under the same id. This is the original reply.
     Kept(Reply),
     /// Nothing changed, for this reason.
     Refused(Refusal),
 }
 
-/// Why a read returns no value.
+/// The reason why a read returns no value.
 #[derive(Drop)]
-pub enum Stop {
+pub enum ReadError {
     /// The state has no such value, for this reason.
     Refused(Refusal),
-    /// The read met a fault.
+    /// The read failed with this fault.
     Fault(Fault),
 }
 
-/// The answers to a list of requests, in order, up to the first fault, and that fault.
+/// The answers to a list of requests, in order, up to the first fault; and that fault, if there is one.
 #[derive(Drop)]
-pub struct Run {
+pub struct RunOutcome {
     pub answers: Vec<Answer>,
     pub fault: Option<Fault>,
 }
 
-impl Run {
-    /// Returns a run that a fault ended.
-    pub(crate) fn stopped(answers: Vec<Answer>, fault: Fault) -> Run
+impl RunOutcome {
+    /// Returns the outcome of a run that ended with a fault.
+    pub(crate) fn stopped(answers: Vec<Answer>, fault: Fault) -> RunOutcome
         ensures answers { result.answers ≡ answers }
         ensures fault { result.fault ≡ Some fault }
     {
-        Run {
+        RunOutcome {
             answers,
             fault: Some(fault),
         }

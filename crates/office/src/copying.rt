@@ -1,4 +1,4 @@
-//! A copy of the office.
+//! Copying an office.
 
 ghost use Rattle.std.specs.Prelude.{◌≡◌, ◌⊎◌, true, false, Err, IfErr, IfOk, IsTrue, OnOk};
 ghost use Rattle.sqlite.specs.Held.{state};
@@ -14,33 +14,38 @@ ghost use Rattle.office.specs.Answers.{ClosedInCopying, IsReadAt, WhenOpenAt};
 use crate::open_office::Office;
 use sqlite::{Alter, Connection};
 use std::alloc::Global;
-use store::{CopyFault, Fault, Holdings};
+use store::{CopyFault, Fault, OfficeCounts};
 
 impl<S: Alter> Office<S> {
-    /// Copies the office in a connection's database into that of another connection, which must be empty, in one
-    /// transaction. Returns how much the copy contains. The copy opens at exactly the state of the office, with every
-    /// receipt. No office is open afterwards.
+    /// Copies the office in a connection's database into the database on another connection, which must be empty, in
+    /// one transaction. Returns how much the copy contains. Opening the copy yields exactly the state of the office,
+    /// including every receipt. No office is open afterwards.
     ///
-    /// `Office` if `open_from` would report a fault; then nothing is copied. The office is only read, whatever the
-    /// outcome. `Taken` if a table with the name of one of ours already exists, or if the other connection is inside a
-    /// transaction. In these cases the other database is unchanged. After `Copy` it is either unchanged or contains the whole copy.
+    /// Fails with `Office` if `open_from` would report a fault; in that case nothing is copied. The office is only
+    /// read, whatever the outcome. Fails with `Taken` if the other database already has a table with one of our names,
+    /// or if the other connection is inside a transaction. In these cases the other database is unchanged. After `Copy`
+    /// it is either unchanged or contains the whole copy.
     pub fn copy<T: Alter>(
         alloc: Global,
         conn: &mut Connection<S>,
         copy: &mut Connection<T>,
-    ) -> Result<Holdings, CopyFault>
+    ) -> Result<OfficeCounts, CopyFault>
         ensures { CopiesTo S.Store T.Store conn.old conn.new copy.old copy.new result }
     {
         store::copy(alloc, conn, copy)
     }
 
-    /// Copies this office, which stays open, into the database of another connection, which must be empty, in one
-    /// transaction. Returns how much the copy contains. The copy opens at exactly the state of the office, with every receipt.
+    /// Copies this office, which stays open, into the database on another connection, which must be empty, in one
+    /// transaction. Returns how much the copy contains. Opening the copy yields exactly the state of the office,
+    /// including every receipt.
     ///
-    /// `Office` is the reason why the office couldn't be read, either out of memory or a failed store; then nothing is
-    /// copied. Any such fault but out of memory closes the office. `Taken` and `Copy` are those of `copy`. A closed
-    /// office returns `Closed`.
-    pub fn copy_open<T: Alter>(&mut self, copy: &mut Connection<T>) -> Result<Holdings, CopyFault>
+    /// `Office` gives the reason why the office couldn't be read: an allocation or the store failed. In that case
+    /// nothing is copied, and any fault except `Memory` closes the office. `Taken` and `Copy` have the same meaning as
+    /// for `copy`. A closed office returns `Closed`.
+    pub fn copy_open<T: Alter>(
+        &mut self,
+        copy: &mut Connection<T>,
+    ) -> Result<OfficeCounts, CopyFault>
         ensures copies { WhenOpenAt (state S.Store) self.old self.new
             (λ s. CopiesAt s (state T.Store copy.old) (state T.Store copy.new) result × IsReadAt s self.new.closed (state S.Store self.new.held)) }
         ensures cause { WhenOpenAt (state S.Store) self.old self.new (λ _. IsTrue (state S.Store self.old.held).is_open → IsBlank (state T.Store copy.old)

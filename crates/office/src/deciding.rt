@@ -1,4 +1,4 @@
-//! The machine's decision, on what the store keeps.
+//! The machine's decision on a request, based on the contents of the store.
 
 ghost use Rattle.std.specs.Prelude.{◌≡◌, IfOk, IfErr, OnOk, IsTrue};
 ghost use Rattle.sqlite.specs.State.{HasCleanDisk};
@@ -10,14 +10,15 @@ ghost use Rattle.register.specs.Views.{IsViewOf, outcome_of};
 ghost use Rattle.register.specs.Tabulated.{AddsWhatIsCounted};
 ghost use Rattle.tables.specs.Reading.{OnlyReads, FailsBy};
 ghost use Rattle.store.specs.StateTables.{IsAt};
+ghost use Rattle.office.specs.Decisions.{LeadsToState};
 
 use register::{Command, Decision, View, decide};
 use sqlite::Alter;
 use std::alloc::Global;
-use store::{Fault, Store};
+use store::{CachedStore, Fault};
 
-/// Returns the decision on a view; the fault is `Memory` if an allocation fails.
-fn decided(alloc: Global, view: &View<'_>, command: &Command) -> Result<Decision, Fault>
+/// Returns the decision for a view, or `Memory` if an allocation fails.
+fn decide_on_view(alloc: Global, view: &View<'_>, command: &Command) -> Result<Decision, Fault>
     ensures decides { IfOk result (λ decision. (s : OfficeState) → IsViewOf s command.now view.now → outcome_of s decision ≡ step s view.now.actor view.now.id.now command.now) }
     ensures stays { (s : OfficeState) → IsState s → IsState (state_after s (step s view.now.actor view.now.id.now command.now)) }
     ensures tabulates { IfOk result (λ decision. (s : OfficeState) → IsState s → IsViewOf s command.now view.now → AddsWhatIsCounted s decision) }
@@ -30,10 +31,10 @@ fn decided(alloc: Global, view: &View<'_>, command: &Command) -> Result<Decision
     }
 }
 
-/// Returns the machine's decision on a request, at the state that the store keeps. Changes nothing.
+/// Returns the machine's decision on a request in the state that the store contains. Changes nothing.
 pub(crate) fn decision_of<S: Alter>(
     alloc: Global,
-    store: &mut Store<S>,
+    store: &mut CachedStore<S>,
     actor: u32,
     id: &str,
     command: &Command,
@@ -42,6 +43,7 @@ pub(crate) fn decision_of<S: Alter>(
         → IfOk result (λ decision. outcome_of s decision ≡ step s actor id.now command.now) }
     ensures stays { OnOk result ((s : OfficeState) → IsState s → IsState (state_after s (step s actor id.now command.now))) }
     ensures tabulates { HasCleanDisk (state S.Store store.new) → (s : OfficeState) → IsAt s (state S.Store store.old) → IfOk result (AddsWhatIsCounted s) }
+    ensures leads { HasCleanDisk (state S.Store store.new) → IsTrue (state S.Store store.new).is_open → (s : OfficeState) → IsAt s (state S.Store store.new) → IfOk result (LeadsToState s) }
     ensures again { OnOk result ((s : OfficeState) → RepeatGetsSameReply actor id.now command.now (step s actor id.now command.now)) }
     ensures cause { HasCleanDisk (state S.Store store.new) → (s : OfficeState) → IsAt s (state S.Store store.old) → IfErr result (FailsBy (state S.Store store.old) (state S.Store store.new)) }
     ensures opens { HasCleanDisk (state S.Store store.new) → OnOk result (IsTrue (state S.Store store.new).is_open) }
@@ -49,6 +51,6 @@ pub(crate) fn decision_of<S: Alter>(
     ensures reads { OnlyReads (state S.Store store.old) (state S.Store store.new) }
 {
     let view = store.load_view(actor, id, command)?;
-    let decision = decided(alloc, &view, command)?;
+    let decision = decide_on_view(alloc, &view, command)?;
     Ok(decision)
 }

@@ -1,4 +1,4 @@
-//! The page of all wards, written from their overviews.
+//! The page listing all wards, generated from their overviews.
 #![tactic(auto, using(crate::proofs::StopLemmas::stops_of_memory))]
 
 ghost use Rattle.std.specs.Prelude.{◌≡◌, false, true, nat_eq, map, IfOk, IfErr, OnOk, Err, string_bytes};
@@ -9,11 +9,11 @@ ghost use Rattle.sheet.specs.Index.{elected_shown, index, listed};
 ghost use Rattle.store.specs.Overviews.{ward_view};
 ghost use Rattle.tables.specs.Reading.{OnlyReads};
 ghost use Rattle.office.specs.Answers.{WhenOpenAt};
-ghost use Rattle.office.specs.Index.{index_told, is_among_elected, listed_shown, standing_in};
-ghost use Rattle.office.specs.Reads.{ReadWhenOpen, StopsBy, ClosesAt};
+ghost use Rattle.office.specs.Index.{index_answer, is_among_elected, listed_shown, standing_in};
+ghost use Rattle.office.specs.Reads.{ReadWhenOpen, ReadFailsBy, ClosesAt};
 ghost use Rattle.office.specs.Sheets.{candidate_shown};
 
-use crate::answers::Stop;
+use crate::answers::ReadError;
 use crate::open_office::Office;
 use paper::Columns;
 use register::{Candidate, Phase};
@@ -22,7 +22,7 @@ use sqlite::Alter;
 use std::alloc::{AllocError, Global};
 use store::{Fault, WardOverview};
 
-/// Returns the public standing of a ward in this phase.
+/// Returns the public standing of a ward in the given phase.
 fn standing_in(phase: Phase) -> WardStanding
     ensures { result ≡ standing_in phase }
 {
@@ -34,21 +34,21 @@ fn standing_in(phase: Phase) -> WardStanding
     }
 }
 
-/// Returns whether a column has a candidate's number.
+/// Returns true if a column has the number of a candidate.
 fn has_number(number: u32, column: u8) -> bool
     ensures { result ≡ nat_eq number column }
 {
     number == u32::from(column)
 }
 
-/// Returns whether a candidate's number is among these columns.
+/// Returns true if the number of a candidate is among the given columns.
 fn is_among(columns: &[u8], number: u32) -> bool
     ensures { result ≡ list_any (nat_eq number) columns.now }
 {
     columns.iter().any(|column| has_number(number, *column))
 }
 
-/// Returns whether a candidate is among those elected, if they are known.
+/// Returns true if the elected candidates are known and the given candidate is one of them.
 fn is_elected(elected: &Option<Columns>, candidate: &Candidate) -> bool
     ensures { result ≡ is_among_elected elected.now (candidate_entry candidate.now) }
 {
@@ -58,7 +58,7 @@ fn is_elected(elected: &Option<Columns>, candidate: &Candidate) -> bool
     }
 }
 
-/// Returns the number and name of each of these candidates who is elected.
+/// Returns the number and name of each elected candidate among the given ones.
 fn elected_names(
     alloc: Global,
     elected: &Option<Columns>,
@@ -75,7 +75,7 @@ fn elected_names(
     Ok(names)
 }
 
-/// Returns a ward as it is listed.
+/// Returns the list entry of a ward.
 fn listed_of(alloc: Global, overview: &WardOverview) -> Result<ListedWard, AllocError>
     ensures { IfOk result (λ ward. listed ward ≡ listed_shown (ward_view overview.now)) }
 {
@@ -88,7 +88,7 @@ fn listed_of(alloc: Global, overview: &WardOverview) -> Result<ListedWard, Alloc
     })
 }
 
-/// Returns all wards as they are listed.
+/// Returns the list entries of all wards.
 fn all_listed(alloc: Global, overviews: &[WardOverview]) -> Result<Vec<ListedWard>, AllocError>
     ensures { IfOk result (λ wards. map listed wards.items ≡ map listed_shown (map ward_view overviews.now)) }
 {
@@ -99,7 +99,7 @@ fn all_listed(alloc: Global, overviews: &[WardOverview]) -> Result<Vec<ListedWar
     Ok(wards)
 }
 
-/// Returns the page of all wards with these overviews.
+/// Returns the page listing all wards, given their overviews.
 fn index_over(alloc: Global, title: &str, overviews: &[WardOverview]) -> Result<String, AllocError>
     ensures { IfOk result (λ text. string_bytes text ≡ index title.now (map listed_shown (map ward_view overviews.now))) }
 {
@@ -108,10 +108,11 @@ fn index_over(alloc: Global, title: &str, overviews: &[WardOverview]) -> Result<
 }
 
 impl<S: Alter> Office<S> {
-    /// Returns the page of all wards with these overviews. It fails only if an allocation fails, which leaves the office open.
-    fn index_of(&mut self, title: &str, overviews: &[WardOverview]) -> Result<String, Stop>
+    /// Returns the page listing all wards, given their overviews. Fails only if an allocation fails, which leaves the
+    /// office open.
+    fn index_of(&mut self, title: &str, overviews: &[WardOverview]) -> Result<String, ReadError>
         ensures told { IfOk result (λ text. string_bytes text ≡ index title.now (map listed_shown (map ward_view overviews.now))) }
-        ensures stopped { IfErr result (λ stop. (stop ≡ Stop.Fault Fault.Memory) × (self.new.closed ≡ false)) }
+        ensures stopped { IfErr result (λ stop. (stop ≡ ReadError.Fault Fault.Memory) × (self.new.closed ≡ false)) }
         ensures held { self.new.held ≡ self.old.held }
         ensures open_still { OnOk result (self.new.closed ≡ self.old.closed) }
     {
@@ -121,16 +122,17 @@ impl<S: Alter> Office<S> {
         }
     }
 
-    /// Returns the page of all wards, to be posted for the public: the standing of each, and those elected once it is
-    /// declared. An empty title is left out.
+    /// Returns the page listing all wards, to be displayed in public. It shows the standing of each ward and, once the
+    /// ward is declared, who is elected. An empty title is left out.
     ///
-    /// Changes nothing. `Memory` leaves the office open; any other fault closes it. A closed office returns `Closed`.
-    pub fn index(&mut self, title: &str) -> Result<String, Stop>
-        ensures reads { ReadWhenOpen (state S.Store) self.old self.new string_bytes (λ s. index_told title.now s) result }
+    /// Nothing is changed. After `Memory` the office stays open; any other fault closes it. A closed office returns
+    /// `Closed`.
+    pub fn index(&mut self, title: &str) -> Result<String, ReadError>
+        ensures reads { ReadWhenOpen (state S.Store) self.old self.new string_bytes (λ s. index_answer title.now s) result }
         ensures same { OnlyReads (state S.Store self.old.held) (state S.Store self.new.held) }
         ensures closes { IfErr result (ClosesAt self.new.closed) }
-        ensures cause { WhenOpenAt (state S.Store) self.old self.new (λ s. IfErr result (StopsBy (state S.Store self.old.held) (state S.Store self.new.held))) }
-        ensures closed { self.old.closed ≡ true → (result ≡ Err (Stop.Fault Fault.Closed)) × (self.new ≡ self.old) }
+        ensures cause { WhenOpenAt (state S.Store) self.old self.new (λ s. IfErr result (ReadFailsBy (state S.Store self.old.held) (state S.Store self.new.held))) }
+        ensures closed { self.old.closed ≡ true → (result ≡ Err (ReadError.Fault Fault.Closed)) × (self.new ≡ self.old) }
     {
         let overviews = match self.wards() {
             Ok(overviews) => overviews,

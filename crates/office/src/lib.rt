@@ -1,14 +1,15 @@
-//! The office: it answers requests, and stores every accepted request before it acknowledges it.
+//! The office: answers requests, and stores every accepted request before acknowledging it.
 //!
-//! `Office` is an office in any `sqlite` store. `create` makes an empty office, and `open_from` opens one. `migrate`
-//! brings an office that an earlier program made up to this version, and `copy` copies an office into another database.
-//! `rows` reads all entries of one. `copy_open` and `rows_open` do the same for an open office, which stays open.
-//! `leads_to` returns whether requests lead from an empty office to such entries. `handle` answers one request and
-//! `run` a list of them. `status`, `next_step`, `columns`, `work`, `paper`, `sheet`, `result`, `text` and `index` read
-//! the state, and change nothing. So do `wards`, `batches`, `doubtful`, `differences`, `papers` and `receipts`, for the
-//! office alone. `differs_from_stored` returns whether what is stored of a repeated request differs from the request. A
-//! fault inside a transaction closes the office. It then returns fault 104 until it is reopened, at the state before
-//! the request or at the one after it.
+//! `Office` is an office in any `sqlite` store. `create` creates an empty office, and `open_from` opens an existing
+//! one. `migrate` brings an office created by an earlier version of the program up to this version, `copy` copies an
+//! office into another database, and `rows` reads all entries of an office. `copy_open` and `rows_open` do the same for
+//! an open office, which stays open. `leads_to` returns whether requests lead from an empty office to the given
+//! entries. `handle` answers one request, and `run` a list of requests. `status`, `next_step`, `columns`, `work`,
+//! `paper`, `earlier_keying`, `sheet`, `result`, `text` and `index` read the state and change nothing. So do `wards`,
+//! `batches`, `doubtful`, `differences`, `papers` and `receipts`, which are for the office alone. `differs_from_stored`
+//! returns whether the stored content of a repeated request differs from the request. A fault inside a transaction
+//! closes the office. It then returns fault 104 until it is reopened, either in the state before the request or in the
+//! one after it.
 //!
 //! ```text
 //! let mut office = Office::open_from(alloc, conn)?;
@@ -25,15 +26,20 @@ mod copying;
 mod deciding;
 mod migration;
 pub mod open_office;
-mod playing;
-// What is read of the state.
+mod replaying;
+// Reading the state.
+mod earlier_keyings;
 mod index;
 mod overviews;
 mod reads;
 mod sheets;
 
-pub use answers::{Answer, Run, Stop};
+pub use answers::{Answer, ReadError, RunOutcome};
+/// The original name of [`ReadError`].
+pub use answers::ReadError as Stop;
+/// The original name of [`RunOutcome`].
+pub use answers::RunOutcome as Run;
 pub use open_office::Office;
 pub use register::{BallotPaper, NextStep, Receipt, Status, Work};
-pub use sheets::{Text, texts_are_there};
-pub use store::{CopyFault, Holdings, Migrated, Rows};
+pub use sheets::{WardText, texts_are_there};
+pub use store::{CopyFault, KeyedRound, Migrated, OfficeCounts, Rows};

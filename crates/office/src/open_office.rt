@@ -1,4 +1,4 @@
-//! An office, open or closed.
+//! An office, which is either open or closed.
 
 ghost use Rattle.std.specs.Prelude.{◌≡◌, ◌⊎◌, ◌==◌, ◌+◌, ℕ, map, ◌<◌, ◌≤◌, ◌++◌, ◌∷◌, [], List, true, false, Some, None, Err};
 ghost use Rattle.std.specs.Prelude.{take, length, vec_len, vec_capacity, IfOk, IfErr, OnOk, IfNone, IfSome, IsTrue};
@@ -15,24 +15,24 @@ ghost use Rattle.tables.specs.Contents.{RestsAt, SameContents, Stores};
 ghost use Rattle.tables.specs.Presence.{has_some_table, has_every_table, IsOurs};
 ghost use Rattle.tables.specs.Reading.{OnlyReads, FailsToList, FailsBy};
 ghost use Rattle.store.specs.StateTables.{tables_of, HoldsState, IsAt, LeavesState, KeepsConnection};
-ghost use Rattle.store.specs.Openings.{IsBlank, IsToldBy, IsLeftAt};
+ghost use Rattle.store.specs.Openings.{IsBlank, IsFaultOf, IsLeftAt};
 ghost use Rattle.register.specs.declared.command.Request.{Request};
 ghost use Rattle.office.specs.Answers.{WhenOpenAt, told, told_of, IsMemoryOrStore, IsOpenAt, Handled, HandledAgain};
 ghost use Rattle.office.specs.Clerks.{none_is_the_office, own_requests, own_answers};
 ghost use Rattle.office.specs.Runs.{outcomes, AnswersFirst, Keeps, StopsAfter};
 
-use crate::answers::{Answer, Run};
+use crate::answers::{Answer, RunOutcome};
 use crate::deciding::decision_of;
 use register::{Command, Decision, Request};
 use sqlite::{Alter, Connection};
 use std::alloc::Global;
 use std::marker::Model;
-use store::{Fault, Store};
+use store::{CachedStore, Fault};
 
-/// An office in a store. A fault inside a transaction closes it, and so does any fault but out of memory; then each
-/// call but `into_connection` returns `Closed`, until the office is reopened.
+/// An office in a store. A fault inside a transaction closes it, and so does any other fault except `Memory`. A closed
+/// office returns `Closed` from every call except `into_connection`, until it is reopened.
 pub struct Office<S: Alter> {
-    pub(crate) store: Store<S>,
+    pub(crate) store: CachedStore<S>,
     pub(crate) closed: bool,
     pub(crate) alloc: Global,
 }
@@ -48,10 +48,11 @@ impl<S: Alter> Model for Office<S> {
 }
 
 impl<S: Alter> Office<S> {
-    /// Makes an empty office in the connection's database.
+    /// Creates an empty office in the connection's database.
     ///
-    /// `WrongDatabase` if a table with the name of one of ours already exists; then nothing is changed. After any other
-    /// fault there are either all tables or none. With a fault the connection is returned.
+    /// Fails with `WrongDatabase` if the database already has a table with one of our names; in that case nothing is
+    /// changed. After any other fault, the database has either all tables or none. The connection is returned along
+    /// with the fault.
     pub fn create(alloc: Global, conn: Connection<S>) -> Result<Self, (Fault, Connection<S>)>
         ensures made { IfOk result (λ o. HasCleanDisk (state S.Store o.held) → IsBlank (state S.Store conn) → IsOpenAt empty_office o.closed (state S.Store o.held)) }
         ensures stops { IfErr result (λ e. HasCleanDisk (state S.Store e.1) → IsBlank (state S.Store conn)
@@ -65,7 +66,7 @@ impl<S: Alter> Office<S> {
         ensures wrong { has_some_table (state S.Store conn).now.schema ≡ true → conn.in_transaction ≡ false → IfErr result (λ e. e.0 ≡ Fault.WrongDatabase) }
         ensures told { IfErr result (λ e. (e.0 ≡ Fault.Memory) ⊎ ((e.0 ≡ Fault.Store) ⊎ ((e.0 ≡ Fault.WrongDatabase) × (has_some_table (state S.Store conn).now.schema ≡ true) × (e.1 ≡ conn)))) }
     {
-        match Store::create(alloc, conn) {
+        match CachedStore::create(alloc, conn) {
             Ok(store) => Ok(Office {
                 store,
                 closed: false,
@@ -75,16 +76,17 @@ impl<S: Alter> Office<S> {
         }
     }
 
-    /// Opens the office in the connection's database, and changes nothing.
+    /// Opens the office in the connection's database. Changes nothing.
     ///
-    /// `WrongDatabase` if there is no office table or no row in it. `NewerSchema` if a later program made the office,
-    /// and `OlderSchema` if an earlier one did. `Damaged` if the rows are not the tables of any state. `Store` if the
-    /// store failed, if rowids aren't distinct integers, or if the connection is inside a transaction. With a fault the
-    /// connection is returned, its database unchanged.
+    /// Fails with `WrongDatabase` if there is no office table or the table has no row. Fails with `NewerSchema` if the
+    /// office was created by a later version of the program, and with `OlderSchema` if it was created by an earlier
+    /// one. Fails with `Damaged` if no state has these rows. Fails with `Store` if the store failed,
+    /// if rowids aren't distinct integers, or if the connection is inside a transaction. The connection is returned
+    /// along with the fault, with its database unchanged.
     pub fn open_from(alloc: Global, conn: Connection<S>) -> Result<Self, (Fault, Connection<S>)>
         ensures opened { IfOk result (λ o. HasCleanDisk (state S.Store o.held) → (db : Database) → IsOurs db.schema → RestsAt db (state S.Store conn)
             → (s : OfficeState) × HoldsState db s × IsOpenAt s o.closed (state S.Store o.held)) }
-        ensures told { IfErr result (λ e. HasCleanDisk (state S.Store e.1) → (db : Database) → IsOurs db.schema → RestsAt db (state S.Store conn) → IsToldBy db e.0) }
+        ensures told { IfErr result (λ e. HasCleanDisk (state S.Store e.1) → (db : Database) → IsOurs db.schema → RestsAt db (state S.Store conn) → IsFaultOf db e.0) }
         ensures reopens { IfOk result (λ o. HasCleanDisk (state S.Store o.held) → (db : Database) → RestsAt db (state S.Store conn) → (s : OfficeState) → IsLeftAt s db
             → IsOpenAt s o.closed (state S.Store o.held)) }
         ensures refuses { IfErr result (λ e. HasCleanDisk (state S.Store e.1) → (db : Database) → RestsAt db (state S.Store conn) → (s : OfficeState) → IsLeftAt s db → IsMemoryOrStore e.0) }
@@ -99,7 +101,7 @@ impl<S: Alter> Office<S> {
         ensures alone { (db : Database) → (s t : OfficeState) → HoldsState db s → HoldsState db t → s ≡ t }
         ensures equal { (s t : OfficeState) → IsState s → IsState t → SameContents (tables_of s) (tables_of t) → s ≡ t }
     {
-        match Store::open_from(alloc, conn) {
+        match CachedStore::open_from(alloc, conn) {
             Ok(store) => Ok(Office {
                 store,
                 closed: false,
@@ -109,14 +111,14 @@ impl<S: Alter> Office<S> {
         }
     }
 
-    /// Returns whether the office is closed.
+    /// Returns true if the office is closed.
     pub fn is_closed(&self) -> bool
         ensures { result ≡ self.now.closed }
     {
         self.closed
     }
 
-    /// Consumes the office, open or closed, and returns its connection, unchanged.
+    /// Consumes the office, whether it is open or closed, and returns its connection unchanged.
     pub fn into_connection(self) -> Connection<S>
         ensures { result ≡ self.held }
     {
@@ -130,16 +132,17 @@ impl<S: Alter> Office<S> {
 
     /// Answers one request. `Done` is returned only once the change is stored.
     ///
-    /// `Memory` before the transaction leaves tables and office unchanged, and the office open. Any other fault closes
-    /// the office; then the tables are those before the request or, if it was accepted, possibly those after it. A
-    /// closed office returns `Closed`. If the office stays open after a fault, no row was written, not even in a
-    /// transaction that was undone.
+    /// `Memory` before the transaction leaves the tables and the office unchanged, and the office open. Any other fault
+    /// closes the office, and leaves the tables as they were before the request or, if it was accepted, possibly as
+    /// they are after it. A closed office returns `Closed`. If the office stays open after a fault, no row was written,
+    /// not even in a transaction that was rolled back.
     ///
-    /// A request that met a fault may be repeated after the office is reopened. It is `Done` if the old tables were
-    /// found, and `Kept` if the new ones were, with the same reply and the same state afterwards.
+    /// After a fault, the request may be repeated once the office is reopened. It is `Done` if the old tables were
+    /// found and `Kept` if the new ones were, with the same reply and the same resulting state in both cases.
     ///
-    /// The answer to a clerk depends only on what the clerk sees of the state: the wards and their phases, the
-    /// candidates, the batches, and the clerk's own keyings and receipts. The request changes nothing in what another clerk sees.
+    /// The answer to a clerk depends only on what the clerk can see of the state: the wards and their phases, the
+    /// candidates, the batches, and the clerk's own keyings and receipts. A clerk's request changes nothing that
+    /// another clerk can see.
     pub fn handle(&mut self, actor: u32, id: &str, command: &Command) -> Result<Answer, Fault>
         ensures handled { WhenOpenAt (state S.Store) self.old self.new
             (λ s. Handled s (step s actor id.now command.now) result self.new.closed (state S.Store self.new.held)) }
@@ -158,11 +161,16 @@ impl<S: Alter> Office<S> {
         ensures closed { self.old.closed ≡ true → (result ≡ Err Fault.Closed) × (self.new ≡ self.old) }
         ensures clean { HasCleanDisk (state S.Store self.new.held) → HasCleanDisk (state S.Store self.old.held) }
     {
-        self.answered(actor, id, command)
+        self.decide_and_commit(actor, id, command)
     }
 
-    /// Returns the answer to one request, from the decision on what the store keeps and the commit of its change.
-    fn answered(&mut self, actor: u32, id: &str, command: &Command) -> Result<Answer, Fault>
+    /// Answers one request: decides it based on the contents of the store, and commits the change.
+    fn decide_and_commit(
+        &mut self,
+        actor: u32,
+        id: &str,
+        command: &Command,
+    ) -> Result<Answer, Fault>
         ensures clean { HasCleanDisk (state S.Store self.new.held) → HasCleanDisk (state S.Store self.old.held) }
         ensures keeps_connection { KeepsConnection (state S.Store self.old.held) (state S.Store self.new.held) }
         ensures closed { self.old.closed ≡ true → (result ≡ Err Fault.Closed) × (self.new ≡ self.old) }
@@ -197,12 +205,12 @@ impl<S: Alter> Office<S> {
 
     /// Answers a list of requests in order, up to the first fault.
     ///
-    /// Space for all answers is allocated first. If that fails, nothing is handled, and the fault is `Memory`. A closed
-    /// office returns `Closed`, whatever the list.
+    /// Space for all answers is allocated first. If that allocation fails, no request is handled, and the fault is
+    /// `Memory`. A closed office returns `Closed`, whatever the list contains.
     ///
-    /// In a list of clerks' requests each clerk gets the answers that the clerk's requests alone would get from what
-    /// the clerk sees, whatever others keyed before or between.
-    pub fn run(&mut self, requests: &[Request]) -> Run
+    /// In a list of clerks' requests, each clerk gets the answers that this clerk's requests alone would get based on
+    /// what the clerk can see, regardless of what others keyed before or in between.
+    pub fn run(&mut self, requests: &[Request]) -> RunOutcome
         ensures answers { WhenOpenAt (state S.Store) self.old self.new (λ s. AnswersFirst s requests.now result.answers.items) }
         ensures all_answered { WhenOpenAt (state S.Store) self.old self.new
             (λ s. IfNone result.fault ((vec_len result.answers ≡ length requests.now) × IsOpenAt (after s requests.now) self.new.closed (state S.Store self.new.held))) }
@@ -219,25 +227,25 @@ impl<S: Alter> Office<S> {
         ensures clean { HasCleanDisk (state S.Store self.new.held) → HasCleanDisk (state S.Store self.old.held) }
     {
         if self.closed {
-            return Run::stopped(Vec::new(self.alloc), Fault::Closed);
+            return RunOutcome::stopped(Vec::new(self.alloc), Fault::Closed);
         }
         let Ok(mut answers) = Vec::with_capacity(self.alloc, requests.len()) else {
-            return Run::stopped(Vec::new(self.alloc), Fault::Memory);
+            return RunOutcome::stopped(Vec::new(self.alloc), Fault::Memory);
         };
         for request in requests {
             match self.handle(request.actor, request.id.as_str(), &request.command) {
                 Ok(answer) => put_answer(&mut answers, answer),
-                Err(fault) => return Run::stopped(answers, fault),
+                Err(fault) => return RunOutcome::stopped(answers, fault),
             }
         }
-        Run {
+        RunOutcome {
             answers,
             fault: None,
         }
     }
 }
 
-/// Appends an answer to the others, which have capacity for it.
+/// Appends an answer to a vector that has capacity for it.
 fn put_answer(answers: &mut Vec<Answer>, answer: Answer)
     requires { vec_len answers.old < vec_capacity answers.old }
     ensures items { answers.new.items ≡ answers.old.items ++ answer ∷ [] }

@@ -1,4 +1,4 @@
-//! What the office returns of its state, which no read changes.
+//! Reading the state of the office. No read changes it.
 #![tactic(auto, using(crate::proofs::StopLemmas::stops_of_memory))]
 
 ghost use Rattle.std.specs.Prelude.{◌≡◌, ◌⊎◌, Bool, true, false, map, IfOk, IfErr, IfSome, IfNone, IsSome, OnOk, Some, None, Ok, Err, string_bytes};
@@ -12,12 +12,12 @@ ghost use Rattle.tables.specs.Reading.{OnlyReads};
 ghost use Rattle.register.specs.Elections.{ElectionEntry};
 ghost use Rattle.register.specs.Tabulated.{IsCountedWard, IsSheetOf};
 ghost use Rattle.office.specs.Answers.{WhenOpenAt};
-ghost use Rattle.office.specs.Reads.{ReadWhenOpen, status_told, next_told, columns_told, work_told, paper_told, StopsFor, StopsBy, ClosesAt};
-ghost use Rattle.office.specs.Sheets.{is_told_in, text_shown, text_told, StopsText, StopsWriting, IsTextual, IsOfMemory};
+ghost use Rattle.office.specs.Reads.{ReadWhenOpen, status_answer, next_answer, columns_answer, work_answer, paper_answer, FailsFor, ReadFailsBy, ClosesAt};
+ghost use Rattle.office.specs.Sheets.{is_printable_in, text_shown, text_answer, FailsToPrint, FailsToWrite, IsTextual, IsOfMemory};
 
-use crate::answers::Stop;
+use crate::answers::ReadError;
 use crate::open_office::Office;
-use crate::sheets::{Text, declaration, text_of, texts_are_there};
+use crate::sheets::{WardText, declaration, text_of, texts_are_there};
 use paper::Columns;
 use register::ranges::{is_batch_number, is_clerk, is_ward_number};
 use register::{
@@ -27,8 +27,9 @@ use sqlite::Alter;
 use std::alloc::{AllocError, Global};
 use store::Fault;
 
-/// Reads from the store, if the office is open and the number is in its range; otherwise returns why not. Returns what
-/// was found, or what is made of it; or, if the store has nothing under the number, the reason stated for that.
+/// Reads from the store if the office is open and the number is in range, and otherwise returns the reason why it
+/// can't. Returns what was found, or the value computed from it. If the store has nothing under this number, returns
+/// the given reason.
 macro_rules! read {
     ($office:ident, $is_in_range:expr => $load:ident($($number:ident)?)) => {{
         if let Some(stop) = $office.stop_before($is_in_range) {
@@ -56,28 +57,29 @@ macro_rules! read {
 
 pub(crate) use read;
 
-/// Returns a refusal for a reason, or the fault `Memory` if an allocation fails.
-pub(crate) fn refused(alloc: Global, reason: Reason) -> Stop
-    ensures reason { StopsFor reason result }
+/// Returns a refusal for a reason, or `Memory` if an allocation fails.
+pub(crate) fn refused(alloc: Global, reason: Reason) -> ReadError
+    ensures reason { FailsFor reason result }
     ensures closes { (closed : Bool) → ClosesAt closed result }
     ensures memory { IsOfMemory result }
 {
     match Refusal::new(alloc, reason) {
-        Ok(refusal) => Stop::Refused(refusal),
-        Err(_) => Stop::Fault(Fault::Memory),
+        Ok(refusal) => ReadError::Refused(refusal),
+        Err(_) => ReadError::Fault(Fault::Memory),
     }
 }
 
 impl<S: Alter> Office<S> {
-    /// Returns what stops a read before it queries the store: the office is closed, or the number is out of range.
-    pub(crate) fn stop_before(&self, is_in_range: bool) -> Option<Stop>
-        ensures closed { self.now.closed ≡ true → result ≡ Some (Stop.Fault Fault.Closed) }
-        ensures range { self.now.closed ≡ false → IfSome result (λ stop. (is_in_range ≡ false) × StopsFor Reason.NumberOutOfRange stop × IsOfMemory stop) }
+    /// Returns the reason why a read can't query the store, if there is one: the office is closed, or the number is out
+    /// of range.
+    pub(crate) fn stop_before(&self, is_in_range: bool) -> Option<ReadError>
+        ensures closed { self.now.closed ≡ true → result ≡ Some (ReadError.Fault Fault.Closed) }
+        ensures range { self.now.closed ≡ false → IfSome result (λ stop. (is_in_range ≡ false) × FailsFor Reason.NumberOutOfRange stop × IsOfMemory stop) }
         ensures none { IfNone result ((self.now.closed ≡ false) × (is_in_range ≡ true)) }
         ensures closes { IfSome result (ClosesAt self.now.closed) }
     {
         if self.closed {
-            return Some(Stop::Fault(Fault::Closed));
+            return Some(ReadError::Fault(Fault::Closed));
         }
         if !is_in_range {
             return Some(refused(self.alloc, Reason::NumberOutOfRange));
@@ -85,158 +87,161 @@ impl<S: Alter> Office<S> {
         None
     }
 
-    /// Returns a fault that a read met. Any fault but out of memory closes the office.
-    pub(crate) fn stopped_by(&mut self, fault: Fault) -> Stop
-        ensures told { result ≡ Stop.Fault fault }
+    /// Returns a fault that occurred during a read. Any fault except `Memory` closes the office.
+    pub(crate) fn stopped_by(&mut self, fault: Fault) -> ReadError
+        ensures told { result ≡ ReadError.Fault fault }
         ensures held { self.new.held ≡ self.old.held }
         ensures kept { fault ≡ Fault.Memory → self.new.closed ≡ false }
         ensures closes { (fault ≡ Fault.Memory) ⊎ (self.new.closed ≡ true) }
         ensures shuts { fault ≡ Fault.Store → self.new.closed ≡ true }
     {
         self.closed = fault != Fault::Memory;
-        Stop::Fault(fault)
+        ReadError::Fault(fault)
     }
 
-    /// Returns the status of a ward.
+    /// Returns a ward's status.
     ///
-    /// Refused if the number is outside 1 to 99 or no ward has it. Changes nothing. `Memory` leaves the office open;
-    /// any other fault closes it. A closed office returns `Closed`.
-    pub fn status(&mut self, ward: u32) -> Result<Status, Stop>
-        ensures reads { ReadWhenOpen (state S.Store) self.old self.new status_entry (λ s. status_told s ward) result }
+    /// Refused if the ward number is outside 1 to 99 or there is no such ward. Nothing is changed. After `Memory` the
+    /// office stays open; any other fault closes it. A closed office returns `Closed`.
+    pub fn status(&mut self, ward: u32) -> Result<Status, ReadError>
+        ensures reads { ReadWhenOpen (state S.Store) self.old self.new status_entry (λ s. status_answer s ward) result }
         ensures same { OnlyReads (state S.Store self.old.held) (state S.Store self.new.held) }
         ensures closes { IfErr result (ClosesAt self.new.closed) }
-        ensures cause { WhenOpenAt (state S.Store) self.old self.new (λ s. IfErr result (StopsBy (state S.Store self.old.held) (state S.Store self.new.held))) }
-        ensures closed { self.old.closed ≡ true → (result ≡ Err (Stop.Fault Fault.Closed)) × (self.new ≡ self.old) }
+        ensures cause { WhenOpenAt (state S.Store) self.old self.new (λ s. IfErr result (ReadFailsBy (state S.Store self.old.held) (state S.Store self.new.held))) }
+        ensures closed { self.old.closed ≡ true → (result ≡ Err (ReadError.Fault Fault.Closed)) × (self.new ≡ self.old) }
     {
         read!(self, is_ward_number(ward) => load_status(ward), Reason::NoSuchWard)
     }
 
-    /// Returns the next step in the election of a ward, with its candidates once it is counted.
+    /// Returns the next step in a ward's election, along with the ward's candidates once it is being counted.
     ///
-    /// Refused if the number is outside 1 to 99 or no ward has it. Changes nothing. `Memory` leaves the office open;
-    /// any other fault closes it. A closed office returns `Closed`.
-    pub fn next_step(&mut self, ward: u32) -> Result<NextStep, Stop>
-        ensures reads { ReadWhenOpen (state S.Store) self.old self.new step_entry (λ s. next_told s ward) result }
+    /// Refused if the ward number is outside 1 to 99 or there is no such ward. Nothing is changed. After `Memory` the
+    /// office stays open; any other fault closes it. A closed office returns `Closed`.
+    pub fn next_step(&mut self, ward: u32) -> Result<NextStep, ReadError>
+        ensures reads { ReadWhenOpen (state S.Store) self.old self.new step_entry (λ s. next_answer s ward) result }
         ensures same { OnlyReads (state S.Store self.old.held) (state S.Store self.new.held) }
         ensures closes { IfErr result (ClosesAt self.new.closed) }
-        ensures cause { WhenOpenAt (state S.Store) self.old self.new (λ s. IfErr result (StopsBy (state S.Store self.old.held) (state S.Store self.new.held))) }
-        ensures closed { self.old.closed ≡ true → (result ≡ Err (Stop.Fault Fault.Closed)) × (self.new ≡ self.old) }
+        ensures cause { WhenOpenAt (state S.Store) self.old self.new (λ s. IfErr result (ReadFailsBy (state S.Store self.old.held) (state S.Store self.new.held))) }
+        ensures closed { self.old.closed ≡ true → (result ≡ Err (ReadError.Fault Fault.Closed)) × (self.new ≡ self.old) }
     {
         read!(self, is_ward_number(ward) => load_next(ward), Reason::NoSuchWard)
     }
 
-    /// Returns the columns of the papers of a batch: the numbers of its ward's candidates, in ascending order.
+    /// Returns the columns of a batch's papers: the numbers of its ward's candidates, in ascending order.
     ///
-    /// Refused if the number is outside 1 to 9999 or no batch has it. Changes nothing. `Memory` leaves the office open;
-    /// any other fault closes it. A closed office returns `Closed`.
-    pub fn columns(&mut self, batch: u32) -> Result<Columns, Stop>
-        ensures reads { ReadWhenOpen (state S.Store) self.old self.new (λ columns. columns) (λ s. columns_told s batch) result }
+    /// Refused if the batch number is outside 1 to 9999 or there is no such batch. Nothing is changed. After `Memory`
+    /// the office stays open; any other fault closes it. A closed office returns `Closed`.
+    pub fn columns(&mut self, batch: u32) -> Result<Columns, ReadError>
+        ensures reads { ReadWhenOpen (state S.Store) self.old self.new (λ columns. columns) (λ s. columns_answer s batch) result }
         ensures same { OnlyReads (state S.Store self.old.held) (state S.Store self.new.held) }
         ensures closes { IfErr result (ClosesAt self.new.closed) }
-        ensures cause { WhenOpenAt (state S.Store) self.old self.new (λ s. IfErr result (StopsBy (state S.Store self.old.held) (state S.Store self.new.held))) }
-        ensures closed { self.old.closed ≡ true → (result ≡ Err (Stop.Fault Fault.Closed)) × (self.new ≡ self.old) }
+        ensures cause { WhenOpenAt (state S.Store) self.old self.new (λ s. IfErr result (ReadFailsBy (state S.Store self.old.held) (state S.Store self.new.held))) }
+        ensures closed { self.old.closed ≡ true → (result ≡ Err (ReadError.Fault Fault.Closed)) × (self.new ≡ self.old) }
     {
         read!(self, is_batch_number(batch) => load_columns(batch), Reason::NoSuchBatch)
     }
 
-    /// Returns the work of a clerk: their batches in wards in keying, in the order of their numbers. Each has its ward,
-    /// the columns and the number of its papers, its current round, and whether the clerk has keyed that round.
+    /// Returns a clerk's work: the clerk's batches in wards that are being keyed, in numerical order. Each entry
+    /// gives the batch's ward, the columns and the number of its papers, its current round, and whether the clerk has
+    /// keyed that round.
     ///
-    /// It depends only on what the clerk sees of the state, whatever others keyed. Refused if the number is outside 1
-    /// to 999. Changes nothing. `Memory` leaves the office open; any other fault closes it. A closed office returns `Closed`.
-    pub fn work(&mut self, clerk: u32) -> Result<Vec<Work>, Stop>
-        ensures reads { ReadWhenOpen (state S.Store) self.old self.new (λ work. map work_entry work.items) (λ s. work_told s clerk) result }
+    /// The result depends only on what the clerk can see of the state, regardless of what others keyed. Refused if the
+    /// clerk number is outside 1 to 999. Nothing is changed. After `Memory` the office stays open; any other fault
+    /// closes it. A closed office returns `Closed`.
+    pub fn work(&mut self, clerk: u32) -> Result<Vec<Work>, ReadError>
+        ensures reads { ReadWhenOpen (state S.Store) self.old self.new (λ work. map work_entry work.items) (λ s. work_answer s clerk) result }
         ensures blind { WhenOpenAt (state S.Store) self.old self.new (λ s. IfOk result (λ work. map work_entry work.items ≡ work_of (seen_by clerk s) clerk)) }
         ensures same { OnlyReads (state S.Store self.old.held) (state S.Store self.new.held) }
         ensures closes { IfErr result (ClosesAt self.new.closed) }
-        ensures cause { WhenOpenAt (state S.Store) self.old self.new (λ s. IfErr result (StopsBy (state S.Store self.old.held) (state S.Store self.new.held))) }
-        ensures closed { self.old.closed ≡ true → (result ≡ Err (Stop.Fault Fault.Closed)) × (self.new ≡ self.old) }
+        ensures cause { WhenOpenAt (state S.Store) self.old self.new (λ s. IfErr result (ReadFailsBy (state S.Store self.old.held) (state S.Store self.new.held))) }
+        ensures closed { self.old.closed ≡ true → (result ≡ Err (ReadError.Fault Fault.Closed)) × (self.new ≡ self.old) }
     {
         read!(self, is_clerk(clerk) => load_work(clerk))
     }
 
-    /// Returns the text of the ballot papers of a batch, for one of its clerks: its ward, and the candidates there.
+    /// Returns the text of the ballot papers of a batch for one of its clerks: the ward, and the candidates in it.
     ///
-    /// It depends only on what the clerk sees of the state. Refused if a number is out of range, or the clerk is not
-    /// one of such a batch. Changes nothing. `Memory` leaves the office open; any other fault closes it. A closed
-    /// office returns `Closed`.
-    pub fn paper(&mut self, clerk: u32, batch: u32) -> Result<BallotPaper, Stop>
-        ensures reads { ReadWhenOpen (state S.Store) self.old self.new paper_entry (λ s. paper_told s clerk batch) result }
+    /// The result depends only on what the clerk can see of the state. Refused if a number is out of range, there is no
+    /// such batch, or the clerk isn't one of its clerks. Nothing is changed. After `Memory` the office stays open; any
+    /// other fault closes it. A closed office returns `Closed`.
+    pub fn paper(&mut self, clerk: u32, batch: u32) -> Result<BallotPaper, ReadError>
+        ensures reads { ReadWhenOpen (state S.Store) self.old self.new paper_entry (λ s. paper_answer s clerk batch) result }
         ensures blind { WhenOpenAt (state S.Store) self.old self.new (λ s. IfOk result (λ paper. Some (paper_entry paper) ≡ paper_at (seen_by clerk s) clerk batch)) }
         ensures same { OnlyReads (state S.Store self.old.held) (state S.Store self.new.held) }
         ensures closes { IfErr result (ClosesAt self.new.closed) }
-        ensures cause { WhenOpenAt (state S.Store) self.old self.new (λ s. IfErr result (StopsBy (state S.Store self.old.held) (state S.Store self.new.held))) }
-        ensures closed { self.old.closed ≡ true → (result ≡ Err (Stop.Fault Fault.Closed)) × (self.new ≡ self.old) }
+        ensures cause { WhenOpenAt (state S.Store) self.old self.new (λ s. IfErr result (ReadFailsBy (state S.Store self.old.held) (state S.Store self.new.held))) }
+        ensures closed { self.old.closed ≡ true → (result ≡ Err (ReadError.Fault Fault.Closed)) × (self.new ≡ self.old) }
     {
         read!(self, is_clerk(clerk) && is_batch_number(batch) => load_paper(clerk, batch), Reason::NotItsClerk)
     }
 
-    /// Returns whether what is stored of a repeated request differs from the request. A receipt has only the id and the
-    /// subject of its request, so such a request gets the same reply whatever else it says.
+    /// Returns whether the stored content of a repeated request differs from the request. A receipt contains only the
+    /// id and the subject of its request, so a repeated request gets the same reply whatever else it contains.
     ///
-    /// Never refused. Changes nothing. `Memory` leaves the office open; any other fault closes it. A closed office
-    /// returns `Closed`.
-    pub fn differs_from_stored(&mut self, request: &Request) -> Result<bool, Stop>
+    /// Never refused. Nothing is changed. After `Memory` the office stays open; any other fault closes it. A closed
+    /// office returns `Closed`.
+    pub fn differs_from_stored(&mut self, request: &Request) -> Result<bool, ReadError>
         ensures reads { ReadWhenOpen (state S.Store) self.old self.new (λ differs. differs) (λ s. Ok (is_kept_otherwise s request.now)) result }
         ensures same { OnlyReads (state S.Store self.old.held) (state S.Store self.new.held) }
         ensures closes { IfErr result (ClosesAt self.new.closed) }
-        ensures cause { WhenOpenAt (state S.Store) self.old self.new (λ s. IfErr result (StopsBy (state S.Store self.old.held) (state S.Store self.new.held))) }
-        ensures closed { self.old.closed ≡ true → (result ≡ Err (Stop.Fault Fault.Closed)) × (self.new ≡ self.old) }
+        ensures cause { WhenOpenAt (state S.Store) self.old self.new (λ s. IfErr result (ReadFailsBy (state S.Store self.old.held) (state S.Store self.new.held))) }
+        ensures closed { self.old.closed ≡ true → (result ≡ Err (ReadError.Fault Fault.Closed)) × (self.new ≡ self.old) }
     {
         read!(self, true => load_differs_from_stored(request))
     }
 
-    /// Returns the stage sheet of a ward: its papers, and the stages that are done, no more. For an uncontested ward it
-    /// shows its seats.
+    /// Returns a ward's stage sheet: its papers and the stages done so far, but no later ones. For an
+    /// uncontested ward it shows the seats.
     ///
-    /// Refused if the number is outside 1 to 99, no ward has it, or the ward isn't sealed yet. Changes nothing.
-    /// `Memory` leaves the office open; any other fault closes it. A closed office returns `Closed`.
-    pub fn sheet(&mut self, ward: u32) -> Result<String, Stop>
-        ensures reads { ReadWhenOpen (state S.Store) self.old self.new string_bytes (λ s. text_told Text.Sheet s ward) result }
+    /// Refused if the ward number is outside 1 to 99, there is no such ward, or the ward isn't sealed yet. Nothing is
+    /// changed. After `Memory` the office stays open; any other fault closes it. A closed office returns `Closed`.
+    pub fn sheet(&mut self, ward: u32) -> Result<String, ReadError>
+        ensures reads { ReadWhenOpen (state S.Store) self.old self.new string_bytes (λ s. text_answer WardText.Sheet s ward) result }
         ensures same { OnlyReads (state S.Store self.old.held) (state S.Store self.new.held) }
         ensures closes { IfErr result (ClosesAt self.new.closed) }
-        ensures cause { WhenOpenAt (state S.Store) self.old self.new (λ s. IfErr result (StopsBy (state S.Store self.old.held) (state S.Store self.new.held))) }
-        ensures closed { self.old.closed ≡ true → (result ≡ Err (Stop.Fault Fault.Closed)) × (self.new ≡ self.old) }
+        ensures cause { WhenOpenAt (state S.Store) self.old self.new (λ s. IfErr result (ReadFailsBy (state S.Store self.old.held) (state S.Store self.new.held))) }
+        ensures closed { self.old.closed ≡ true → (result ≡ Err (ReadError.Fault Fault.Closed)) × (self.new ≡ self.old) }
     {
-        self.text(ward, Text::Sheet)
+        self.text(ward, WardText::Sheet)
     }
 
-    /// Returns a text of a ward, written from the contents of its stage sheet: its papers and the stages that are done,
-    /// no more. The ballots of an uncontested ward have its seats and candidates.
+    /// Returns one of a ward's texts, generated from the contents of its stage sheet: its papers and the stages done so
+    /// far, but no later ones. For an uncontested ward, the ballots contain its seats and candidates.
     ///
-    /// Refused if the number is outside 1 to 99, no ward has it, or the text isn't available yet: the declaration
-    /// before the ward is declared, any other before it is sealed. Changes nothing. `Memory` leaves the office open;
-    /// any other fault closes it. A closed office returns `Closed`.
-    pub fn text(&mut self, ward: u32, text: Text) -> Result<String, Stop>
-        ensures reads { ReadWhenOpen (state S.Store) self.old self.new string_bytes (λ s. text_told text.entry s ward) result }
+    /// Refused if the ward number is outside 1 to 99, there is no such ward, or the text isn't available yet: the
+    /// declaration is available once the ward is declared, and any other text once it is sealed. Nothing is changed.
+    /// After `Memory` the office stays open; any other fault closes it. A closed office returns `Closed`.
+    pub fn text(&mut self, ward: u32, text: WardText) -> Result<String, ReadError>
+        ensures reads { ReadWhenOpen (state S.Store) self.old self.new string_bytes (λ s. text_answer text.entry s ward) result }
         ensures same { OnlyReads (state S.Store self.old.held) (state S.Store self.new.held) }
         ensures closes { IfErr result (ClosesAt self.new.closed) }
-        ensures cause { WhenOpenAt (state S.Store) self.old self.new (λ s. IfErr result (StopsBy (state S.Store self.old.held) (state S.Store self.new.held))) }
-        ensures closed { self.old.closed ≡ true → (result ≡ Err (Stop.Fault Fault.Closed)) × (self.new ≡ self.old) }
+        ensures cause { WhenOpenAt (state S.Store) self.old self.new (λ s. IfErr result (ReadFailsBy (state S.Store self.old.held) (state S.Store self.new.held))) }
+        ensures closed { self.old.closed ≡ true → (result ≡ Err (ReadError.Fault Fault.Closed)) × (self.new ≡ self.old) }
     {
         texts_are_there();
         read!(self, is_ward_number(ward) => load_sheet(ward), Reason::NoSuchWard, sheet => self.read_text(&sheet, text))
     }
 
-    /// Returns the declaration of a ward: those elected.
+    /// Returns a ward's declaration: the elected candidates.
     ///
-    /// Refused if the number is outside 1 to 99, no ward has it, or the ward isn't declared yet. Changes nothing.
-    /// `Memory` leaves the office open; any other fault closes it. A closed office returns `Closed`.
-    pub fn result(&mut self, ward: u32) -> Result<String, Stop>
-        ensures reads { ReadWhenOpen (state S.Store) self.old self.new string_bytes (λ s. text_told Text.Declaration s ward) result }
+    /// Refused if the ward number is outside 1 to 99, there is no such ward, or the ward isn't declared yet. Nothing is
+    /// changed. After `Memory` the office stays open; any other fault closes it. A closed office returns `Closed`.
+    pub fn result(&mut self, ward: u32) -> Result<String, ReadError>
+        ensures reads { ReadWhenOpen (state S.Store) self.old self.new string_bytes (λ s. text_answer WardText.Declaration s ward) result }
         ensures same { OnlyReads (state S.Store self.old.held) (state S.Store self.new.held) }
         ensures closes { IfErr result (ClosesAt self.new.closed) }
-        ensures cause { WhenOpenAt (state S.Store) self.old self.new (λ s. IfErr result (StopsBy (state S.Store self.old.held) (state S.Store self.new.held))) }
-        ensures closed { self.old.closed ≡ true → (result ≡ Err (Stop.Fault Fault.Closed)) × (self.new ≡ self.old) }
+        ensures cause { WhenOpenAt (state S.Store) self.old self.new (λ s. IfErr result (ReadFailsBy (state S.Store self.old.held) (state S.Store self.new.held))) }
+        ensures closed { self.old.closed ≡ true → (result ≡ Err (ReadError.Fault Fault.Closed)) × (self.new ≡ self.old) }
     {
         texts_are_there();
         read!(self, is_ward_number(ward) => load_counted(ward), Reason::NoSuchWard, counted => self.declaration_of(&counted))
     }
 
-    /// Returns a text that was written. If it couldn't be, the rows are those of no office, and the office is closed.
-    fn told(&mut self, written: Result<Option<String>, AllocError>) -> Result<String, Stop>
+    /// Returns a text that was written. If it couldn't be written, the rows don't belong to any office, and the office
+    /// is closed.
+    fn told(&mut self, written: Result<Option<String>, AllocError>) -> Result<String, ReadError>
         ensures told { IfOk result (λ text. written ≡ Ok (Some text)) }
-        ensures stopped { self.old.closed ≡ false → IfErr result (StopsWriting self.new.closed) }
+        ensures stopped { self.old.closed ≡ false → IfErr result (FailsToWrite self.new.closed) }
         ensures closes { IfErr result (ClosesAt self.new.closed) }
         ensures cause { IfOk written IsSome → IfErr result IsOfMemory }
         ensures held { self.new.held ≡ self.old.held }
@@ -249,34 +254,35 @@ impl<S: Alter> Office<S> {
         }
     }
 
-    /// Returns a text of a ward that was read. If the ward's texts can be written, as those of every ward of an office
-    /// can, it fails only if an allocation fails.
-    fn read_text(&mut self, sheet: &WardSheet, text: Text) -> Result<String, Stop>
-        ensures told { IfOk result (λ told. (is_told_in text.entry sheet.now.counted.ward.phase ≡ true) × ((e : ElectionEntry) → IsSheetOf e sheet.now → string_bytes told ≡ text_shown text.entry e)) }
-        ensures stopped { self.old.closed ≡ false → IfErr result (λ stop. StopsText text.entry sheet.now.counted.ward.phase self.new.closed stop) }
+    /// Returns a text of a ward that was read. If the texts of the ward can be written, which is the case for every
+    /// ward of an office, this fails only if an allocation fails.
+    fn read_text(&mut self, sheet: &WardSheet, text: WardText) -> Result<String, ReadError>
+        ensures told { IfOk result (λ told. (is_printable_in text.entry sheet.now.counted.ward.phase ≡ true)
+            × ((e : ElectionEntry) → IsSheetOf e sheet.now → string_bytes told ≡ text_shown text.entry e)) }
+        ensures stopped { self.old.closed ≡ false → IfErr result (λ stop. FailsToPrint text.entry sheet.now.counted.ward.phase self.new.closed stop) }
         ensures closes { IfErr result (ClosesAt self.new.closed) }
         ensures cause { (e : ElectionEntry) → IsSheetOf e sheet.now → IsTextual e → IfErr result IsOfMemory }
         ensures held { self.new.held ≡ self.old.held }
         ensures open_still { OnOk result (self.new.closed ≡ self.old.closed) }
     {
-        if !text.is_told_in(sheet.counted.ward.phase) {
+        if !text.is_printable_in(sheet.counted.ward.phase) {
             return Err(refused(self.alloc, Reason::WrongPhase));
         }
         let written = text_of(self.alloc, sheet, text);
         self.told(written)
     }
 
-    /// Returns the declaration of a ward that was read, in the same way.
-    fn declaration_of(&mut self, counted: &CountedWard) -> Result<String, Stop>
-        ensures told { IfOk result (λ text. (is_told_in Text.Declaration counted.now.ward.phase ≡ true)
-            × ((e : ElectionEntry) → IsCountedWard e counted.now → string_bytes text ≡ text_shown Text.Declaration e)) }
-        ensures stopped { self.old.closed ≡ false → IfErr result (λ stop. StopsText Text.Declaration counted.now.ward.phase self.new.closed stop) }
+    /// Returns the declaration of a ward that was read, under the same conditions as `read_text`.
+    fn declaration_of(&mut self, counted: &CountedWard) -> Result<String, ReadError>
+        ensures told { IfOk result (λ text. (is_printable_in WardText.Declaration counted.now.ward.phase ≡ true)
+            × ((e : ElectionEntry) → IsCountedWard e counted.now → string_bytes text ≡ text_shown WardText.Declaration e)) }
+        ensures stopped { self.old.closed ≡ false → IfErr result (λ stop. FailsToPrint WardText.Declaration counted.now.ward.phase self.new.closed stop) }
         ensures closes { IfErr result (ClosesAt self.new.closed) }
         ensures cause { (e : ElectionEntry) → IsCountedWard e counted.now → IsTextual e → IfErr result IsOfMemory }
         ensures held { self.new.held ≡ self.old.held }
         ensures open_still { OnOk result (self.new.closed ≡ self.old.closed) }
     {
-        if !Text::Declaration.is_told_in(counted.ward.phase) {
+        if !WardText::Declaration.is_printable_in(counted.ward.phase) {
             return Err(refused(self.alloc, Reason::WrongPhase));
         }
         let written = declaration(self.alloc, counted);

@@ -1,4 +1,4 @@
-//! The texts of a ward for the public, written from its election.
+//! A ward's public texts, generated from its election.
 
 ghost use Rattle.std.specs.Prelude.{◌≡◌, [], true, map, Some, IfOk, IfSome, IsSome, string_bytes};
 ghost use Rattle.std.specs.List.{list_all};
@@ -9,7 +9,8 @@ ghost use Rattle.register.specs.Elections.{ElectionEntry, election_of, is_counte
 ghost use Rattle.register.specs.Tabulated.{IsCountedWard, IsSheetOf};
 ghost use Rattle.sheet.specs.Entries.{shown};
 ghost use Rattle.sheet.specs.Wards.{HasFewPapers, CanBePrinted};
-ghost use Rattle.office.specs.Sheets.{is_numbered, IsTextual, candidate_shown, poll_shown, shown_with, election_shown, declaration_of, stages_shown, bundles_shown, lots_shown, text_shown, is_told_in};
+ghost use Rattle.office.specs.Sheets.{is_numbered, IsTextual, candidate_shown, poll_shown, shown_with, election_shown, declaration_of};
+ghost use Rattle.office.specs.Sheets.{stages_shown, bundles_shown, lots_shown, text_shown, is_printable_in};
 
 use count::{Bundles, Stage};
 use register::marks::columns_of;
@@ -21,45 +22,47 @@ use sheet::{
 use std::alloc::{AllocError, Global};
 use store::elected_in;
 
-/// The law of the texts of an office, for its callers: at a state, those of every ward can be written.
+/// Provides callers with the law about an office's texts: in any state of an office, the texts of every ward can be
+/// written.
 pub fn texts_are_there()
     ensures { (s : OfficeState) (w : WardEntry) → IsState s → ward_at s w.number ≡ Some w → IsTextual (election_of s w) }
 {
-    // For its law that a ward's columns are its candidates' numbers.
+    // Called for its law that the columns of a ward are the numbers of its candidates.
     columns_of(&[]);
 }
 
 /// The texts of a ward.
 #[derive(Clone, Copy, Debug)]
-pub enum Text<'a> {
+pub enum WardText<'a> {
     /// The stage sheet, once the ward is sealed.
     Sheet,
     /// The declaration, once the ward is declared.
     Declaration,
-    /// The ballots, in a file format that counting programs share, once the ward is sealed.
+    /// The ballots in the BLT format, once the ward is sealed.
     Ballots,
-    /// The result as a page to print and sign, under this title, once the ward is sealed; an empty title is left out.
+    /// The result as a page to print and sign, with this title, once the ward is sealed. An empty title is left out.
     Page(&'a str),
     /// The stages as a table for a spreadsheet, once the ward is sealed.
     Table,
 }
 
-impl<'a> Text<'a> {
-    /// Returns whether the text may be printed in a phase.
-    pub(crate) fn is_told_in(self, phase: Phase) -> bool
-        ensures is { result ≡ is_told_in self.entry phase }
+impl<'a> WardText<'a> {
+    /// Returns true if the text may be printed in the given phase.
+    pub(crate) fn is_printable_in(self, phase: Phase) -> bool
+        ensures is { result ≡ is_printable_in self.entry phase }
         ensures counted { result ≡ true → is_counted phase ≡ true }
     {
         match self {
-            Text::Declaration => matches!(phase, Phase::Declared),
-            Text::Sheet | Text::Ballots | Text::Page(_) | Text::Table => {
+            WardText::Declaration => matches!(phase, Phase::Declared),
+            WardText::Sheet | WardText::Ballots | WardText::Page(_) | WardText::Table => {
                 matches!(phase, Phase::Sealed | Phase::Declared)
             }
         }
     }
 }
 
-/// Returns a candidate's number and name. `None` if the number is out of range; no candidate of an office has such a number.
+/// Returns a candidate's number and name, or `None` if the number is out of range. No candidate of an office has such a
+/// number.
 fn candidate_line(candidate: &Candidate) -> Result<Option<(u8, String)>, AllocError>
     ensures is { IfOk result (λ found. IfSome found (λ line. (line.0, string_bytes line.1) ≡ candidate_shown (candidate_entry candidate.now))) }
     ensures some { IfOk result (λ found. is_candidate_number candidate.now.number ≡ true → IsSome found) }
@@ -70,7 +73,7 @@ fn candidate_line(candidate: &Candidate) -> Result<Option<(u8, String)>, AllocEr
     Ok(Some((number, candidate.name.clone()?)))
 }
 
-/// Returns the numbers and names of candidates, in order. `None` if a number is out of range.
+/// Returns the numbers and names of candidates, in order, or `None` if a number is out of range.
 fn candidate_lines(
     alloc: Global,
     candidates: &[Candidate],
@@ -88,7 +91,7 @@ fn candidate_lines(
     Ok(Some(lines))
 }
 
-/// Returns the poll of a ward in count.
+/// Returns the poll of a ward that is being counted.
 fn poll_of(sheet: &WardSheet) -> Option<Poll>
     ensures { (e : ElectionEntry) → IsSheetOf e sheet.now → is_counted e.ward.phase ≡ true → result ≡ poll_shown e }
 {
@@ -101,8 +104,8 @@ fn poll_of(sheet: &WardSheet) -> Option<Poll>
     }
 }
 
-/// Returns a counted ward as the texts show it, with these lines of its candidates and this poll. `None` if a number is
-/// out of range, so that the ward can't be printed; no ward of an office has such a number.
+/// Returns a counted ward as the texts show it, with the given candidate lines and poll. Returns `None` if a
+/// number is out of range and the ward therefore can't be printed. No ward of an office has such a number.
 fn ward_of<'a>(
     counted: &'a CountedWard,
     candidates: &'a [(u8, String)],
@@ -133,7 +136,7 @@ fn ward_of<'a>(
     Some(ward)
 }
 
-/// Returns the stages of a ward's count that are done; none for an uncontested ward.
+/// Returns the stages done so far in a ward's count; an uncontested ward has none.
 fn stages_of(counted: &CountedWard) -> &[Stage]
     ensures { (e : ElectionEntry) → IsCountedWard e counted.now → is_counted e.ward.phase ≡ true → result.now ≡ stages_shown e }
 {
@@ -143,7 +146,8 @@ fn stages_of(counted: &CountedWard) -> &[Stage]
     }
 }
 
-/// Returns the bundles of equal valid papers of a ward in count; `none` for an uncontested ward, which has no bundles.
+/// Returns the bundles of equal valid papers of a ward that is being counted, or `none` for an uncontested ward, which
+/// has no bundles.
 fn bundles_of<'a>(counted: &'a CountedWard, none: &'a Bundles) -> &'a Bundles
     requires { none.now ≡ [] }
     ensures { (e : ElectionEntry) → IsCountedWard e counted.now → is_counted e.ward.phase ≡ true → result.now ≡ bundles_shown e }
@@ -154,7 +158,7 @@ fn bundles_of<'a>(counted: &'a CountedWard, none: &'a Bundles) -> &'a Bundles
     }
 }
 
-/// Returns the lots recorded in a ward's count; none for an uncontested ward.
+/// Returns the lots recorded in a ward's count; an uncontested ward has none.
 fn lots_of(counted: &CountedWard) -> &[(u8, u8)]
     ensures { (e : ElectionEntry) → IsCountedWard e counted.now → is_counted e.ward.phase ≡ true → result.now ≡ lots_shown e }
 {
@@ -164,26 +168,26 @@ fn lots_of(counted: &CountedWard) -> &[(u8, u8)]
     }
 }
 
-/// Returns a text of a ward that was read, from what it shows.
-fn written(
+/// Returns a text of a ward that was read, given what the text shows.
+fn write_text(
     alloc: Global,
     counted: &CountedWard,
     ward: &Ward,
-    text: Text,
+    text: WardText,
 ) -> Result<String, AllocError>
     requires { CanBePrinted ward.now }
     ensures { IfOk result (λ told. (e : ElectionEntry) → IsCountedWard e counted.now → is_counted e.ward.phase ≡ true
         → shown ward.now ≡ election_shown e → string_bytes told ≡ text_shown text.entry e) }
 {
     match text {
-        Text::Sheet => sheet_text(alloc, ward, stages_of(counted)),
-        Text::Declaration => declaration_text(alloc, ward, elected_in(counted)),
-        Text::Ballots => {
+        WardText::Sheet => sheet_text(alloc, ward, stages_of(counted)),
+        WardText::Declaration => declaration_text(alloc, ward, elected_in(counted)),
+        WardText::Ballots => {
             let none = Bundles::new(alloc);
             ballots_text(alloc, ward, bundles_of(counted, &none), lots_of(counted))
         }
-        Text::Page(title) => {
-            let is_declared = Text::Declaration.is_told_in(counted.ward.phase);
+        WardText::Page(title) => {
+            let is_declared = WardText::Declaration.is_printable_in(counted.ward.phase);
             page_text(
                 alloc,
                 ward,
@@ -193,16 +197,16 @@ fn written(
                 lots_of(counted),
             )
         }
-        Text::Table => spreadsheet_text(alloc, ward, stages_of(counted)),
+        WardText::Table => spreadsheet_text(alloc, ward, stages_of(counted)),
     }
 }
 
-/// Returns a text of a ward, from the stages that are done. `None` if it can't be written, but every text of an office
-/// can be. `AllocError` if an allocation fails.
+/// Returns one of a ward's texts, generated from the stages done so far. Returns `None` if the text can't be written,
+/// which never happens for an office. Fails with `AllocError` if an allocation fails.
 pub(crate) fn text_of(
     alloc: Global,
     sheet: &WardSheet,
-    text: Text,
+    text: WardText,
 ) -> Result<Option<String>, AllocError>
     ensures is { IfOk result (λ found. IfSome found (λ told. (e : ElectionEntry) → IsSheetOf e sheet.now → is_counted e.ward.phase ≡ true → string_bytes told ≡ text_shown text.entry e)) }
     ensures some { IfOk result (λ found. (e : ElectionEntry) → IsSheetOf e sheet.now → is_counted e.ward.phase ≡ true → IsTextual e → IsSome found) }
@@ -214,10 +218,10 @@ pub(crate) fn text_of(
     let Some(ward) = ward_of(counted, &candidates, poll_of(sheet)) else {
         return Ok(None);
     };
-    Ok(Some(written(alloc, counted, &ward, text)?))
+    Ok(Some(write_text(alloc, counted, &ward, text)?))
 }
 
-/// Returns the declaration of a ward, from those elected, in the same way.
+/// Returns a ward's declaration, generated from the elected candidates, under the same conditions as `text_of`.
 pub(crate) fn declaration(
     alloc: Global,
     counted: &CountedWard,

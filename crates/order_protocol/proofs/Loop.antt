@@ -1,4 +1,4 @@
--- Reading pieces one after the other, as a loop does.
+-- Reading pieces one after another in a loop.
 use Rattle.std.proofs.Common.{◌≡◌, ℕ, suc, ◌-◌, ◌+◌, ◌≤◌, ◌<◌, List, [], ◌∷◌, ◌++◌, Result, Ok, Err, refl, sym, ap, ◌∙◌, append_assoc, arith}
 use Rattle.std.proofs.lemmas.List.{append-nil}
 use Rattle.order_protocol.specs.declared.fault.FormatError.{FormatError}
@@ -7,7 +7,7 @@ use Rattle.order_protocol.specs.declared.fault.DecodeError.TheVariants as errors
 use Rattle.order_protocol.specs.Messages.{MessagePartEntry}
 use Rattle.order_protocol.specs.Reading.{◌>>=◌, Fails, piece_at, pieces_at}
 
--- what was read before, and what is still read
+-- the pieces that were already read, followed by those still to be read
 abbrev pub with_front : List MessagePartEntry → Result (List MessagePartEntry × List ℕ) FormatError → Result (List MessagePartEntry × List ℕ) FormatError
 with_front front read = read >>= λ x. Ok (front ++ x.0, x.1)
 

@@ -1,4 +1,4 @@
--- The two laws: what is read is spelled so, and what is spelled so is read.
+-- The two laws: whatever is decoded has this encoding, and whatever has this encoding is decoded.
 use Rattle.std.proofs.Common.{◌≡◌, ℕ, zero, suc, ◌^◌, Bool, true, false, cond, eqb, List, [], ◌∷◌, ◌++◌, length, All, Result, Ok, Err, refl, sym, ap, subst, ◌∙◌, append_assoc, arith}
 use Rattle.std.specs.Prelude.{IfOk}
 use Rattle.std.specs.List.{flat_map, AllByRecursion}
@@ -66,7 +66,7 @@ pieces_again (p ∷ ps) rest fits =
     ap (λ (x : List ℕ). x ++ rest) (flat_map-cons piece p ps) ∙ append_assoc (piece p) (flat_map piece ps) rest in
     ap (pieces_at (suc (length ps))) regrouped ∙ rw (piece_again p (flat_map piece ps ++ rest) fits.0, pieces_again ps rest fits.1) refl
 
--- ---- a list of them, behind their number
+-- ---- a list of pieces, preceded by their number
 
 list_takes : (bytes : List ℕ) (x : List MessagePartEntry × List ℕ) → IsBytes bytes → list_at bytes ≡ Ok x → Takes bytes (pieces x.0) x.1 × PiecesFit x.0
 unfolding list_at
@@ -83,7 +83,7 @@ list_again ps rest fits =
     let regrouped : pieces ps ++ rest ≡ to_be_bytes w32 (length ps) ++ (flat_map piece ps ++ rest) = append_assoc (to_be_bytes w32 (length ps)) (flat_map piece ps) rest in
     ap list_at regrouped ∙ rw (number_again w32 (2 ^ 32) wide32 (length ps) (flat_map piece ps ++ rest) fits.0) (pieces_again ps rest fits.1)
 
--- ---- all
+-- ---- the whole message
 
 pub handed_takes : (bytes : List ℕ) (h : OrderMessageEntry) → IsBytes bytes → order_message_in bytes ≡ Ok h → Fits h × (bytes ≡ encoding_of h)
 unfolding order_message_in
@@ -129,7 +129,7 @@ pub is_found : (bytes : List ℕ) (r : Result OrderMessage DecodeError) → IsBy
 is_found bytes (Ok h) fits given = handed_takes bytes (order_message_entry h) fits given
 is_found bytes (Err e) fits given = tt
 
--- ---- pieces that fit, at each place
+-- ---- pieces that fit, at each position
 
 each_fits : (ps : List MessagePart) → AllByRecursion PieceFits (message_part_entries ps) → AllByRecursion (λ p. PieceFits (message_part_entry p)) ps
 each_fits [] fits = tt

@@ -1,4 +1,4 @@
--- The frames that return the output of an order, and how they are decoded, byte by byte.
+-- The frames in which the output of an order is sent back, and how they are decoded, byte by byte.
 use Rattle.std.specs.Prelude.{◌≡◌, ℕ, zero, suc, ◌+◌, ◌*◌, ◌==◌, List, [], ◌∷◌, ◌++◌, fold, if◌then◌else◌}
 use Rattle.std.specs.Int.{w32, to_be_bytes}
 use Rattle.std.specs.List.{flat_map}
@@ -6,15 +6,15 @@ use Rattle.order_protocol.specs.Messages.{string}
 use Rattle.order_protocol.specs.declared.frames.FrameKind.{FrameKind}
 use Rattle.order_protocol.specs.declared.frames.FrameKind.TheVariants as kinds
 
--- the most bytes of an order that is handed over: 32 MiB
+-- the maximum number of bytes in an order that is sent to the server: 32 MiB
 abbrev pub max_message : ℕ
 max_message = 33554432
 
--- the most bytes of the output, or of the error output, in one frame: 64 KiB
+-- the maximum number of bytes of the output, or of the error output, in one frame: 64 KiB
 abbrev pub max_frame : ℕ
 max_frame = 65536
 
--- bytes of the output; or the end: the status, and bytes of the error output; or bytes of the error output before the end
+-- bytes of the output; or the end, which consists of the status and bytes of the error output; or bytes of the error output before the end
 pub data Frame : Type 0 where
   said : List ℕ → Frame
   over : ℕ → List ℕ → Frame
@@ -26,7 +26,7 @@ kind_byte kinds.Output = 1
 kind_byte kinds.End = 2
 kind_byte kinds.ErrorOutput = 3
 
--- the head of a frame: its kind, and how many bytes follow
+-- the head of a frame: its kind, and the number of bytes that follow
 abbrev pub head_bytes : FrameKind → ℕ → List ℕ
 head_bytes kind len = kind_byte kind ∷ to_be_bytes w32 len
 
@@ -46,18 +46,18 @@ frame_bytes (said bytes) = 1 ∷ string bytes
 frame_bytes (over status err) = 2 ∷ string (status ∷ err)
 frame_bytes (said_err bytes) = 3 ∷ string bytes
 
--- frames, one after the other
+-- frames, one after another
 abbrev pub frames_bytes : List Frame → List ℕ
 frames_bytes frames = flat_map frame_bytes frames
 
--- Where the next byte belongs. It is the kind of a frame. Or it is a byte of its length, of which the earlier ones make this number, and so many are to come. Or it is one
--- of the frame's own bytes, of which so many are to come.
+-- What the next byte is: the kind of a frame, a byte of its length, or one of the frame's own bytes. For a byte of a length, it contains the number that the earlier
+-- bytes encode, and how many more are expected. For a frame's own bytes, it contains how many more are expected.
 pub data DecoderState : Type 0 where
   at_kind : DecoderState
   in_length : ℕ → ℕ → ℕ → DecoderState
   in_bytes : ℕ → ℕ → DecoderState
 
--- what is decoded so far: where the next byte belongs, the output, and the error output
+-- what has been decoded so far: what the next byte is, the output, and the error output
 pub record Decoded : Type 0 where
   pub place : DecoderState
   pub output : List ℕ
@@ -66,16 +66,16 @@ pub record Decoded : Type 0 where
 abbrev pub nothing_decoded : Decoded
 nothing_decoded = record { place = at_kind; output = []; error = [] }
 
--- after the length of a frame come its bytes, if it has any
+-- the length of a frame is followed by its bytes, if it has any
 abbrev pub behind_length : ℕ → ℕ → DecoderState
 behind_length kind zero = at_kind
 behind_length kind (suc n) = in_bytes kind (suc n)
 
--- after the first byte of the end, its status, come bytes of the error output
+-- the first byte of the end is its status, and is followed by bytes of the error output
 abbrev pub behind_first : ℕ → ℕ
 behind_first kind = if kind == 2 then 3 else kind
 
--- one byte more
+-- decodes another byte
 abbrev pub decode_at : DecoderState → List ℕ → List ℕ → ℕ → Decoded
 decode_at at_kind output error byte = record { place = in_length byte 0 4; output = output; error = error }
 decode_at (in_length kind number zero) output error byte = record { place = at_kind; output = output; error = error }
@@ -91,25 +91,25 @@ decode_at (in_bytes kind (suc n)) output error byte = record {
 abbrev pub decode : Decoded → ℕ → Decoded
 decode decoded byte = decode_at decoded.place decoded.output decoded.error byte
 
--- the output that the bytes of frames have
+-- the output that is contained in the bytes of frames
 abbrev pub output_of : List ℕ → List ℕ
 output_of bytes = (fold decode nothing_decoded bytes).output
 
--- their error output
+-- the error output that is contained in the bytes of frames
 abbrev pub error_output_of : List ℕ → List ℕ
 error_output_of bytes = (fold decode nothing_decoded bytes).error
 
--- the frames in these bytes are complete: the next byte is the kind of another
+-- the frames in the given bytes are complete: the next byte is the kind of another frame
 abbrev pub AreWhole : List ℕ → Type 0
 AreWhole bytes = (fold decode nothing_decoded bytes).place ≡ at_kind
 
--- These are complete frames, which have more than others had: this output, and this error output.
+-- The new frames are complete, and they contain the given output and error output in addition to those of the old ones.
 pub record SaysMore (old new out err : List ℕ) : Type 0 where
   pub whole : AreWhole new
   pub output : output_of new ≡ output_of old ++ out
   pub error : error_output_of new ≡ error_output_of old ++ err
 
--- After complete frames comes the last one, with this status and these bytes of the error output; and nothing after it.
+-- Complete frames are followed by the last one, with the given status and the given bytes of the error output, and nothing follows it.
 pub record IsOver (bytes : List ℕ) (status : ℕ) (err : List ℕ) : Type 0 where
   pub front : List ℕ
   pub whole : AreWhole front

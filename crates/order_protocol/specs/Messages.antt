@@ -1,17 +1,17 @@
--- An order that is handed over, and its one encoding.
+-- An order as it is sent to the server, and its only encoding.
 use Rattle.std.specs.Prelude.{ℕ, ◌<◌, ◌^◌, List, [], ◌∷◌, ◌++◌, length, map, option_map, Option, Some, None, IfSome}
 use Rattle.std.specs.List.{flat_map, AllByRecursion}
 use Rattle.std.specs.Int.{w32, w64, to_be_bytes}
 use Rattle.order_protocol.specs.declared.order_message.MessagePart.{MessagePart}
 use Rattle.order_protocol.specs.declared.order_message.OrderMessage.{OrderMessage}
 
--- a word, without bytes; or a file by its path, with its bytes, or without if it couldn't be read
+-- either a word, without bytes; or the path of a file, with the file's bytes unless it couldn't be read
 pub record MessagePartEntry : Type 0 where
   pub name : List ℕ
   pub bytes : Option (List ℕ)
 
--- An order that is handed over. It has the version of the program that sends it, and the file that it is for, by the numbers of its device and its own. It also has what
--- was typed, and in which folder; and the files that it names.
+-- An order as it is sent to the server. It contains the version of the program that sends it, and the device and inode numbers of the file that it is for. Then come
+-- the words that were typed, the folder in which they were typed, and the files that the order names.
 pub record OrderMessageEntry : Type 0 where
   pub version : List ℕ
   pub device : ℕ
@@ -36,11 +36,11 @@ order_message_entry h = record {
   files = message_part_entries h.files.items;
 }
 
--- four bytes of length, and that many bytes
+-- the length in four bytes, followed by that many bytes
 abbrev pub string : List ℕ → List ℕ
 string bytes = to_be_bytes w32 (length bytes) ++ bytes
 
--- a flag, and the string if there is one
+-- a flag, followed by the string if there is one
 abbrev pub optional : Option (List ℕ) → List ℕ
 optional None = 0 ∷ []
 optional (Some bytes) = 1 ∷ string bytes
@@ -48,14 +48,14 @@ optional (Some bytes) = 1 ∷ string bytes
 abbrev pub piece : MessagePartEntry → List ℕ
 piece p = string p.name ++ optional p.bytes
 
--- the count, and each of them
+-- the number of pieces, followed by the pieces
 abbrev pub pieces : List MessagePartEntry → List ℕ
 pieces ps = to_be_bytes w32 (length ps) ++ flat_map piece ps
 
 abbrev pub encoding_of : OrderMessageEntry → List ℕ
 encoding_of h = string h.version ++ (to_be_bytes w64 h.device ++ (to_be_bytes w64 h.inode ++ (string h.folder ++ (pieces h.words ++ pieces h.files))))
 
--- what has an encoding
+-- the piece has an encoding
 pub record PieceFits (p : MessagePartEntry) : Type 0 where
   pub name : length p.name < 2 ^ 32
   pub bytes : IfSome p.bytes (λ b. length b < 2 ^ 32)

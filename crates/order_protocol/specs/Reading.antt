@@ -16,7 +16,7 @@ abbrev pub ◌>>=◌ : {A B : Type 0} → Result A FormatError → (A → Result
 (Ok x) >>= f = f x
 (Err e) >>= f = Err e
 
--- What a function returned is what decoding gives, seen through a view, unless an allocation failed.
+-- What a function returned is the result of decoding, mapped by a view, unless an allocation failed.
 abbrev pub Fails : {Y : Type 0} → DecodeError → Result Y FormatError → Type 0
 Fails errors.Memory read = Unit {0}
 Fails (errors.FormatError f) read = read ≡ Err f
@@ -25,7 +25,7 @@ abbrev pub Gives : {X Y : Type 0} → (X → Y) → Result X DecodeError → Res
 Gives view (Ok x) read = read ≡ Ok (view x)
 Gives view (Err e) read = Fails e read
 
--- A field is a value and the bytes after it.
+-- Reading a field yields its value and the bytes after it.
 abbrev pub number_at : Width → List ℕ → Result (ℕ × List ℕ) FormatError
 number_at w bytes = if nat_lt (length bytes) (byte_len w) then Err Short else Ok (from_be_bytes w (take (byte_len w) bytes), drop (byte_len w) bytes)
 
@@ -55,13 +55,13 @@ pieces_at (suc n) bytes = do
   others ← pieces_at n first.1
   Ok (first.0 ∷ others.0, others.1)
 
--- the count, and each of them
+-- the number of pieces, followed by the pieces
 unfoldable pub list_at : List ℕ → Result (List MessagePartEntry × List ℕ) FormatError
 list_at bytes = do
   n ← number_at w32 bytes
   pieces_at n.0 n.1
 
--- all of the bytes
+-- an order that consists of exactly the given bytes
 unfoldable pub order_message_in : List ℕ → Result OrderMessageEntry FormatError
 order_message_in bytes = do
   version ← string_at bytes
@@ -72,7 +72,7 @@ order_message_in bytes = do
   files ← list_at words.1
   if length files.1 == 0 then Ok (record { version = version.0; device = device.0; inode = inode.0; folder = folder.0; words = words.0; files = files.0 }) else Err Trailing
 
--- the kind of frame for a byte: 1, 2 or 3
+-- the kind of frame for a byte, which is 1, 2 or 3
 abbrev pub kind_in : ℕ → Option FrameKind
 kind_in zero = None
 kind_in (suc zero) = Some kinds.Output
@@ -80,7 +80,7 @@ kind_in (suc (suc zero)) = Some kinds.End
 kind_in (suc (suc (suc zero))) = Some kinds.ErrorOutput
 kind_in (suc (suc (suc (suc n)))) = None
 
--- the head of a frame, of a kind and a length
+-- the head of a frame, with its kind and length
 abbrev pub head_in : List ℕ → Option FrameHead
 head_in bytes = option_map (λ kind. record { kind = kind; len = from_be_bytes w32 (drop 1 bytes) }) (kind_in (get_or bytes 0 0))
 

@@ -1,4 +1,4 @@
-//! Decoding of a message.
+//! Decoding messages.
 
 ghost use Rattle.std.specs.Prelude.{◌≡◌, length, IfOk, Ok, option_map};
 ghost use Rattle.std.specs.Int.{w32, w64};
@@ -117,13 +117,13 @@ fn all(alloc: Global, bytes: &[u8]) -> Result<OrderMessage<'_>, DecodeError>
     })
 }
 
-/// Decodes an order from all of these bytes.
+/// Decodes an order, which must consist of exactly the given bytes.
 pub fn decode_message(alloc: Global, bytes: &[u8]) -> Result<OrderMessage<'_>, DecodeError>
-    // What is decoded has this encoding.
+    // Whatever is decoded has this encoding.
     ensures found { IfOk result (λ h. Fits (order_message_entry h) × (bytes.now ≡ encoding_of (order_message_entry h))) }
-    // What is so encoded is decoded, unless an allocation fails.
+    // Every such encoding is decoded, unless an allocation fails.
     ensures only { (h : OrderMessageEntry) → Fits h → bytes.now ≡ encoding_of h → Gives order_message_entry result (Ok h) }
-    // Which error it is.
+    // Specifies which error is returned.
     ensures exact { Gives order_message_entry result (order_message_in bytes.now) }
 {
     all(alloc, bytes)

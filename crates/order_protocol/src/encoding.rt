@@ -1,4 +1,4 @@
-//! Encoding of messages and frames.
+//! Encoding messages and frames.
 
 ghost use Rattle.std.specs.Prelude.{◌≡◌, ◌+◌, ◌<◌, ◌^◌, ◌++◌, ◌∷◌, [], length, take, IfOk, IfSome, OnErr, OnOk, option_map};
 ghost use Rattle.order_protocol.specs.Frames.{AreWhole, IsOver, SaysMore, frame_bytes, kind_byte, over, said, said_err};
@@ -67,7 +67,7 @@ pub fn encode_message(alloc: Global, message: &OrderMessage<'_>) -> Result<Vec<u
     Ok(out)
 }
 
-/// Appends a frame of a kind, with these bytes.
+/// Appends a frame of the given kind that contains the given bytes.
 fn put_frame(out: &mut Vec<u8>, kind: FrameKind, bytes: &[u8]) -> Result<(), AllocError>
     requires { length bytes.now < 2 ^ 32 }
     ensures put { OnOk result (out.new.items ≡ out.old.items ++ kind_byte kind ∷ string bytes.now) }
@@ -80,7 +80,7 @@ fn put_frame(out: &mut Vec<u8>, kind: FrameKind, bytes: &[u8]) -> Result<(), All
     Ok(())
 }
 
-/// Appends the last frame, with a status and these bytes.
+/// Appends the last frame, which contains a status and the given bytes.
 fn put_end(out: &mut Vec<u8>, status: u8, err: &[u8]) -> Result<(), AllocError>
     requires { length err.now + 1 < 2 ^ 32 }
     ensures put { OnOk result (out.new.items ≡ out.old.items ++ frame_bytes (over status err.now)) }
@@ -95,7 +95,7 @@ fn put_end(out: &mut Vec<u8>, status: u8, err: &[u8]) -> Result<(), AllocError>
     Ok(())
 }
 
-/// Appends a frame with bytes of the output.
+/// Appends a frame that contains bytes of the output.
 pub fn put_output(out: &mut Vec<u8>, bytes: &[u8]) -> Result<(), AllocError>
     requires { length bytes.now < 2 ^ 32 }
     ensures said { OnOk result (out.new.items ≡ out.old.items ++ frame_bytes (said bytes.now)) }
@@ -106,7 +106,7 @@ pub fn put_output(out: &mut Vec<u8>, bytes: &[u8]) -> Result<(), AllocError>
     Ok(())
 }
 
-/// Appends a frame with bytes of the error output.
+/// Appends a frame that contains bytes of the error output.
 pub fn put_error_output(out: &mut Vec<u8>, bytes: &[u8]) -> Result<(), AllocError>
     requires { length bytes.now < 2 ^ 32 }
     ensures said { OnOk result (out.new.items ≡ out.old.items ++ frame_bytes (said_err bytes.now)) }
@@ -117,7 +117,7 @@ pub fn put_error_output(out: &mut Vec<u8>, bytes: &[u8]) -> Result<(), AllocErro
     Ok(())
 }
 
-/// Appends the last frame: the status, and bytes of the error output.
+/// Appends the last frame, which contains the status and bytes of the error output.
 pub fn put_end_frame(out: &mut Vec<u8>, status: u8, err: &[u8]) -> Result<(), AllocError>
     requires { length err.now + 1 < 2 ^ 32 }
     ensures over { OnOk result (out.new.items ≡ out.old.items ++ frame_bytes (over status err.now)) }
@@ -128,7 +128,7 @@ pub fn put_end_frame(out: &mut Vec<u8>, status: u8, err: &[u8]) -> Result<(), Al
     Ok(())
 }
 
-/// Appends frames with bytes of the error output, until an allocation fails.
+/// Appends frames that contain bytes of the error output, until an allocation fails.
 fn put_err_parts(out: &mut Vec<u8>, bytes: &[u8]) -> Result<(), AllocError>
     ensures behind { take (length out.old.items) out.new.items ≡ out.old.items }
     ensures decoded { OnOk result (AreWhole out.old.items → SaysMore out.old.items out.new.items [] bytes.now) }
@@ -142,7 +142,7 @@ fn put_err_parts(out: &mut Vec<u8>, bytes: &[u8]) -> Result<(), AllocError>
     Ok(())
 }
 
-/// Appends frames with bytes of the error output, at most 64 KiB in each.
+/// Appends frames that contain bytes of the error output, at most 64 KiB each. If an allocation fails, appends nothing.
 pub fn put_error_frames(out: &mut Vec<u8>, bytes: &[u8]) -> Result<(), AllocError>
     ensures begins { take (length out.old.items) out.new.items ≡ out.old.items }
     ensures decoded { OnOk result (AreWhole out.old.items → SaysMore out.old.items out.new.items [] bytes.now) }

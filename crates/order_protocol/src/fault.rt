@@ -1,4 +1,4 @@
-//! Why a message can't be decoded.
+//! The reasons why a message can't be decoded.
 
 ghost use Rattle.std.specs.Prelude.{◌≡◌};
 ghost use Rattle.order_protocol.specs.declared.fault.DecodeError.TheVariants.{Memory};
@@ -16,7 +16,7 @@ pub enum FormatError {
     Trailing,
 }
 
-/// Why nothing is decoded.
+/// The reason why nothing was decoded.
 #[derive(Debug, Drop)]
 pub enum DecodeError {
     Memory,

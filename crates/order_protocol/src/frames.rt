@@ -1,13 +1,13 @@
-//! The frames in which the output of an order comes back.
+//! The frames in which the server sends back the output of an order.
 
 ghost use Rattle.std.specs.Prelude.{◌≡◌, ◌<◌, ◌^◌, ℕ, IfSome, Some, length, take};
 ghost use Rattle.order_protocol.specs.Frames.{Frame, frame_bytes, frame_kind, head_bytes, kind_byte, max_frame, own_bytes};
 ghost use Rattle.order_protocol.specs.Reading.{head_in, kind_in};
 
-/// The most bytes of the output, or of the error output, in one frame.
+/// The maximum number of bytes of the output, or of the error output, in one frame.
 pub const MAX_FRAME: usize = 65536;
 
-/// The length of a frame's head: its kind, and the number of bytes that follow.
+/// The length of a frame's head, which consists of its kind and the number of bytes that follow.
 pub const HEAD: usize = 5;
 
 /// The kind of a frame.
@@ -15,13 +15,13 @@ pub const HEAD: usize = 5;
 pub enum FrameKind {
     /// Bytes of the output.
     Output,
-    /// The end: the status, and then bytes of the error output.
+    /// The end: the status, followed by bytes of the error output.
     End,
     /// Bytes of the error output.
     ErrorOutput,
 }
 
-/// The head of a frame: its kind, and how many bytes follow.
+/// The head of a frame: its kind, and the number of bytes that follow.
 #[derive(Clone, Copy, Debug, PartialEq, Eq)]
 pub struct FrameHead {
     pub kind: FrameKind,
@@ -29,7 +29,7 @@ pub struct FrameHead {
 }
 
 impl FrameKind {
-    /// Returns the byte for a kind.
+    /// Returns the byte for this kind.
     pub fn byte(self) -> u8
         ensures { result ≡ kind_byte self }
     {
@@ -41,7 +41,7 @@ impl FrameKind {
     }
 }
 
-/// Returns the kind for a byte, if any.
+/// Returns the kind for the given byte, if there is one.
 fn kind_of(byte: u8) -> Option<FrameKind>
     ensures { result ≡ kind_in byte }
 {
@@ -68,13 +68,13 @@ fn head_of(bytes: &[u8]) -> Option<FrameHead>
     }
 }
 
-/// Decodes the head of a frame; `None` if the first byte is no kind.
+/// Decodes the head of a frame. Returns `None` if the first byte is not a kind.
 pub fn read_frame_head(bytes: [u8; 5]) -> Option<FrameHead>
-    // What is decoded has this encoding.
+    // Whatever is decoded has this encoding.
     ensures found { IfSome result (λ head. bytes ≡ head_bytes head.kind head.len) }
-    // What is so encoded is decoded.
+    // Every such encoding is decoded.
     ensures only { (kind : FrameKind) (len : ℕ) → len < 2 ^ 32 → bytes ≡ head_bytes kind len → result ≡ Some (record { kind = kind; len = len }) }
-    // The first bytes of a frame give its kind and the number of those that follow.
+    // The first bytes of a frame determine its kind and the number of bytes that follow.
     ensures front { (frame : Frame) → length (own_bytes frame) < 2 ^ 32 → bytes ≡ take 5 (frame_bytes frame)
         → result ≡ Some (record { kind = frame_kind frame; len = length (own_bytes frame) }) }
     ensures exact { result ≡ head_in bytes }
@@ -82,7 +82,7 @@ pub fn read_frame_head(bytes: [u8; 5]) -> Option<FrameHead>
     head_of(&bytes)
 }
 
-/// Returns the first of these bytes, as many as fit into one frame.
+/// Returns as many of the first bytes as fit into one frame.
 pub fn frame_part(bytes: &[u8]) -> &[u8]
     ensures { result.now ≡ take max_frame bytes.now }
 {

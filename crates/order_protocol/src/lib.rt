@@ -1,6 +1,6 @@
-//! The protocol by which an order is handed over to the server: its message, and the frames in which its output comes back.
+//! The protocol for sending an order to the server: the message, and the frames in which the output of the order is sent back.
 //!
-//! An [`OrderMessage`] has one encoding, and what is decoded has that encoding.
+//! An [`OrderMessage`] has only one encoding, and whatever is decoded has that encoding.
 #![tactic(auto)]
 
 pub mod decoding;

@@ -1,14 +1,15 @@
-//! An order as it is handed over.
+//! An order as it is sent to the server.
 
-/// A word, without bytes; or a file by its path, with its bytes, or without if it couldn't be read.
+/// Either a word, without bytes; or the path of a file, with the file's bytes unless it couldn't be read.
 #[derive(Clone, Copy)]
 pub struct MessagePart<'b> {
     pub name: &'b [u8],
     pub bytes: Option<&'b [u8]>,
 }
 
-/// An order that is handed over. It has the version of the program that sends it, and the file that it is for, by the numbers of
-/// its device and its own. It also has what was typed, and in which folder; and the files that it names.
+/// An order as it is sent to the server. It contains the version of the program that sends it, and the device and inode numbers of
+/// the file that it is for. Then come the words that were typed, the folder in which they were typed, and the files that the order
+/// names.
 #[derive(Drop)]
 pub struct OrderMessage<'b> {
     pub version: &'b [u8],

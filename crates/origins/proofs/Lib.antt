@@ -1,1 +1,1 @@
--- No lemmas of its own.
+-- This crate has no lemmas.

@@ -1,7 +1,7 @@
-//! The origin of pages that reach the office through a proxy in front of it, as a browser writes it.
+//! The origin of pages that reach the office through a proxy in front of it, in the form that browsers send.
 //!
-//! [`Origin::parse`] parses the word of `serve --origin`, with which the headers of requests are compared. Nothing here knows a
-//! request.
+//! [`Origin::parse`] parses the word after `serve --origin`; the headers of requests are compared with the result. Nothing in this
+//! crate deals with requests.
 //!
 //! ```text
 //! let origin = Origin::parse("https://count.example.org")?;

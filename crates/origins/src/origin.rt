@@ -1,27 +1,27 @@
-//! An origin, as a browser writes it.
+//! An origin in the form that browsers send.
 
 ghost use Rattle.std.specs.Prelude.{◌≡◌, ◌≤◌, length, option_map};
 ghost use Rattle.std.specs.Char.{is_ascii_digit};
 ghost use Rattle.std.specs.List.{list_all, prefix_len};
 ghost use Rattle.origins.specs.Origins.{authority_of, is_authority, is_host_byte, is_origin, is_port_or_none, is_with_port, origin_in, origin_text};
 
-/// The most digits of a port.
+/// The maximum number of digits in a port.
 const MOST_DIGITS: usize = 5;
 
-/// The origin of pages that reach the office through a proxy in front of it, as a browser writes it.
+/// The origin of pages that reach the office through a proxy in front of it, in the form that browsers send.
 #[derive(Clone, Copy, Debug)]
 pub struct Origin<'a> {
     text: &'a str,
 }
 
-/// Returns whether all bytes are digits.
+/// Returns true if all bytes are digits.
 fn all_digits(text: &[u8]) -> bool
     ensures { result ≡ list_all is_ascii_digit text.now }
 {
     text.iter().all(|b| b.is_ascii_digit())
 }
 
-/// Returns whether a text is a port after a host, or empty.
+/// Returns true if a text is empty or consists of a colon and a port number, as may follow a host.
 fn is_port_or_none(text: &[u8]) -> bool
     ensures { result ≡ is_port_or_none text.now }
 {
@@ -36,21 +36,21 @@ fn is_port_or_none(text: &[u8]) -> bool
     }
 }
 
-/// Returns whether a text is this host, with a port after it or without one.
+/// Returns true if a text is the given host, with or without a port after it.
 pub fn is_with_port(front: &[u8], text: &[u8]) -> bool
     ensures { result ≡ is_with_port front.now text.now }
 {
     text.starts_with(front) && is_port_or_none(&text[front.len()..])
 }
 
-/// Returns whether a byte may appear in a host.
+/// Returns true if a byte may appear in a host.
 fn is_host_byte(byte: u8) -> bool
     ensures { result ≡ is_host_byte byte }
 {
     byte.is_ascii_lowercase() || byte.is_ascii_digit() || matches!(byte, b'-' | b'.' | b'_')
 }
 
-/// Returns the length of the host that a text begins with.
+/// Returns the length of the host at the beginning of a text.
 fn host_length(text: &[u8]) -> usize
     ensures bound { result ≤ length text.now }
     ensures is { result ≡ prefix_len is_host_byte text.now }
@@ -65,7 +65,7 @@ fn host_length(text: &[u8]) -> usize
     length
 }
 
-/// Returns whether a text is a host, with a port after it or without one; the scheme's own port must be left out.
+/// Returns true if a text is a host, with or without a port after it. The default port of the scheme must be left out.
 fn is_authority(own_port: &[u8], text: &[u8]) -> bool
     ensures { result ≡ is_authority own_port.now text.now }
 {
@@ -74,7 +74,7 @@ fn is_authority(own_port: &[u8], text: &[u8]) -> bool
     length > 0 && is_port_or_none(port) && port != own_port
 }
 
-/// Returns whether a text is an origin.
+/// Returns true if a text is an origin.
 fn is_origin(text: &[u8]) -> bool
     ensures { result ≡ is_origin text.now }
 {
@@ -85,8 +85,8 @@ fn is_origin(text: &[u8]) -> bool
 }
 
 impl<'a> Origin<'a> {
-    /// Parses an origin: `http://` or `https://`, a host in lower case, and its port unless it is the scheme's own. `None` if the
-    /// text isn't an origin as a browser writes it.
+    /// Parses an origin: `http://` or `https://`, a host in lower case, and its port unless that is the scheme's default. Returns
+    /// `None` if the text isn't an origin in the form that browsers send.
     pub fn parse(text: &'a str) -> Option<Origin<'a>>
         ensures { option_map origin_text result ≡ origin_in text.now }
     {
@@ -97,14 +97,14 @@ impl<'a> Origin<'a> {
         }
     }
 
-    /// Returns the text.
+    /// Returns the text of the origin.
     pub fn text(self) -> &'a str
         ensures { result.now ≡ origin_text self.entry }
     {
         self.text
     }
 
-    /// Returns the host, with its port if there is one.
+    /// Returns the host, with its port if it has one.
     pub fn authority(self) -> &'a [u8]
         ensures { result.now ≡ authority_of (origin_text self.entry) }
     {

@@ -1,4 +1,4 @@
--- The numbers that digits denote.
+-- The numbers that digit strings represent.
 use Rattle.std.proofs.Common.{◌≡◌, ◌∙◌, ◌≤◌, ◌∷◌, ◌&&◌, ℕ, true, List, [], length, Result, refl, sym, ap, arith}
 use Rattle.std.specs.Prelude.{slice_get, unwrap_or}
 use Rattle.std.specs.Char.{is_ascii_digit}
@@ -14,7 +14,7 @@ all_digits : (ds : List ℕ) → list_all is_ascii_digit ds ≡ all_ascii_digits
 all_digits [] = refl
 all_digits (d ∷ ds) = ap (λ b. is_ascii_digit d && b) (all_digits ds)
 
--- up to five digits are parsed as the number that they denote
+-- up to five digits are parsed as the number that they represent
 pub number_read : {E : Type 0} (text : List ℕ) (r : Result ℕ E) → (unwrap_or (slice_get text 0) 48 ≡ 48 → ⊥) → length text ≤ 5 → list_all is_ascii_digit text ≡ true
     → ParsesUnsigned 32 10 text r → result_ok r ≡ plain_number_in text
 number_read [] r front few digits parses = absurd (front refl)

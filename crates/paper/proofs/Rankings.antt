@@ -1,4 +1,4 @@
--- Rankings: their length, and their arrays.
+-- Rankings: their lengths, and the arrays that store them.
 use Rattle.std.proofs.Common.{◌≡◌, ℕ, ◌<◌, ◌≤◌, ◌||◌, Bool, true, false, eqb, ◌==◌, List, [], ◌∷◌, ◌++◌, length, replicate, ◌+◌, ◌-◌, suc, zero, refl, sym, ap, ◌∙◌, arith}
 use Rattle.std.specs.List.{list_any, IsDistinct, AllByRecursion}
 use Rattle.std.specs.Cmp.{nat_cmp_is}
@@ -57,18 +57,18 @@ distinct_zero : (xs : List ℕ) → IsRanking xs → IsDistinct eqb (0 ∷ xs)
 unfolding IsDistinct
 distinct_zero xs h = (zero_apart xs (ranking_some xs h), ranking_distinct xs h)
 
--- with 0 they are distinct numbers below 31, so a ranking is no longer
+-- 0 and the numbers in a ranking are distinct and less than 31, so a ranking has at most 30 elements
 pub length_ranking : (xs : List ℕ) → IsRanking xs → length xs ≤ max_candidates
 length_ranking xs h =
     omega (arith, length-le_from_distinct_below (0 ∷ xs) 31 (distinct_zero xs h) (λ q found. below_more 0 q (eqb q 0) (list_any (eqb q) xs) (omega arith) (below xs q h) refl found))
 
--- a ranking is stored in its array
+-- the array made from a ranking stores the ranking
 pub listed-padded_ranking : (xs : List ℕ) → IsRanking xs → listed (padded xs) ≡ xs
 listed-padded_ranking xs h = listed-append_zeros xs (max_candidates - length xs) (ranking_some xs h)
 
 pub ruleset rankings = (length_ranking, listed-padded_ranking)
 
--- padding two lists of numbers from 1 on with zeros to the same length preserves their order
+-- padding two lists of positive numbers with zeros to the same length preserves their order
 zeros_equal : (n : ℕ) → slice_cmp nat_cmp (replicate n 0) (replicate n 0) ≡ Equal
 zeros_equal zero = refl
 zeros_equal (suc n) = zeros_equal n
@@ -84,7 +84,7 @@ zeros_behind (suc x ∷ xs) [] j zero some others long = absurd (omega (arith, l
 zeros_behind (suc x ∷ xs) [] j (suc k) some others long = ap (λ o. ordering_then o (slice_cmp nat_cmp (xs ++ replicate j 0) (replicate k 0))) (sym (nat_cmp_is (suc x) 0 Greater some.0))
 zeros_behind (x ∷ xs) (y ∷ ys) j k some others long = ap (ordering_then (nat_cmp x y)) (zeros_behind xs ys j k some.1 others.1 (omega (arith, long)))
 
--- so the arrays of two rankings sort as they do
+-- so the arrays of two rankings sort in the same order as the rankings
 pub padded-order : (xs ys a b : List ℕ) → IsRanking xs → IsRanking ys → padded xs ≡ a → padded ys ≡ b → slice_cmp nat_cmp a b ≡ slice_cmp nat_cmp xs ys
 padded-order xs ys a b ranking other a_is b_is =
     let long : length xs + (max_candidates - length xs) ≡ length ys + (max_candidates - length ys) = omega (arith, length_ranking xs ranking, length_ranking ys other) in

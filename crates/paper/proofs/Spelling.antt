@@ -1,4 +1,4 @@
--- What is parsed from a text is spelled as that text, and conversely.
+-- A text that parses is the spelling of the result, and vice versa.
 use Rattle.std.proofs.Common.{◌≡◌, ℕ, suc, zero, ◌+◌, ◌-◌, ◌*◌, ◌/◌, ◌%◌, ◌<◌, ◌≤◌, ◌==◌, nat_le, nat_lt, Bool, true, false, not, cond, ◌&&◌, ◌||◌, List, [], ◌∷◌, ◌++◌, length, take, get_or}
 use Rattle.std.proofs.Common.{map, Result, Ok, Err, inl, inr, refl, sym, ap, ◌∙◌, subst, arith, decimal, codes, bytes_eq, append_assoc}
 use Rattle.std.specs.List.{list_all, join_with_byte, zip, All, AllByRecursion}
@@ -9,7 +9,7 @@ use Rattle.std.proofs.lemmas.List.{length-take, length-map, take_more, map-appen
 use Rattle.std.proofs.lemmas.List.Splits.{slice_split_none, slice_split_at, join_with_byte-slice_split}
 use Rattle.paper.specs.Columns.{IsCandidateSet}
 use Rattle.paper.specs.Marking.{Marking, IsMarking, candidates_of, marks_of}
-use Rattle.paper.specs.MarksText.{fields, is_digit, number_in, mark_in, marks_in, and_marks, beside, reading, mark_text, field_text, spelling, ReadsBack}
+use Rattle.paper.specs.MarksText.{fields, is_digit, number_in, mark_in, marks_in, and_marks, with_columns, reading, mark_text, field_text, spelling, ReadsBack}
 use Rattle.paper.specs.Padded.{padded}
 use Rattle.paper.specs.declared.marks.MarkFault.{MarkFault}
 use Rattle.paper.specs.declared.marks.MarkFault.TheVariants.{NotANumber, TooLarge}
@@ -17,7 +17,7 @@ use Rattle.paper.specs.declared.marked.Keyed.TheVariants.{Marked}
 use Rattle.paper.proofs.Fields.{mark_in-long, length-fields}
 use Rattle.paper.proofs.Markings.{zip-within}
 
--- the properties of a field that was parsed
+-- the properties of a parsed field
 pub record IsNumber (b : ℕ) (bs : List ℕ) (mark : ℕ) : Type 0 where
   pub first : b ≡ 48 → ⊥
   pub digits : list_all is_digit (b ∷ bs) ≡ true
@@ -45,12 +45,12 @@ a_digit b is = let parts = and_parts (nat_le 48 b) (nat_le b 57) is in (leb-true
 is_a_digit : (n : ℕ) → n < 10 → is_digit (48 + n) ≡ true
 is_a_digit n small = and_from (nat_le 48 (48 + n)) (nat_le (48 + n) 57) (le-leb 48 (48 + n) (omega arith)) (le-leb (48 + n) 57 (omega (arith, small)))
 
--- the two digits of a number from ten on
+-- the two digits of a number from 10 to 99
 two_digits : (n : ℕ) → 10 ≤ n → n ≤ 99 → decimal n ≡ (48 + n / 10) ∷ (48 + n % 10) ∷ []
 two_digits n low high =
     decimal_step n low (omega (arith, high)) ∙ ap (λ l. l ++ (48 + n % 10) ∷ []) (decimal_digit (n / 10) (omega (arith, high)))
 
--- the number parsed from a field is written as the field
+-- the number parsed from a field is spelled as that field
 pub mark_text-mark_in : (field : List ℕ) (mark : ℕ) → mark_in field ≡ Ok mark → mark_text mark ≡ field
 mark_text-mark_in [] mark read = let none : 0 ≡ mark = cc in ap mark_text (sym none)
 mark_text-mark_in (b ∷ []) mark read =
@@ -77,7 +77,7 @@ mark_text-mark_in (b ∷ c ∷ d ∷ more) mark read =
 written : (n : ℕ) → mark_text (suc n) ≡ decimal (suc n)
 written n = cond-false (suc n == 0) [] (decimal (suc n)) (ne_eqb (suc n) 0 (λ same. omega (arith, same)))
 
--- and the text of a mark parses as the mark
+-- the text of a mark parses as that mark
 pub mark_in-mark_text : (mark : ℕ) → mark ≤ 99 → mark_in (mark_text mark) ≡ Ok mark
 mark_in-mark_text zero few = refl
 mark_in-mark_text (suc n) few =
@@ -94,7 +94,7 @@ mark_in-mark_text (suc n) few =
           }) few
     ]
 
--- the properties of fields that were parsed
+-- the properties of parsed fields
 pub record AreMarks (fs : List (List ℕ)) (marks : List ℕ) : Type 0 where
   pub count : length marks ≡ length fs
   pub small : AllByRecursion (λ mark. mark ≤ 99) marks
@@ -132,7 +132,7 @@ marks_written [] small = refl
 marks_written (mark ∷ marks) small =
     ap (λ m. and_marks m (marks_in (map mark_text marks))) (mark_in-mark_text mark small.0) ∙ ap (and_marks (Ok mark)) (marks_written marks small.1)
 
--- two lists paired, and each of them recovered
+-- pairing two lists, and recovering each list from the pairs
 candidates-zip : (columns marks : List ℕ) → length columns ≤ length marks → candidates_of (zip columns marks) ≡ columns
 candidates-zip [] marks few = refl
 candidates-zip (c ∷ columns) [] few = absurd (omega (arith, few))
@@ -155,7 +155,7 @@ zip-parts (m ∷ ms) = ap (λ l. m ∷ l) (zip-parts ms)
 fields-some : (text : List ℕ) → 1 ≤ length (fields text)
 fields-some text = omega (arith, length-fields text)
 
--- the marks in a text for some columns
+-- the marks parsed from a text for the given columns
 pub record IsRead (columns text marks : List ℕ) : Type 0 where
   pub columns_are : candidates_of (zip columns marks) ≡ columns
   pub marks_are : padded (marks_of (zip columns marks)) ≡ marks
@@ -179,7 +179,7 @@ text_read columns text marks set plain count read behind =
         some = omega (arith, ap length cs, count, fields-some text, length-map (zip columns marks) (λ (m : ℕ × ℕ). m.0));
       };
       reads =
-          cond-false _ _ _ plain ∙ cond-true _ _ _ (eq-eqb (length (fields text)) (length columns) count) ∙ ap (beside columns) read
+          cond-false _ _ _ plain ∙ cond-true _ _ _ (eq-eqb (length (fields text)) (length columns) count) ∙ ap (with_columns columns) read
           ∙ ap (λ l. Ok (Marked l)) (sym (zip-take columns marks));
       spells = ap (λ l. join_with_byte 44 (map mark_text l)) ms ∙ ap (join_with_byte 44) are.texts ∙ join_with_byte-slice_split 44 text;
     }
@@ -199,7 +199,7 @@ no_comma [] digits k d here = absurd (omega (arith, here))
 no_comma (b ∷ bs) digits zero d here = ne_eqb b 44 (λ same. omega (arith, same, (a_digit b (and_parts (is_digit b) (list_all is_digit bs) digits).0).0))
 no_comma (b ∷ bs) digits (suc k) d here = no_comma bs (and_parts (is_digit b) (list_all is_digit bs) digits).1 k d (omega (arith, here))
 
--- fields of digits that are joined are split again
+-- joined fields of digits are split back into the same fields
 fields-join : (mark : ℕ) (marks : List ℕ) → mark ≤ 99 → AllByRecursion (λ m. m ≤ 99) marks →
     fields (join_with_byte 44 (map mark_text (mark ∷ marks))) ≡ map mark_text (mark ∷ marks)
 fields-join mark [] few small = slice_split_none (λ b. b == 44) (mark_text mark) (no_comma (mark_text mark) (mark_text-digits mark few))
@@ -221,14 +221,14 @@ marked_reads_back (m ∷ ms) is columns same =
     let count : length (fields (join_with_byte 44 (map mark_text (marks_of (m ∷ ms))))) ≡ length columns =
     ap length parted ∙ length-map (marks_of (m ∷ ms)) mark_text ∙ length-map (m ∷ ms) (λ (k : ℕ × ℕ). k.1) ∙ sym (length-map (m ∷ ms) (λ (k : ℕ × ℕ). k.0)) ∙ ap length same in
     cond-false _ _ _ (not_doubtful (mark_text m.1) (map mark_text (marks_of ms)) (mark_text-digits m.1 is.small.0))
-    ∙ cond-true _ _ _ (eq-eqb _ _ count) ∙ ap (beside columns) (ap marks_in parted ∙ marks_written (marks_of (m ∷ ms)) is.small)
+    ∙ cond-true _ _ _ (eq-eqb _ _ count) ∙ ap (with_columns columns) (ap marks_in parted ∙ marks_written (marks_of (m ∷ ms)) is.small)
     ∙ ap (λ l. Ok (Marked l)) (ap (λ cs. zip cs (marks_of (m ∷ ms))) (sym same) ∙ zip-parts (m ∷ ms))
 
 join-more : (g : List ℕ) (fs : List (List ℕ)) (f : List ℕ) → join_with_byte 44 ((g ∷ fs) ++ f ∷ []) ≡ join_with_byte 44 (g ∷ fs) ++ 44 ∷ f
 join-more g [] f = refl
 join-more g (h ∷ fs) f = ap (λ l. g ++ (44 ∷ l)) (join-more h fs f) ∙ sym (append_assoc g (44 ∷ join_with_byte 44 (h ∷ fs)) (44 ∷ f))
 
--- the text of the first fields, and of one more
+-- the text of the first fields, extended by the next field
 pub text-more : (marks : List ℕ) (i : ℕ) → i < length marks →
     join_with_byte 44 (map mark_text (take (i + 1) marks)) ≡ join_with_byte 44 (map mark_text (take i marks)) ++ field_text i (get_or marks i 0)
 text-more [] i here = absurd (omega (arith, here))
@@ -240,6 +240,6 @@ text-more (m ∷ marks) (suc i) here =
     ∙ ap (λ l. join_with_byte 44 (map mark_text (take (suc i) (m ∷ marks))) ++ l)
     (sym (cond-false (suc i == 0) (mark_text (get_or marks i 0)) (44 ∷ mark_text (get_or marks i 0)) (ne_eqb (suc i) 0 (λ none. omega (arith, none)))))
 
--- the marks of the columns are as many from the front
+-- the first marks, one per column, are the marks of the columns
 pub marks-beside : (columns marks : List ℕ) → candidates_of (zip columns marks) ≡ columns → take (length columns) marks ≡ marks_of (zip columns marks)
 marks-beside columns marks same = sym (marks-zip columns marks (zip-within columns marks same))

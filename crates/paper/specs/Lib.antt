@@ -1,4 +1,4 @@
--- The marks on a ballot paper, its preferences, and how they are passed over.
+-- The marks on a ballot paper, its preferences, and how preferences are skipped.
 pub mod Columns
 pub mod Marking
 pub mod MarksText

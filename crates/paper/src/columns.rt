@@ -11,7 +11,8 @@ use std::marker::Model;
 /// The maximum number of candidates in a ward; candidates are numbered from 1 to this number.
 pub const MAX_CANDIDATES: usize = 30;
 
-/// A set of candidate numbers, 1 to `MAX_CANDIDATES`, modelled as the list of them in ascending order.
+/// A set of candidate numbers, from 1 to `MAX_CANDIDATES`, modelled as the list of its numbers in ascending
+/// order.
 // The numbers, followed by zeros.
 #[derive(Clone, Copy, Debug, PartialEq, Eq)]
 pub struct Columns {
@@ -44,13 +45,13 @@ impl Columns {
         }
     }
 
-    /// Returns the set with one more number, 1 to `MAX_CANDIDATES`.
+    /// Returns the set with a number from 1 to `MAX_CANDIDATES` added.
     pub fn with(self, c: u8) -> Columns
         requires some { 1 ≤ c }
         requires few { c ≤ max_candidates }
         ensures is { result ≡ with_column self c }
         ensures set { IsCandidateSet result }
-        // a number above all others is appended
+        // a number greater than all others is appended
         ensures last { IsCandidateSet (self ++ c ∷ []) → result ≡ self ++ c ∷ [] }
     {
         let list = self.as_slice();
@@ -63,7 +64,7 @@ impl Columns {
         }
     }
 
-    /// Returns how many numbers of the set are below a number.
+    /// Returns how many numbers in the set are less than the given number.
     fn count_below(&self, c: u8) -> usize
         ensures is { result ≡ prefix_len (λ d. nat_lt d c) self.now }
         ensures within { result ≤ length self.now }
@@ -86,7 +87,7 @@ impl Columns {
         self.as_slice().len()
     }
 
-    /// Returns the numbers in ascending order.
+    /// Returns the numbers of the set, in ascending order.
     pub fn as_slice(&self) -> &[u8]
         ensures is { result.now ≡ self.now }
         ensures set { IsCandidateSet self.now }
@@ -95,7 +96,7 @@ impl Columns {
     }
 }
 
-/// Returns the array of a list, followed by a number and another list.
+/// Returns the array that stores a list, followed by a number and another list.
 fn inserted(below: &[u8], c: u8, above: &[u8]) -> [u8; MAX_CANDIDATES]
     requires { length below.now + length above.now < max_candidates }
     ensures { result ≡ padded (below.now ++ c ∷ above.now) }

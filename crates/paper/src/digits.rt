@@ -1,4 +1,4 @@
-//! Numbers in plain digits.
+//! Numbers written as plain decimal digits.
 
 ghost use Rattle.std.specs.Prelude.{◌≡◌};
 ghost use Rattle.std.specs.Char.{is_ascii_digit};
@@ -15,7 +15,7 @@ pub fn are_digits(text: &[u8]) -> bool
     text.iter().all(|b| b.is_ascii_digit())
 }
 
-/// Parses a number of 1 to 5 digits, the first not 0.
+/// Parses a number of 1 to 5 digits, the first of which isn't 0. Returns `None` for any other text.
 pub fn plain_number_in(text: &str) -> Option<u32>
     ensures { result ≡ plain_number_in text.now }
 {

@@ -13,10 +13,10 @@ use crate::padded::{list_in, padded_cmp, padded_numbers};
 use std::cmp::Ordering;
 use std::marker::Model;
 
-/// The preferences of a valid ballot paper, modelled as the list of the candidates' numbers without duplicates, first preference
-/// first. Ordered lexicographically: the first number that differs decides, and a prefix precedes the lists that it begins.
-// One byte per candidate: the numbers, followed by zeros instead of a length.
-// No `Copy` type that can lend this many numbers as a slice has fewer bytes.
+/// The preferences of a valid ballot paper, modelled as the list of candidate numbers, first preference first, without
+/// duplicates. The order is lexicographic: the first difference decides, and a proper prefix of a list sorts before the list.
+// One byte per candidate: the numbers, padded with zeros instead of storing a length. No smaller `Copy` type can lend this many
+// numbers as a slice.
 #[derive(Clone, Copy, Debug)]
 pub struct Prefs {
     numbers: [u8; MAX_CANDIDATES],
@@ -39,8 +39,8 @@ impl Model for Prefs {
 }
 
 impl Prefs {
-    /// Returns the preferences in a list; `None` exactly if it is empty, contains a number outside 1 to `MAX_CANDIDATES`, or
-    /// contains a number twice.
+    /// Returns the preferences in a list, or `None` if and only if the list is empty, contains a number outside 1 to
+    /// `MAX_CANDIDATES`, or contains a number twice.
     #[tactic(auto, using(crate::proofs::Rankings::rankings))]
     pub fn from_slice(list: &[u8]) -> Option<Prefs>
         ensures is { IfSome result (λ prefs. prefs ≡ list.now) }
@@ -54,7 +54,7 @@ impl Prefs {
         })
     }
 
-    /// Returns the preferences that are stored in an array, followed by zeros.
+    /// Returns the preferences stored in an array, which is padded with zeros.
     pub(crate) fn from_ranking(numbers: [u8; MAX_CANDIDATES]) -> Prefs
         requires whole { padded (listed numbers) ≡ numbers }
         requires some { 1 ≤ length (listed numbers) }
@@ -73,7 +73,7 @@ impl Prefs {
         self.numbers[0]
     }
 
-    /// Returns the candidates' numbers, first preference first.
+    /// Returns the candidate numbers, first preference first.
     pub fn as_slice(&self) -> &[u8]
         ensures is { result.now ≡ self.now }
         ensures some { 1 ≤ length self.now }
@@ -116,7 +116,8 @@ impl Ord for Prefs {
 
     ghost matches_eq = { texts_ties };
 
-    // The arrays sort as their lists do, because no candidate has the number 0; so there is no need to find where a list ends.
+    // No candidate has the number 0, so the arrays sort in the same order as their lists, and there is no need to find where a
+    // list ends.
     fn cmp(&self, other: &Prefs) -> Ordering {
         padded_cmp(&self.numbers, &other.numbers)
     }

@@ -19,11 +19,11 @@ pub enum CandidateStatus {
     Absent,
 }
 
-/// The numbers that have a status: 0, and those of candidates.
+/// How many numbers have a status: 0, and every candidate number.
 const NUMBERS: usize = MAX_CANDIDATES + 1;
 
-/// A status for each number from 1 to `MAX_CANDIDATES`, modelled as the list of statuses from number 0 on. Any other number is
-/// absent.
+/// A status for each number from 1 to `MAX_CANDIDATES`, modelled as the list of statuses, starting with the status of 0.
+/// Any other number is absent.
 #[derive(Clone, Copy, PartialEq, Eq)]
 pub struct Standing {
     statuses: [CandidateStatus; NUMBERS],
@@ -47,7 +47,7 @@ impl Model for Standing {
 }
 
 impl Standing {
-    /// Returns the standing with these continuing, elected and excluded candidates. No number may be in two of the sets.
+    /// Returns the standing with the given continuing, elected and excluded candidates. The sets must be disjoint.
     pub fn new(continuing: Columns, elected: Columns, excluded: Columns) -> Standing
         requires elected_apart { AreApart continuing elected }
         requires excluded_apart { AreApart continuing excluded }
@@ -73,7 +73,7 @@ impl Standing {
         }
     }
 
-    /// Returns whether a number is that of a continuing candidate.
+    /// Returns whether a number belongs to a continuing candidate.
     pub fn continues(&self, c: u8) -> bool
         ensures is { result ≡ is_continuing self.now c }
         ensures known { IsTrue result → IsColumn c }
@@ -97,15 +97,15 @@ fn give(statuses: &mut [CandidateStatus; NUMBERS], numbers: &Columns, status: Ca
     }
 }
 
-/// Returns the next available preference ("Transfer of ballot papers"): the first one for a continuing candidate, starting at
-/// place `from`, counted from 0.
+/// Returns the next available preference ("Transfer of ballot papers"): the first preference for a continuing candidate at
+/// or after place `from`, counting from 0.
 pub fn next_available(prefs: &[u8], from: usize, standing: &Standing) -> Option<u8>
     ensures { result ≡ next_available_of prefs.now from standing.now }
 {
     available_from(prefs, from, standing).first().copied()
 }
 
-/// Returns the preferences from the next available one on; empty if there is none.
+/// Returns the preferences from the next available one onwards; empty if there is none.
 pub fn available_from<'a>(prefs: &'a [u8], from: usize, standing: &Standing) -> &'a [u8]
     ensures { result.now ≡ from_first (is_continuing standing.now) (drop from prefs.now) }
 {
@@ -113,7 +113,7 @@ pub fn available_from<'a>(prefs: &'a [u8], from: usize, standing: &Standing) -> 
     &rest[count_passed(rest, standing)..]
 }
 
-/// Returns how many preferences are passed over before the first one for a continuing candidate.
+/// Returns how many preferences are skipped before the first one for a continuing candidate.
 fn count_passed(prefs: &[u8], standing: &Standing) -> usize
     ensures is { result ≡ prefix_len (λ c. not (is_continuing standing.now c)) prefs.now }
     ensures within { result ≤ length prefs.now }

@@ -28,7 +28,8 @@ pub enum Rejection {
 }
 
 impl Rejection {
-    /// Returns the code of the rejection. Codes 1 and 2 follow from the marks; 3 to 5 are decisions of the returning officer.
+    /// Returns the code of the rejection. Codes 1 and 2 are determined by the marks; codes 3 to 5 are decisions of the
+    /// returning officer.
     pub fn number(&self) -> u32
         ensures { result ≡ rejection_code self.now }
     {
@@ -42,11 +43,12 @@ impl Rejection {
     }
 }
 
-/// Returns the preferences of a paper, by its marks: the longest list such that 1, 2, 3, .. each appear next to exactly one
-/// candidate.
+/// Returns the preferences of a paper, according to its marks: the longest list such that each of the numbers 1, 2, 3, .. up
+/// to its length appears next to exactly one candidate.
 ///
-/// A paper is valid exactly if the number 1 appears next to exactly one candidate. It is rejected with `NoFirstPreference` if
-/// next to none, and with `SeveralFirstPreferences` if next to more than one. Allocates nothing.
+/// A paper is valid if and only if the number 1 appears next to exactly one candidate. It is rejected with
+/// `NoFirstPreference` if the number 1 appears next to no candidate, and with `SeveralFirstPreferences` if it appears next to
+/// more than one. Allocates nothing.
 pub fn judge(m: &Marked) -> Result<Prefs, Rejection>
     ensures rejected { IfSome (rejection_of m.now) (λ rejection. result ≡ Err rejection) }
     ensures valid { IfNone (rejection_of m.now) (IsOk result) }
@@ -62,7 +64,7 @@ pub fn judge(m: &Marked) -> Result<Prefs, Rejection>
     }
 }
 
-/// Returns the preferences of a paper, by the bearers of each mark, in an array followed by zeros.
+/// Returns an array with the preferences of a paper, padded with zeros, given the candidates who have each mark.
 fn preferred(bearers: &[Bearers; NUMBERS]) -> [u8; MAX_CANDIDATES]
     ensures { (m : Marking) → AreBearers m bearers.now → result ≡ padded (preferences m) }
 {

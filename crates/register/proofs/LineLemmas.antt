@@ -1,4 +1,4 @@
--- Plain numbers and lines, as in receipts.
+-- Plain numbers and lines, as they occur in receipts.
 use Rattle.std.proofs.Common.{rules, ◌==◌, inl, inr, ◌≡◌, ℕ, ◌<◌, ◌≤◌, ◌+◌, ◌^◌, nat_le, nat_lt, ◌&&◌, true, false, not, List, [], ◌∷◌, ◌++◌, length, take, drop, ap, ◌∙◌, arith}
 use Rattle.std.proofs.Common.{length-append, get_or, refl}
 use Rattle.std.specs.List.{list_all, position_or_len}
@@ -19,7 +19,7 @@ use Rattle.register.specs.Subjects.{is_space, is_plain_number, are_plain_numbers
 own : IsNumeralModel (λ ds. all_ascii_digits ds ≡ true) (digits_value 10)
 own = numerals_by_value _ (search rules)
 
--- a number in a range is between its ends
+-- a number in a range is between the ends of the range
 pub lower : (low high n : ℕ) → is_between low high n ≡ true → low ≤ n
 lower low high n h = leb-true low n (and_parts (nat_le low n) (nat_le n high) h).0
 
@@ -32,7 +32,7 @@ small low high n below h = omega (arith, upper low high n h, below)
 pub not_equal : (a b : ℕ) → b < a → (a == b) ≡ false
 not_equal a b above = elim (eqb_tells a b) [ inl same ↦ absurd (omega (arith, same.1, above)) | inr other ↦ other.0 ]
 
--- a number in a range of positive numbers is written plainly
+-- if the range contains only positive numbers, the decimal text of a number in it is plain
 pub is_plain-from : (low high n : ℕ) → 1 ≤ low → high < 2 ^ 64 → is_between low high n ≡ true → is_plain_number low high (decimal n) ≡ true
 unfolding is_plain_number
 is_plain-from low high n some below h =
@@ -46,7 +46,7 @@ is_plain-from low high n some below h =
 pub is_plain-decimal : (high n : ℕ) → high < 2 ^ 64 → is_between 1 high n ≡ true → is_plain_number 1 high (decimal n) ≡ true
 is_plain-decimal high n below h = is_plain-from 1 high n (omega arith) below h
 
--- the first space is the one after the digits
+-- the first space is the one that follows the digits
 first_space : (ds t : List ℕ) → all_ascii_digits ds ≡ true → position_or_len is_space (ds ++ (32 ∷ t)) ≡ length ds
 first_space [] t h = refl
 first_space (d ∷ ds) t h =
@@ -54,7 +54,7 @@ first_space (d ∷ ds) t h =
     let later = first_space ds t (and_parts (is_between 48 57 d) (all_ascii_digits ds) h).1 in
     rw (not_equal d 32 (omega (arith, low))) (omega (arith, later))
 
--- two numbers in such ranges, separated by a space, are written plainly
+-- the text of two such numbers, separated by a space, is that of two plain numbers
 pub are_plain-from : (high least most m n : ℕ) → 1 ≤ least → high < 2 ^ 64 → most < 2 ^ 64 → is_between 1 high m ≡ true → is_between least most n ≡ true
     → are_plain_numbers 1 high least most (decimal m ++ (32 ∷ decimal n)) ≡ true
 are_plain-from high least most m n some below low first second =
@@ -69,17 +69,17 @@ are_plain-decimals high most m n below low first second = are_plain-from high 1 
 
 -- ---- lines
 
--- ASCII without a line end, up to length k
+-- at most k ASCII bytes without a newline
 pub record IsLine (k : ℕ) (t : List ℕ) : Type 0 where
   pub ascii : IsAscii t
   pub short : length t ≤ k
   pub plain : list_all is_line_byte t ≡ true
 
--- given words are a line
+-- a fixed text is a line
 pub words : (t : List ℕ) → IsAscii t → list_all is_line_byte t ≡ true → IsLine (length t) t
 words t ascii plain = record { ascii = ascii; short = omega arith; plain = plain }
 
--- given words are a line if each byte passes the test
+-- a fixed text is a line if each of its bytes passes the test
 pub given : (t : List ℕ) → list_all (λ b. nat_lt b 128 && is_line_byte b) t ≡ true → IsLine (length t) t
 given t good = words t (low t good) (list_all_parts t good)
   where
@@ -95,7 +95,7 @@ given t good = words t (low t good) (list_all_parts t good)
         let parts = and_parts (nat_lt b 128 && is_line_byte b) (list_all (λ c. nat_lt c 128 && is_line_byte c) bs) each in
         and_from _ _ (and_parts (nat_lt b 128) (is_line_byte b) parts.0).1 (list_all_parts bs parts.1)
 
--- two lines, one after the other
+-- a line followed by another line is a line
 pub line_append : {j k : ℕ} {s t : List ℕ} → IsLine j s → IsLine k t → IsLine (j + k) (s ++ t)
 line_append {j} {k} {s} {t} first second = record {
   ascii = IsAscii-append s t first.ascii second.ascii;
@@ -109,7 +109,7 @@ digits_plain (d ∷ ds) h =
     let low = lower 48 57 d (and_parts (is_between 48 57 d) (all_ascii_digits ds) h).0 in
     and_from _ _ (ap not (not_equal d 10 (omega (arith, low)))) (digits_plain ds (and_parts (is_between 48 57 d) (all_ascii_digits ds) h).1)
 
--- a number of at most k digits
+-- a number of at most k digits is a line
 pub line_decimal : (k n : ℕ) → 0 < k → n < 10 ^ k → n < 2 ^ 64 → IsLine k (decimal n)
 line_decimal k n some below fits = record { ascii = IsAscii-decimal n fits; short = length-decimal-le k n some below fits; plain = digits_plain (decimal n) (digits_decimal own n fits) }
 
@@ -119,11 +119,11 @@ line_number high n below h =
     let most = upper 1 high n h in
     line_decimal 10 n (omega arith) (omega (arith, most, below)) (omega (arith, most, below))
 
--- a line of up to j bytes is one of up to k
+-- a line of up to j bytes is a line of up to k bytes, if j is at most k
 pub line_within : {j k : ℕ} {t : List ℕ} → IsLine j t → j ≤ k → IsLine k t
 line_within {j} {k} {t} line low = record { ascii = line.ascii; short = (let short = line.short in omega (arith, short, low)); plain = line.plain }
 
--- a line is text
+-- a line is valid UTF-8
 pub line_text : {k : ℕ} {t : List ℕ} → IsLine k t → is_utf8 t ≡ true
 line_text {k} {t} line = is_utf8-from_IsUtf8 t (IsUtf8-from_ascii t line.ascii)
 

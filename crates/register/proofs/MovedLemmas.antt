@@ -1,4 +1,4 @@
--- Bundles moved to other places, among all bundles of an office.
+-- Bundles that move to other places, among all the bundles of an office.
 use Rattle.std.proofs.Common.{◌≡◌, ℕ, ◌==◌, Bool, true, false, cond, not, List, [], ◌∷◌, ◌++◌, map, filter, fold, refl, sym, ap, ◌∙◌}
 use Rattle.std.specs.List.{AllByRecursion, list_all}
 use Rattle.std.specs.List.Sorted.{IsStrictlySortedBy}
@@ -17,7 +17,7 @@ use Rattle.register.specs.Tabulated.{PlacedEntry, placed_cmp, placed_at, moved_t
 use Rattle.register.specs.Additions.{is_same_place}
 use Rattle.register.specs.Walks.{moved_bundles}
 
--- the bundles of papers are in the order of their lists
+-- the bundles of a list of papers are ordered by list
 pub bundled-rise : (papers : List (List ℕ)) → IsStrictlySortedBy list_cmp (map (λ (b : Bundle). b.0) (bundled papers))
 unfolding IsStrictlySortedBy
 bundled-rise papers = go [] papers tt
@@ -27,7 +27,7 @@ bundled-rise papers = go [] papers tt
     go bs [] up = up
     go bs (paper ∷ rest) up = go (with_papers bs paper 1) rest (rise-with_papers paper 1 bs up)
 
--- ---- bundles moved, one by one
+-- ---- moving bundles, one by one
 
 abbrev pub all_moved : List PlacedEntry → List PlacedEntry → List PlacedEntry
 all_moved bundles moved = fold (λ (bs : List PlacedEntry) (b : PlacedEntry). moved_to b bs) bundles moved
@@ -38,14 +38,14 @@ moved-append (m ∷ ms) xs ys =
     ap (λ (zs : List PlacedEntry). all_moved zs ms) (map-append (λ (x : PlacedEntry). cond (is_eq (placed_cmp m x)) m x) xs ys)
     ∙ moved-append ms (moved_to m xs) (moved_to m ys)
 
--- a bundle that isn't among those moved stays
-beside : (x : PlacedEntry) (ms xs : List PlacedEntry) → list_all (λ m. not (is_eq (placed_cmp m x))) ms ≡ true → all_moved (x ∷ xs) ms ≡ x ∷ all_moved xs ms
-beside x [] xs apart = refl
-beside x (m ∷ ms) xs apart =
+-- a bundle that isn't among the moved bundles stays where it is
+keeps_others : (x : PlacedEntry) (ms xs : List PlacedEntry) → list_all (λ m. not (is_eq (placed_cmp m x))) ms ≡ true → all_moved (x ∷ xs) ms ≡ x ∷ all_moved xs ms
+keeps_others x [] xs apart = refl
+keeps_others x (m ∷ ms) xs apart =
     let parts = and_parts (not (is_eq (placed_cmp m x))) (list_all (λ m. not (is_eq (placed_cmp m x))) ms) apart in
-    rw (not-true (is_eq (placed_cmp m x)) parts.0) (beside x ms (moved_to m xs) parts.1)
+    rw (not-true (is_eq (placed_cmp m x)) parts.0) (keeps_others x ms (moved_to m xs) parts.1)
 
--- two orders in sequence distinguish entries if the first does
+-- two orders in sequence distinguish two entries if the first one does
 first_apart : (o p : Ordering) → is_eq o ≡ false → is_eq (ordering_then o p) ≡ false
 first_apart Less p apart = refl
 first_apart Equal p apart = absurd (cc)
@@ -63,11 +63,11 @@ then_equal Greater p is same = is
 
 -- ---- bundles of other wards
 
--- none of these bundles belongs to the ward
+-- none of the given bundles belongs to the ward
 abbrev pub of_others : ℕ → List PlacedEntry → Bool
 of_others n xs = list_all (λ (x : PlacedEntry). not (n == x.ward)) xs
 
--- all of these bundles belong to the ward
+-- all of the given bundles belong to the ward
 abbrev pub of_ward : ℕ → List PlacedEntry → Bool
 of_ward n ms = list_all (λ (m : PlacedEntry). n == m.ward) ms
 
@@ -78,7 +78,7 @@ moved_none n m (x ∷ xs) own others =
     let other : is_eq (nat_cmp m.ward x.ward) ≡ false = unsigned_tied m.ward x.ward ∙ ap (λ k. k == x.ward) (sym own) ∙ not-true (n == x.ward) parts.0 in
     rw (first_apart (nat_cmp m.ward x.ward) (list_cmp m.list x.list) other) (ap (λ (ys : List PlacedEntry). x ∷ ys) (moved_none n m xs own parts.1))
 
--- moving bundles of one ward leaves those of others as they are
+-- moving bundles of one ward leaves the bundles of other wards unchanged
 pub others_stay : (n : ℕ) (ms xs : List PlacedEntry) → of_ward n ms ≡ true → of_others n xs ≡ true → all_moved xs ms ≡ xs
 others_stay n [] xs own others = refl
 others_stay n (m ∷ ms) xs own others =
@@ -88,12 +88,12 @@ others_stay n (m ∷ ms) xs own others =
 -- ---- the bundles of a ward
 
 module _ (n : ℕ) where
-  -- bundles of a ward in some places belong to it,
+  -- the bundles of a ward, with their places, belong to that ward
   pub of_it : (at : List ℕ → Place) (bs : List Bundle) → of_ward n (map (λ (b : Bundle). placed_at n b (at b.0)) bs) ≡ true
   of_it at [] = refl
   of_it at (b ∷ bs) = and_from _ _ (sym (unsigned_tied n n) ∙ ap is_eq (tied_itself nat_cmp_total n)) (of_it at bs)
 
-  -- and of no other
+  -- the bundles of a ward, with their places, belong to no other ward
   pub of_no_other : (m : ℕ) (at : List ℕ → Place) (bs : List Bundle) → (m == n) ≡ false → of_others m (map (λ (b : Bundle). placed_at n b (at b.0)) bs) ≡ true
   of_no_other m at [] other = refl
   of_no_other m at (b ∷ bs) other = and_from _ _ (ap not other) (of_no_other m at bs other)
@@ -102,7 +102,7 @@ module _ (n : ℕ) where
     abbrev stays : Bundle → Bool
     stays b = is_same_place (before b.0) (after b.0)
 
-    -- if a place is the same, so is the bundle in it
+    -- if the place of a bundle is unchanged, so is its entry
     same_bundle : (b : Bundle) → stays b ≡ true → placed_at n b (before b.0) ≡ placed_at n b (after b.0)
     same_bundle b same =
         let parts = and_parts ((before b.0).holder == (after b.0).holder) ((before b.0).value == (after b.0).value) same in
@@ -111,7 +111,7 @@ module _ (n : ℕ) where
         made : ℕ → ℕ → PlacedEntry
         made holder value = record { ward = n; list = b.0; papers = b.1; holder = holder; value = value }
 
-    -- a bundle before others in the order of the lists isn't one of them
+    -- a bundle that precedes the others, ordered by list, isn't one of them
     apart_behind : (x : Bundle) (bs : List Bundle) → AllByRecursion (λ list. list_cmp x.0 list ≡ Less) (map (λ (b : Bundle). b.0) bs)
         → moved_to (placed_at n x (after x.0)) (map (λ (b : Bundle). placed_at n b (before b.0)) bs) ≡ map (λ (b : Bundle). placed_at n b (before b.0)) bs
     apart_behind x [] above = refl
@@ -128,7 +128,7 @@ module _ (n : ℕ) where
           | false ↦ and_from _ _ (ap not (then_apart (nat_cmp n n) (list_cmp b.0 x.0) (ap is_eq (nat_list_cmp_total.antisymm b.0 x.0 ∙ ap ordering_reverse above.0)))) (apart_before x at bs above.1)
         ]
 
-    -- Moving the bundles whose place has changed puts every bundle in its new place.
+    -- Moving the bundles whose places have changed puts every bundle in its new place.
     pub moved_there : (bs : List Bundle) → IsStrictlySortedBy list_cmp (map (λ (b : Bundle). b.0) bs)
         → all_moved (map (λ (b : Bundle). placed_at n b (before b.0)) bs) (map (λ (b : Bundle). placed_at n b (after b.0)) (filter (λ (b : Bundle). not (stays b)) bs))
         ≡ map (λ (b : Bundle). placed_at n b (after b.0)) bs
@@ -143,7 +143,7 @@ module _ (n : ℕ) where
             (map (λ (b : Bundle). placed_at n b (after b.0)) (cond (not s) (b ∷ filter (λ (b : Bundle). not (stays b)) bs) (filter (λ (b : Bundle). not (stays b)) bs)))
             ≡ placed_at n b (after b.0) ∷ map (λ (b : Bundle). placed_at n b (after b.0)) bs
         go true is later =
-            beside (placed_at n b (before b.0)) _ (map (λ (b : Bundle). placed_at n b (before b.0)) bs) (apart_before b (before b.0) bs up.0)
+            keeps_others (placed_at n b (before b.0)) _ (map (λ (b : Bundle). placed_at n b (before b.0)) bs) (apart_before b (before b.0) bs up.0)
             ∙ ap (λ (ys : List PlacedEntry). placed_at n b (before b.0) ∷ ys) later
             ∙ ap (λ (y : PlacedEntry). y ∷ map (λ (b : Bundle). placed_at n b (after b.0)) bs) (same_bundle b is)
         go false is later =
@@ -154,10 +154,10 @@ module _ (n : ℕ) where
             ap (λ (s : Bool). all_moved (cond s (placed_at n b (after b.0)) (placed_at n b (before b.0))
             ∷ moved_to (placed_at n b (after b.0)) (map (λ (b : Bundle). placed_at n b (before b.0)) bs)) ms) own
             ∙ ap (λ (ys : List PlacedEntry). all_moved (placed_at n b (after b.0) ∷ ys) ms) (apart_behind b bs up.0)
-            ∙ beside (placed_at n b (after b.0)) ms (map (λ (b : Bundle). placed_at n b (before b.0)) bs) (apart_before b (after b.0) bs up.0)
+            ∙ keeps_others (placed_at n b (after b.0)) ms (map (λ (b : Bundle). placed_at n b (before b.0)) bs) (apart_before b (after b.0) bs up.0)
             ∙ ap (λ (ys : List PlacedEntry). placed_at n b (after b.0) ∷ ys) later
 
-    -- a walk through the old and the new places finds those that have changed
+    -- comparing the old and new places one by one finds those that have changed
     pub walked-moves : (bs : List Bundle) → moved_bundles n bs (map (λ (b : Bundle). placed (before b.0)) bs) (map (λ (b : Bundle). placed (after b.0)) bs)
         ≡ map (λ (b : Bundle). placed_at n b (after b.0)) (filter (λ (b : Bundle). not (stays b)) bs)
     walked-moves [] = refl

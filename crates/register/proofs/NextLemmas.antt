@@ -1,4 +1,4 @@
--- What the stage due results in for a count that is shown, and what it adds to the tabulation.
+-- The result of the stage that is due in a given count, and what it adds to the tabulation.
 use Rattle.std.proofs.Common.{◌≡◌, ℕ, suc, ◌+◌, ◌==◌, true, false, List, [], ◌∷◌, map, length, reverse, Option, Some, None, refl, ap, ◌∙◌, arith}
 use Rattle.std.specs.Prelude.{IsSome}
 use Rattle.std.proofs.lemmas.Bool.{both_ways, eqb-true, eq-eqb}
@@ -21,12 +21,12 @@ use Rattle.register.specs.Additions.{moved_between, figures_added, addition_by, 
 use Rattle.register.specs.Walks.{moved_bundles, last_figures, all_added, moves_added}
 use Rattle.register.proofs.MovedLemmas.{walked-moves}
 
--- if an action is due, this is added, whichever action it is
+-- whichever action is due, this is what it adds
 pub some_due : (e : ElectionEntry) (due : Option Action) (added : AdditionEntries) → IsSome due → ((action : Action) → due ≡ Some action → added ≡ addition_at e action) → added ≡ addition_due e due
 some_due e None added some each = absurd (cc)
 some_due e (Some action) added some each = each action refl
 
--- how one more stage changes what was stored: places and stages
+-- how another stage changes what is stored, namely the places and the stages
 abbrev pub IsNext : Contest → List (ℕ × ℕ) → History → StoredCountEntry → List Placed → List Stage → Type 0
 IsNext contest lots history kept places stages = (places ≡ places_after contest (with_next contest lots history) kept.bundles) × (stages ≡ reverse (with_next contest lots history))
 
@@ -45,7 +45,7 @@ module _ (e : ElectionEntry) (action : Action) (ward : ℕ) (kept : StoredCountE
   stages_are : (before : History) → stages_of e ≡ before → stages ≡ reverse (new ∷ before)
   stages_are before same = next.1 ∙ ap (λ (h : History). reverse h) (counted ∙ ap (λ (h : History). new ∷ h) same)
 
-  -- the new stage's figures
+  -- the figures of the new stage
   figures_are : (before : History) → stages_of e ≡ before → last_figures ward kept.candidates stages ≡ figures_added e before new
   figures_are before same =
       let stage : length (new ∷ before) ≡ length before + 1 = omega arith in
@@ -53,11 +53,11 @@ module _ (e : ElectionEntry) (action : Action) (ward : ℕ) (kept : StoredCountE
       (ap (λ (k : ℕ). map (figure_at e.ward.number k) (figures_at (columns_of e.candidates) (reverse (reverse (new ∷ before))))) (length-reverse (new ∷ before) ∙ stage)
       ∙ ap (λ (h : History). map (figure_at e.ward.number (length before + 1)) (figures_at (columns_of e.candidates) h)) (reverse-reverse (new ∷ before)))
 
-  -- as many stages are stored as are done
+  -- as many stages are stored as have been done
   as_many : length kept.stages ≡ length (stages_of e)
   as_many = ap (λ (ss : List Stage). length ss) of.stages_are ∙ length-reverse (stages_of e)
 
-  -- at the first stage all bundles are added, in their places,
+  -- at the first stage, all bundles are added, with their places
   pub first_added : (length kept.stages == 0) ≡ true → (added : AdditionEntries)
       → ((now : List ℕ → Place) → places ≡ map (λ (b : Bundle). placed (now b.0)) kept.bundles → added ≡ all_added ward kept.candidates kept.bundles now stages) → added ≡ addition_at e action
   first_added none added is = go (stages_of e) refl
@@ -69,7 +69,7 @@ module _ (e : ElectionEntry) (action : Action) (ward : ℕ) (kept : StoredCountE
           let more : length (stages_of e) ≡ suc (length before) = ap (λ (h : History). length h) same in
           absurd (let many = as_many in omega (arith, empty, more, many))
 
-  -- and at a later one those whose place has changed
+  -- at a later stage, the bundles whose places have changed are added
   pub later_added : (length kept.stages == 0) ≡ false → (added : AdditionEntries) → added ≡ moves_added ward kept.candidates kept.bundles kept.places places stages → added ≡ addition_at e action
   later_added some added is = is ∙ go (stages_of e) refl
     where

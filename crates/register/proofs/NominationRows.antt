@@ -1,4 +1,4 @@
--- Nominations, computed: candidates are added and withdrawn, and the refusals.
+-- Examples of nominations, checked by computation: candidates are added and withdrawn, and each refusal occurs.
 use Rattle.std.proofs.Common.{ℕ, true, false, ◌≡◌, List, [], ◌∷◌, codes, refl, string_bytes}
 use Rattle.std.specs.Fmt.{digits}
 use Rattle.std.specs.declared.string.String.{String}
@@ -18,7 +18,7 @@ use Rattle.register.specs.Candidates as candidates
 use Rattle.register.specs.Machine.{accepted, kept, refused, step, decided}
 use Rattle.register.proofs.WorkedRows.{name_eve, nameless}
 
--- an office with the ward Quay with two seats, in this phase, with these candidates and receipts
+-- an office with Quay ward, which has two seats and is in the given phase, and with the given candidates and receipts
 abbrev with_quay : Phase → List CandidateEntry → List ReceiptEntry → OfficeState
 with_quay phase candidates receipts = record empty_office { wards = record { number = 8; seats = 2; phase = phase; done = 0; name = codes "Quay" } ∷ []; candidates = candidates; receipts = receipts }
 
@@ -31,18 +31,18 @@ eve = record { ward = 8; number = 2; name = codes "Eve" }
 fay : CandidateEntry
 fay = record { ward = 8; number = 3; name = codes "Fay" }
 
--- the office's receipt with an id, a subject and a reply
+-- a receipt for an office request, with the given id, subject and reply
 abbrev office_receipt : List ℕ → List ℕ → List ℕ → ReceiptEntry
 office_receipt id subject reply = record { actor = 0; id = id; subject = subject; reply = reply }
 
--- that Eve was added, with the id c2; and that Eve withdrew, with the id x1
+-- the receipt for adding Eve, with id c2; and the receipt for her withdrawal, with id x1
 eve_stands : ReceiptEntry
 eve_stands = office_receipt (codes "c2") (codes "candidate 8 2") (codes "candidate 2 of ward 8 added")
 
 eve_withdrew : ReceiptEntry
 eve_withdrew = office_receipt (codes "x1") (codes "withdraw 8 2") (codes "candidate 2 of ward 8 withdrawn")
 
--- ---- refusals, each once
+-- ---- each refusal, once
 
 no_candidates : step (with_quay Nominations [] []) 0 (codes "k1") (Ward (Close 8)) ≡ refused NoCandidates
 unfolding step decided is_id wards.subject_of wards.reply_to digits
@@ -80,7 +80,7 @@ too_late_to_withdraw : step (with_quay Sealed (dee ∷ []) []) 0 (codes "x1") (C
 unfolding step decided is_id candidates.subject_of candidates.reply_to digits dee
 too_late_to_withdraw = refl
 
--- ---- which of these are states
+-- ---- which of the offices are states
 
 contested_in_keying : all_nominated (with_quay Keying (dee ∷ eve ∷ fay ∷ []) []) ≡ true
 unfolding dee eve fay
@@ -133,7 +133,8 @@ module _ (name : String Global) (is : string_bytes name ≡ codes "Eve") where
   unfolding step decided is_id candidates.subject_of candidates.reply_to digits dee eve eve_stands
   stands = simp (is, name_eve) refl
 
-  -- Eve withdraws, and the number becomes free; but her old id gets the old reply forever, and only a new id adds her again
+  -- Eve withdraws, and her number can be used again; but the old id always gets the old reply, and only a new id adds her
+  -- again
   withdraws : step (with_quay Nominations (dee ∷ eve ∷ []) (eve_stands ∷ [])) 0 (codes "x1") (Candidate (Withdraw 8 2))
       ≡ accepted (with_quay Nominations (dee ∷ []) (eve_stands ∷ eve_withdrew ∷ [])) (codes "candidate 2 of ward 8 withdrawn")
   unfolding step decided is_id candidates.subject_of candidates.reply_to digits dee eve eve_stands eve_withdrew

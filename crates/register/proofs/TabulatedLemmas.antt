@@ -1,4 +1,5 @@
--- The tabulation is in key order, and for each ward it is that of its election.
+-- The tabulation is in key order, and the part of it that belongs to a ward is determined by the ward's
+-- election.
 use Rattle.std.proofs.Common.{◌≡◌, ℕ, ◌+◌, ◌<◌, ◌≤◌, ◌==◌, Bool, true, false, cond, List, [], ◌∷◌, ◌++◌, length, map, filter, fold, Some, refl, sym, ap, ◌∙◌, append-nil, arith}
 use Rattle.std.specs.List.{AllByRecursion, flat_map}
 use Rattle.std.specs.List.Sorted.{IsStrictlySortedBy}
@@ -38,7 +39,7 @@ each_append : {X : Type 0} (P : X → Type 0) (xs ys : List X) → AllByRecursio
 each_append P [] ys first second = second
 each_append P (x ∷ xs) ys first second = (first.0, each_append P xs ys first.1 second)
 
--- each entry of one list is below each entry of another
+-- every entry of one list sorts before every entry of another
 abbrev AreBelow : {X : Type 0} → (X → X → Ordering) → List X → List X → Type 0
 AreBelow cmp xs ys = AllByRecursion (λ x. AllByRecursion (λ y. cmp x y ≡ Less) ys) xs
 
@@ -47,11 +48,11 @@ unfolding IsStrictlySortedBy
 rises_append cmp [] ys first second below = second
 rises_append cmp (x ∷ xs) ys first second below = (each_append (λ y. cmp x y ≡ Less) xs ys first.0 below.0, rises_append cmp xs ys first.1 second below.1)
 
--- ---- the entries of wards, ward by ward
+-- ---- the entries of all wards, ward by ward
 
--- Each ward has entries, which have its number and are ascending.
+-- Each ward has entries with the ward's number, in ascending order.
 module _ {X : Type 0} (ward : X → ℕ) (inner : X → X → Ordering) (parts : WardEntry → List X) (own : (w : WardEntry) → AllByRecursion (λ x. ward x ≡ w.number) (parts w)) where
-  -- the number of an entry is below those of others, so it is below their entries
+  -- the entry's ward number is above the given number
   abbrev IsAbove : ℕ → X → Type 0
   IsAbove n x = nat_cmp n (ward x) ≡ Less
 
@@ -69,7 +70,7 @@ module _ {X : Type 0} (ward : X → ℕ) (inner : X → X → Ordering) (parts :
       λ y less. ap (λ m. ordering_then (nat_cmp m (ward y)) (inner x y)) of.0 ∙ ap (λ o. ordering_then o (inner x y)) less in
       (each_weaker (IsAbove n) (λ y. then_cmp (on ward nat_cmp) inner x y ≡ Less) ys first above, below_all n xs ys of.1 above)
 
-  -- all of them are ascending
+  -- the entries of all wards, taken together, are in ascending order
   pub parts_rise : ((w : WardEntry) → IsStrictlySortedBy (then_cmp (on ward nat_cmp) inner) (parts w)) → (ws : List WardEntry) → IsStrictlySortedBy (on (λ (w : WardEntry). w.number) nat_cmp) ws
       → IsStrictlySortedBy (then_cmp (on ward nat_cmp) inner) (flat_map parts ws)
   unfolding IsStrictlySortedBy
@@ -78,7 +79,7 @@ module _ {X : Type 0} (ward : X → ℕ) (inner : X → X → Ordering) (parts :
       rises_append (then_cmp (on ward nat_cmp) inner) (parts w) (flat_map parts ws) (each w) (parts_rise each ws up.1)
       (below_all w.number (parts w) (flat_map parts ws) (own w) (parts_above w.number ws up.0))
 
-  -- the entries with a number, if all have it, and if none has
+  -- filtering by a number when every entry has it, and when no entry does
   filter_own : (n : ℕ) (xs : List X) → AllByRecursion (λ x. ward x ≡ n) xs → filter (λ x. ward x == n) xs ≡ xs
   filter_own n [] of = refl
   filter_own n (x ∷ xs) of = rw (eq-eqb (ward x) n of.0) (ap (λ (ys : List X). x ∷ ys) (filter_own n xs of.1))
@@ -92,7 +93,7 @@ module _ {X : Type 0} (ward : X → ℕ) (inner : X → X → Ordering) (parts :
       filter_others n xs (each_weaker (IsAbove n) (λ x. (ward x == n) ≡ false) xs
       (λ x less. let apart = ranked n (ward x) Less (sym less) in ne_eqb (ward x) n (λ same. omega (arith, apart, same))) above)
 
-  -- those of an existing ward are its entries
+  -- filtering by the number of an existing ward yields the ward's entries
   pub part_of : (n : ℕ) (w : WardEntry) (ws : List WardEntry) → IsStrictlySortedBy (on (λ (w : WardEntry). w.number) nat_cmp) ws → entry_at (λ (v : WardEntry). nat_cmp n v.number) ws ≡ Some w
       → filter (λ x. ward x == n) (flat_map parts ws) ≡ parts w
   unfolding IsStrictlySortedBy
@@ -153,12 +154,12 @@ module _ (e : ElectionEntry) where
       go true = placed_own (bundled e.ballots.papers)
       go false = tt
 
--- ---- its figures
+-- ---- the figures of an election
 
 abbrev by_candidate : Figure → Figure → Ordering
 by_candidate = on (λ (f : Figure). f.candidate) nat_cmp
 
--- of a stage, in the order of the candidates, of whom there are at most 30
+-- the figures of a stage are ordered by candidate, and there are at most 30 candidates
 module _ (s : Stage) (before : History) where
   abbrev shown : List ℕ → List Figure
   shown cs = map (figure_of s (s ∷ before)) cs ++ record { candidate = 99; units = s.lost; mark = 0 } ∷ []
@@ -182,7 +183,8 @@ unfolding IsStrictlySortedBy
 figures_rise_at cs s before up = (shown_above s before 0 cs (omega arith) up, shown_rise s before 0 cs up)
 
 module _ (ward : ℕ) where
-  -- a figure of a ward is below those of later stages, and below those of higher candidates at its stage
+  -- a figure of a ward sorts before those of later stages, and before those of higher-numbered candidates at
+  -- the same stage
   below_stage : (f g : FigureEntry) → f.ward ≡ ward → g.ward ≡ ward → f.stage < g.stage → figure_cmp f g ≡ Less
   below_stage f g one other earlier =
       ap (λ o. ordering_then o (ordering_then (nat_cmp f.stage g.stage) (nat_cmp f.candidate g.candidate))) (tied f.ward g.ward (one ∙ sym other))
@@ -204,7 +206,7 @@ module _ (ward : ℕ) where
   stage_rises stage [] up = tt
   stage_rises stage (f ∷ fs) up = (stage_above stage f fs up.0, stage_rises stage fs up.1)
 
-  -- a figure of the ward, at one of this number of stages
+  -- a figure of the ward, from a stage no later than the given one
   abbrev IsWithin : ℕ → FigureEntry → Type 0
   IsWithin stages f = (f.ward ≡ ward) × (f.stage ≤ stages)
 

@@ -1,4 +1,4 @@
--- The keyings of a batch's two or three clerks: what is preserved when another clerk keys.
+-- The keyings of a batch by its two or three clerks: what is preserved when another clerk keys the batch.
 use Rattle.std.proofs.Common.{inl, inr, ◌≡◌, ◌⊎◌, ℕ, ◌+◌, Bool, true, false, cond, codes, ◌&&◌, ◌||◌, ◌==◌, List, [], ◌∷◌, map, length, filter, find, Option, Some, None, refl, sym, ap, ◌∙◌}
 use Rattle.std.specs.List.{list_all}
 use Rattle.std.specs.Ordering.{nat_cmp, is_lt}
@@ -10,7 +10,7 @@ use Rattle.register.specs.Agreement.{is_keyed, of_three, same_marks, agreed, is_
 use Rattle.register.specs.BatchConditions.{are_numbered, is_whole}
 use Rattle.register.proofs.AgreedLemmas.{agreed_three}
 
--- the keyings of some clerks that exist, given what each keyed
+-- the existing keyings by the given clerks, given what each clerk keyed
 abbrev pub keyed_by : (ℕ → List KeyedEntry) → List ℕ → List (List KeyedEntry)
 keyed_by f cs = filter is_keyed (map f cs)
 
@@ -19,21 +19,21 @@ pub not_keyed : (keying : List KeyedEntry) → is_keyed keying ≡ false → key
 not_keyed [] none = refl
 not_keyed (k ∷ ks) none = absurd (cc)
 
--- ---- of any number of clerks
+-- ---- any number of clerks
 
--- they are the same if each keyed the same,
+-- two lists of keyings by the same clerks are equal if each clerk's keyings are equal
 pub keyed_alike : (f g : ℕ → List KeyedEntry) (cs : List ℕ) → ((c : ℕ) → f c ≡ g c) → keyed_by f cs ≡ keyed_by g cs
 keyed_alike f g [] same = refl
 keyed_alike f g (c ∷ cs) same =
     ap (λ (ks : List KeyedEntry). cond (is_keyed ks) (ks ∷ keyed_by f cs) (keyed_by f cs)) (same c)
     ∙ ap (λ (others : List (List KeyedEntry)). cond (is_keyed (g c)) (g c ∷ others) others) (keyed_alike f g cs same)
 
--- none if none keyed,
+-- if no clerk has keyed anything, there are no keyings
 pub none_keyed : (f : ℕ → List KeyedEntry) (cs : List ℕ) → ((c : ℕ) → f c ≡ []) → keyed_by f cs ≡ []
 none_keyed f [] none = refl
 none_keyed f (c ∷ cs) none = rw (none c) (none_keyed f cs none)
 
--- and the same with one more clerk who keyed nothing
+-- another clerk who hasn't keyed anything doesn't change the keyings
 pub put_unkeyed : (f : ℕ → List KeyedEntry) (c : ℕ) (cs : List ℕ) → f c ≡ [] → keyed_by f (put nat_cmp c cs) ≡ keyed_by f cs
 put_unkeyed f c [] none = rw none refl
 put_unkeyed f c (d ∷ ds) none = go (is_lt (nat_cmp c d)) (put_unkeyed f c ds none)
@@ -42,7 +42,7 @@ put_unkeyed f c (d ∷ ds) none = go (is_lt (nat_cmp c d)) (put_unkeyed f c ds n
     go true later = rw none refl
     go false later = ap (λ (others : List (List KeyedEntry)). cond (is_keyed (f d)) (f d ∷ others) others) later
 
--- a test that every keying passes is still passed by every keying, if new ones pass it too
+-- if every keying passes a test, and new keyings do too, every keying still passes
 pub all_grown : (p : List KeyedEntry → Bool) (f g : ℕ → List KeyedEntry) (cs : List ℕ) → ((c : ℕ) → (g c ≡ f c) ⊎ (p (g c) ≡ true)) → list_all p (keyed_by f cs) ≡ true
     → list_all p (keyed_by g cs) ≡ true
 all_grown p f g [] each all = refl
@@ -57,9 +57,9 @@ all_grown p f g (c ∷ cs) each all = go (g c) (f c) (each c) all (all_grown p f
     go (j ∷ js) (k ∷ ks) (inl same) all later = let parts = and_parts (p (k ∷ ks)) (list_all p (keyed_by f cs)) all in and_from _ _ (ap p same ∙ parts.0) (later parts.1)
     go (j ∷ js) (k ∷ ks) (inr passes) all later = and_from _ _ passes (later (and_parts (p (k ∷ ks)) (list_all p (keyed_by f cs)) all).1)
 
--- ---- the clerks of a batch are three, one of whom may be missing
+-- ---- a batch has three clerks, although one may be missing
 
--- what a clerk keyed, if there is one
+-- what a clerk keyed, if that clerk exists
 abbrev pub of_one : (ℕ → List KeyedEntry) → Option ℕ → List KeyedEntry
 of_one f None = []
 of_one f (Some c) = f c
@@ -87,9 +87,9 @@ are_three b (Some t) = go (is_lt (nat_cmp b.first_clerk b.second_clerk))
     go true = among b.first_clerk b.second_clerk (is_lt (nat_cmp t.clerk b.first_clerk)) (is_lt (nat_cmp t.clerk b.second_clerk))
     go false = among b.second_clerk b.first_clerk (is_lt (nat_cmp t.clerk b.second_clerk)) (is_lt (nat_cmp t.clerk b.first_clerk))
 
--- ---- keyings that are alike
+-- ---- keyings with the same marks
 
--- numbered papers with the same marks are doubtful alike
+-- in numbered keyings with the same marks, the same papers are doubtful
 pub alike_doubtful : (n p : ℕ) (js ks : List KeyedEntry) → are_numbered n js ≡ true → are_numbered n ks ≡ true → same_marks js ks ≡ true → has_doubtful js p ≡ has_doubtful ks p
 unfolding are_numbered same_marks
 alike_doubtful n p [] [] first second same = refl
@@ -112,13 +112,13 @@ alike_doubtful n p (j ∷ js) (k ∷ ks) first second same =
     go true alike later = alike
     go false alike later = later
 
--- ---- when more keyings are added
+-- ---- adding keyings
 
--- a keying is unchanged, or didn't exist
+-- a keying is unchanged or didn't exist before
 abbrev pub Grows : List KeyedEntry → List KeyedEntry → Type 0
 Grows old new = (new ≡ old) ⊎ (old ≡ [])
 
--- each of three keyings that exists is numbered
+-- each existing keying among three is numbered
 pub numbered_three : (size : ℕ) (a b c : List KeyedEntry) → list_all (is_whole size) (of_three a b c) ≡ true
     → (are_numbered 1 a ≡ true) × ((are_numbered 1 b ≡ true) × (are_numbered 1 c ≡ true))
 unfolding are_numbered
@@ -139,7 +139,7 @@ module _ (p size : ℕ) where
       ≡ has_doubtful (cond (is_keyed a && (same_marks a b || same_marks a c)) a (cond (is_keyed b && same_marks b c) b [])) p
   doubtful_by a b c = ap (λ (ks : List KeyedEntry). has_doubtful ks p) (agreed_three a b c)
 
-  -- a single keying agrees with none
+  -- a single keying doesn't agree with any other
   alone : (c : List KeyedEntry) → has_doubtful (agreed (of_three [] [] c)) p ≡ false
   alone [] = refl
   alone (z ∷ c) = refl
@@ -152,7 +152,7 @@ module _ (p size : ℕ) where
   alone_first [] = refl
   alone_first (x ∷ a) = refl
 
-  -- one more, as the first
+  -- adding the first keying
   first_more : (k b c : List KeyedEntry) → list_all (is_whole size) (of_three k b c) ≡ true → has_doubtful (agreed (of_three [] b c)) p ≡ true → has_doubtful (agreed (of_three k b c)) p ≡ true
   first_more k b c all was =
       let each = numbered_three size k b c all in
@@ -170,7 +170,7 @@ module _ (p size : ℕ) where
       go true true is_r s is_s true false is_t x y z was = absurd (cc)
       go true false is_r true is_s true false is_t x y z was = absurd (cc)
 
-  -- one more, as the second
+  -- adding the second keying
   second_more : (a k c : List KeyedEntry) → has_doubtful (agreed (of_three a [] c)) p ≡ true → has_doubtful (agreed (of_three a k c)) p ≡ true
   unfolding same_marks
   second_more [] k [] was = absurd (cc)
@@ -186,7 +186,7 @@ module _ (p size : ℕ) where
       go false true was = was
       go false false was = absurd (cc)
 
-  -- one more, as the third
+  -- adding the third keying
   third_more : (a b k : List KeyedEntry) → has_doubtful (agreed (of_three a b [])) p ≡ true → has_doubtful (agreed (of_three a b k)) p ≡ true
   unfolding same_marks
   third_more [] [] k was = absurd (cc)
@@ -199,7 +199,7 @@ module _ (p size : ℕ) where
       go true s was = was
       go false s was = absurd (cc)
 
-  -- a doubtful paper of those that a batch is taken with is still one when another clerk keys
+  -- a doubtful paper among a batch's agreed papers remains among them when another clerk keys the batch
   pub doubtful_still : (a b c x y z : List KeyedEntry) → Grows a x → Grows b y → Grows c z → list_all (is_whole size) (of_three x y z) ≡ true
       → has_doubtful (agreed (of_three a b c)) p ≡ true → has_doubtful (agreed (of_three x y z)) p ≡ true
   doubtful_still a b c x y z (inl i) (inl j) (inl k) all was = rw (i, j, k) was

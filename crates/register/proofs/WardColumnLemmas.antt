@@ -1,4 +1,4 @@
--- The columns of a ward: in a state they are its candidates' numbers, in order.
+-- The columns of a ward: in a state, they are the numbers of its candidates, in order.
 use Rattle.std.proofs.Common.{◌≡◌, ℕ, ◌<◌, ◌==◌, ◌&&◌, Bool, true, false, cond, nat_lt, List, [], ◌∷◌, ◌++◌, map, filter, fold, refl, sym, ap, ◌∙◌, arith}
 use Rattle.std.specs.List.{AllByRecursion, list_all}
 use Rattle.std.specs.List.Sorted.{IsStrictlySortedBy}
@@ -17,11 +17,11 @@ use Rattle.register.specs.StateConditions.{is_candidate, IsState}
 use Rattle.register.proofs.MapLemmas.{kept_all}
 use Rattle.register.proofs.ItemLemmas.{candidate_map, maps_of}
 
--- numbers below this one
+-- all numbers are below the given one
 abbrev AreBelow : List ℕ → ℕ → Type 0
 AreBelow ns n = AllByRecursion (λ m. m < n) ns
 
--- a column above the others comes last
+-- a column above all the others comes last
 column_last : (columns : List ℕ) (n : ℕ) → AreBelow columns n → with_column columns n ≡ columns ++ (n ∷ [])
 column_last columns n below = rw (lower columns below, upper columns below) refl
   where
@@ -37,7 +37,7 @@ below_more : (ns : List ℕ) (m n : ℕ) → AreBelow ns n → m < n → AreBelo
 below_more [] m n below low = (low, tt)
 below_more (k ∷ ns) m n below low = (below.0, below_more ns m n below.1 low)
 
--- the candidates of a ward, by number, in range and all above these columns
+-- the candidates of a ward, in range and ordered by number, with numbers above the given columns
 abbrev AreAbove : List ℕ → List CandidateEntry → Type 0
 AreAbove columns cs = AllByRecursion (λ c. AreBelow columns c.number) cs
 
@@ -45,7 +45,7 @@ above_more : (columns : List ℕ) (n : ℕ) (cs : List CandidateEntry) → AreAb
 above_more columns n [] above low = tt
 above_more columns n (c ∷ cs) above low = (below_more columns n c.number above.0 low.0, above_more columns n cs above.1 low.1)
 
--- candidates of one ward in ascending key order have ascending numbers
+-- the candidates of a single ward, in key order, have ascending numbers
 numbers_rise : (ward : ℕ) (c : CandidateEntry) (cs : List CandidateEntry) → (c.ward == ward) ≡ true → list_all (λ d. d.ward == ward) cs ≡ true → AllByRecursion (λ d. candidate_cmp c d ≡ Less) cs
     → AllByRecursion (λ d. c.number < d.number) cs
 numbers_rise ward c [] of all less = tt
@@ -78,7 +78,7 @@ each_of ward (c ∷ cs) = go (c.ward == ward) refl (each_of ward cs)
     go true is later = and_from _ _ is later
     go false is later = later
 
--- if the candidates are in range and in order, the columns of a ward are its candidates' numbers
+-- if candidates are in range and in key order, the columns of a ward are the numbers of its candidates
 pub columns_at : (s : OfficeState) (ward : ℕ) → list_all is_candidate s.candidates ≡ true → IsStrictlySortedBy candidate_cmp s.candidates
     → columns_of (candidates_of s ward) ≡ map (λ c. c.number) (candidates_of s ward)
 columns_at s ward fine up =
@@ -96,6 +96,6 @@ columns_at s ward fine up =
     none_below [] = tt
     none_below (c ∷ cs) = (tt, none_below cs)
 
--- as they are in a state
+-- in a state, the columns of a ward are the numbers of its candidates
 pub columns_are : (s : OfficeState) (ward : ℕ) → IsState s → columns_of (candidates_of s ward) ≡ map (λ c. c.number) (candidates_of s ward)
 columns_are s ward is = let candidates = maps_of is candidate_map in columns_at s ward candidates.in_range candidates.rises

@@ -1,4 +1,4 @@
--- The commands about candidates: for each the part of the state that it needs, the objections to it, its subject, its reply and its effect.
+-- Candidate commands: for each, the part of the state that it needs, the objections to it, and its subject, reply and effect.
 use Rattle.std.specs.Prelude.{ℕ, Bool, not, ◌&&◌, List, [], ◌∷◌, ◌++◌, codes, string_bytes, Option, is_some, is_none}
 use Rattle.std.specs.Fmt.{decimal}
 use Rattle.register.specs.declared.phase.Phase.TheVariants.{Nominations}
@@ -22,7 +22,7 @@ abbrev pub is_in_range : ℕ → CandidateCommand → Bool
 is_in_range actor (Add ward candidate name) = is_office actor && (is_ward_number ward && is_candidate_number candidate)
 is_in_range actor (Withdraw ward candidate) = is_office actor && (is_ward_number ward && is_candidate_number candidate)
 
--- the objections to each command, in the order of the reasons' numbers
+-- the objections to each command, ordered by reason number
 abbrev pub objections : ℕ → CandidateCommand → CommandInputEntries → List (Option Reason)
 objections actor (Add ward candidate name) part =
     objection (not (is_in_range actor (Add ward candidate name))) NumberOutOfRange
@@ -34,7 +34,7 @@ objections actor (Withdraw ward candidate) part =
     ∷ phase_objections Nominations part.ward
     ++ (objection (is_none part.candidate) NoSuchCandidate ∷ [])
 
--- the subject of the receipt, by which a command sent again under the same id is recognised
+-- the subject of the receipt, which identifies a command that is repeated with the same id
 unfoldable pub subject_of : CandidateCommand → List ℕ
 subject_of (Add ward candidate name) = codes "candidate " ++ (decimal ward ++ (codes " " ++ decimal candidate))
 subject_of (Withdraw ward candidate) = codes "withdraw " ++ (decimal ward ++ (codes " " ++ decimal candidate))

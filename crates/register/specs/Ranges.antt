@@ -5,7 +5,7 @@ use Rattle.std.specs.Str.{is_utf8}
 use Rattle.votes.specs.Units.{max_seats}
 use Rattle.paper.specs.Columns.{max_candidates}
 
--- from one number to another, both included
+-- within a range, including both ends
 abbrev pub is_between : ℕ → ℕ → ℕ → Bool
 is_between low high n = nat_le low n && nat_le n high
 
@@ -23,7 +23,7 @@ last_ward = 99
 abbrev pub last_batch : ℕ
 last_batch = 9999
 
--- the most papers that a batch can have
+-- the most papers a batch can have
 abbrev pub most_papers : ℕ
 most_papers = 500
 
@@ -31,7 +31,7 @@ most_papers = 500
 abbrev pub last_round : ℕ
 last_round = 99
 
--- the first stage of a count for which a lot may be drawn, and the last
+-- the first and last stages of a count for which a lot may be drawn
 abbrev pub first_lot_stage : ℕ
 first_lot_stage = 2
 
@@ -78,7 +78,7 @@ is_round = is_between 1 last_round
 
 -- ---- texts
 
--- a byte of no control character: neither below a space nor DEL
+-- a byte that isn't a control character: not below a space, and not DEL
 abbrev pub is_name_byte : ℕ → Bool
 is_name_byte b = nat_le 32 b && not (b == 127)
 
@@ -90,11 +90,11 @@ is_name t = is_utf8 t && (is_between 1 120 (length t) && list_all is_name_byte t
 abbrev pub is_id_byte : ℕ → Bool
 is_id_byte b = is_between 97 122 b || (is_between 48 57 b || (b == 45))
 
--- an id: 1 to 40 such characters
+-- an id: 1 to 40 characters, each a letter from a to z, a digit or a hyphen
 unfoldable pub is_id : List ℕ → Bool
 is_id t = is_between 1 40 (length t) && list_all is_id_byte t
 
--- a byte within a line
+-- a byte other than a newline
 abbrev pub is_line_byte : ℕ → Bool
 is_line_byte b = not (b == 10)
 

@@ -1,4 +1,4 @@
--- What an office tabulates of its counts: the place of each bundle of equal ballot papers, and every figure of every stage.
+-- The tabulation of an office's counts: the place of each bundle of equal ballot papers, and every figure of every stage.
 use Rattle.std.specs.Prelude.{◌≡◌, ⊤, ℕ, ◌+◌, Bool, true, false, not, ◌&&◌, ◌==◌, if◌then◌else◌, List, [], ◌∷◌, ◌++◌, map, fold, length, Option, Some, None}
 use Rattle.std.specs.List.{flat_map}
 use Rattle.std.specs.List.Sorted.{IsStrictlySortedBy, IsPermutation}
@@ -32,7 +32,8 @@ use Rattle.register.specs.Elections.{ElectionEntry, election_of, has_count, is_i
 
 -- ---- entries
 
--- a bundle of equal ballot papers of a ward: their list of preferences, their number, their holder (0 for none), and the value in units at which the holder received each
+-- a bundle of equal ballot papers of a ward: their preferences, the number of papers, their holder (0 for none), and the value, in units, at which the
+-- holder received each of them
 pub record PlacedEntry : Type 0 where
   pub ward : ℕ
   pub list : List ℕ
@@ -40,7 +41,7 @@ pub record PlacedEntry : Type 0 where
   pub holder : ℕ
   pub value : ℕ
 
--- a figure of a stage of a ward's count, in units, with its mark
+-- a figure from a stage of a ward's count, in units, with its mark
 pub record FigureEntry : Type 0 where
   pub ward : ℕ
   pub stage : ℕ
@@ -48,30 +49,30 @@ pub record FigureEntry : Type 0 where
   pub units : ℕ
   pub mark : ℕ
 
--- all bundles and figures
+-- all bundles and all figures
 pub record TabulationEntries : Type 0 where
   pub bundles : List PlacedEntry
   pub figures : List FigureEntry
 
--- the order of bundles: by ward, and then by list
+-- bundles are ordered by ward, then by list
 abbrev pub placed_cmp : PlacedEntry → PlacedEntry → Ordering
 placed_cmp = then_cmp (on (λ (b : PlacedEntry). b.ward) nat_cmp) (on (λ (b : PlacedEntry). b.list) (slice_cmp nat_cmp))
 
--- the order of figures: by ward, by stage, and then by candidate
+-- figures are ordered by ward, stage, and then candidate
 abbrev pub figure_cmp : FigureEntry → FigureEntry → Ordering
 figure_cmp = then_cmp (on (λ (f : FigureEntry). f.ward) nat_cmp) (then_cmp (on (λ (f : FigureEntry). f.stage) nat_cmp) (on (λ (f : FigureEntry). f.candidate) nat_cmp))
 
 -- ---- the tabulation of a state
 
--- an election whose count has at least one stage
+-- the count of the election has at least one stage
 abbrev pub has_stages : ElectionEntry → Bool
 has_stages e = has_count e && not (e.ward.done == 0)
 
--- a bundle of a ward in a place
+-- a bundle of a ward, with its place
 abbrev pub placed_at : ℕ → Bundle → Place → PlacedEntry
 placed_at ward b at = record { ward = ward; list = b.0; papers = b.1; holder = at.holder; value = at.value }
 
--- a bundle of a ward in its place after some stages
+-- a bundle of a ward, with its place after the given stages
 abbrev pub placed_after : ElectionEntry → History → Bundle → PlacedEntry
 placed_after e stages b = placed_at e.ward.number b (place (contest_of e) stages b.0)
 
@@ -79,24 +80,24 @@ placed_after e stages b = placed_at e.ward.number b (place (contest_of e) stages
 abbrev pub bundles_in : ElectionEntry → List PlacedEntry
 bundles_in e = if has_stages e then map (placed_after e (stages_of e)) (bundled e.ballots.papers) else []
 
--- a figure of this stage of a ward's count
+-- a figure from a stage of a ward's count
 abbrev pub figure_at : ℕ → ℕ → Figure → FigureEntry
 figure_at ward stage f = record { ward = ward; stage = stage; candidate = f.candidate; units = f.units; mark = f.mark }
 
--- the figures of all stages of a ward's count, from the first
+-- the figures of all stages of a ward's count, starting with the first
 abbrev pub figures_to : ℕ → List ℕ → History → List FigureEntry
 figures_to ward candidates [] = []
 figures_to ward candidates (s ∷ before) = figures_to ward candidates before ++ map (figure_at ward (length before + 1)) (figures_at candidates (s ∷ before))
 
--- all figures of the stages done in a ward
+-- all figures for the completed stages of a ward
 abbrev pub figures_in : ElectionEntry → List FigureEntry
 figures_in e = if has_stages e then figures_to e.ward.number (columns_of e.candidates) (stages_of e) else []
 
--- the tabulation of a state: ward by ward
+-- the tabulation of a state, ward by ward
 unfoldable pub tabulation_of : OfficeState → TabulationEntries
 tabulation_of s = record { bundles = flat_map (λ (w : WardEntry). bundles_in (election_of s w)) s.wards; figures = flat_map (λ (w : WardEntry). figures_in (election_of s w)) s.wards }
 
--- bundles and figures are in the order of their keys, without duplicates
+-- bundles and figures are in key order, without duplicates
 pub record TabulationRises (t : TabulationEntries) : Type 0 where
   pub bundles : IsStrictlySortedBy placed_cmp t.bundles
   pub figures : IsStrictlySortedBy figure_cmp t.figures
@@ -107,7 +108,7 @@ IsTabulationOf t s = t ≡ tabulation_of s
 
 -- ---- what a request adds to the tabulation
 
--- new bundles, bundles whose place has changed, and the figures of one more stage
+-- new bundles, bundles whose places have changed, and the figures of another stage
 pub record AdditionEntries : Type 0 where
   pub placed : List PlacedEntry
   pub moved : List PlacedEntry
@@ -117,15 +118,15 @@ pub record AdditionEntries : Type 0 where
 abbrev pub no_addition : AdditionEntries
 no_addition = record { placed = []; moved = []; figures = [] }
 
--- the bundles, with this one in its new place
+-- the bundles, with the given one moved to its new place
 abbrev pub moved_to : PlacedEntry → List PlacedEntry → List PlacedEntry
 moved_to b bundles = map (λ x. if is_eq (placed_cmp b x) then b else x) bundles
 
--- a tabulation with an addition
+-- a tabulation with an addition applied
 abbrev pub with_addition : AdditionEntries → TabulationEntries → TabulationEntries
 with_addition a t = record { bundles = a.placed ++ fold (λ bundles b. moved_to b bundles) t.bundles a.moved; figures = a.figures ++ t.figures }
 
--- the same entries, in some order
+-- two tabulations have the same entries, in any order
 pub record SameTabulation (t u : TabulationEntries) : Type 0 where
   pub bundles : IsPermutation t.bundles u.bundles
   pub figures : IsPermutation t.figures u.figures
@@ -144,7 +145,7 @@ tabulation_entries t = record { bundles = map placed_entry t.bundles.items; figu
 abbrev pub addition_entries : Addition → AdditionEntries
 addition_entries a = record { placed = map placed_entry a.placed.items; moved = map placed_entry a.moved.items; figures = map figure_entry a.figures.items }
 
--- the bundle and the place of a tabulated bundle, and a tabulated figure, in the count's own form
+-- the bundle and the place of a tabulated bundle, and a tabulated figure, each in the form used by the count
 abbrev pub bundle_of : PlacedEntry → Bundle
 bundle_of b = (b.list, b.papers)
 
@@ -154,11 +155,11 @@ placed_of b = record { holder = b.holder; value = b.value }
 abbrev pub shown_of : FigureEntry → Figure
 shown_of f = record { candidate = f.candidate; units = f.units; mark = f.mark }
 
--- the old tabulation and the addition of a change make up the new tabulation
+-- the old tabulation and the addition of a change together make up the new tabulation
 abbrev pub IsTabulated : OfficeState → Change → Type 0
 IsTabulated s change = SameTabulation (with_addition (addition_entries change.addition) (tabulation_of s)) (tabulation_of (with_change (change_entry change) s))
 
--- so do the old tabulation and the addition of an accepted request
+-- the old tabulation and the addition of an accepted request together make up the new tabulation
 abbrev pub AddsWhatIsCounted : OfficeState → Decision → Type 0
 AddsWhatIsCounted s (Accepted change reply) = IsTabulated s change
 AddsWhatIsCounted s (Kept reply) = ⊤
@@ -166,7 +167,7 @@ AddsWhatIsCounted s (Refused why) = ⊤
 
 -- ---- reading a count back
 
--- these are the candidates, the seats, the bundles and the figures of an election whose count has at least one stage
+-- the given candidates, seats, bundles and figures are those of an election whose count has at least one stage
 pub record AreOfCount (e : ElectionEntry) (candidates : List ℕ) (seats : ℕ) (bundles : List PlacedEntry) (figures : List FigureEntry) : Type 0 where
   pub begun : has_stages e ≡ true
   pub fair : IsContest (contest_of e)
@@ -176,18 +177,18 @@ pub record AreOfCount (e : ElectionEntry) (candidates : List ℕ) (seats : ℕ) 
   pub bundles_are : bundles ≡ bundles_in e
   pub figures_are : figures ≡ figures_in e
 
--- ---- the count that a view shows
+-- ---- the count that is part of a view
 
--- this is the stored count of an election, with its lots
+-- a count is the stored count of an election, with its lots
 pub record IsCountOf (e : ElectionEntry) (count : CountValue) : Type 0 where
   pub kept_is : IsStoredCountOf (contest_of e) (stages_of e) count.kept
   pub lots_are : count.lots.items ≡ e.lots
 
--- the count was found
+-- the count of the election was found
 abbrev pub IsCount : ElectionEntry → Option CountValue → Type 0
 IsCount e found = (count : CountValue) × (found ≡ Some count) × IsCountOf e count
 
--- this is the count of an election if it is in count, otherwise none
+-- a count is that of the election if the election is in count; otherwise there is none
 abbrev pub IsCountIn : ElectionEntry → Option CountValue → Type 0
 IsCountIn e None = is_in_count e ≡ false
 IsCountIn e (Some count) = (is_in_count e ≡ true) × IsCountOf e count
@@ -198,12 +199,12 @@ pub record IsCountedWard (e : ElectionEntry) (found : CountedWard) : Type 0 wher
   pub candidates_are : map candidate_entry found.candidates.items ≡ e.candidates
   pub count_is : IsCountIn e found.count
 
--- the same, and the number of its papers rejected
+-- the contents of a stage sheet: the ward, the candidates and, if the election is in count, its count and the numbers of its rejected papers
 pub record IsSheetOf (e : ElectionEntry) (sheet : WardSheet) : Type 0 where
   pub counted_is : IsCountedWard e sheet.counted
   pub rejected_are : is_in_count e ≡ true → sheet.rejected ≡ e.ballots.rejected
 
--- if a stage is to be counted in a contested ward, its count is shown
+-- if the command counts a stage in a contested ward, the view includes the ward's count
 abbrev pub IsCountFor : OfficeState → Command → Option CountValue → Type 0
 IsCountFor s (Count (Advance ward)) shown = (w : WardEntry) → ward_at s ward ≡ Some w → has_count (election_of s w) ≡ true → IsCount (election_of s w) shown
 IsCountFor s command shown = ⊤

@@ -1,9 +1,9 @@
--- Numbers in words.
+-- Lists of numbers as text.
 use Rattle.std.specs.Prelude.{ℕ, List, [], ◌∷◌, ◌++◌, codes}
 use Rattle.std.specs.List.{flat_map}
 use Rattle.std.specs.Fmt.{decimal}
 
--- a number after another: `, 3`
+-- the text of a number that follows another: `, 3`
 abbrev pub behind : ℕ → List ℕ
 behind n = codes ", " ++ decimal n
 

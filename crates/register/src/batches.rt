@@ -1,4 +1,4 @@
-//! Batches of ballot papers, and the commands that concern them.
+//! Batches of ballot papers, and the commands for them.
 
 ghost use Rattle.std.specs.Prelude.{◌≡◌, IfOk, option_map, string_bytes};
 ghost use Rattle.register.specs.Reasons.{first_reason};
@@ -19,8 +19,8 @@ use crate::view::CommandInput;
 use crate::wards::is_in_phase;
 use std::alloc::{AllocError, Global};
 
-/// A batch of ballot papers: its number (1 to 9999, unique across all wards), its ward (1 to 99), and its number of papers
-/// (1 to 500). It also has its current round (1 to 99), and the two clerks (1 to 999) assigned to key it.
+/// A batch of ballot papers. Its number (1 to 9999) is unique across all wards. It also has its ward (1 to 99), its number of
+/// papers (1 to 500), the two clerks (1 to 999) assigned to key it, and its current round (1 to 99).
 #[derive(PartialEq, Drop)]
 pub struct Batch {
     pub number: u32,
@@ -31,7 +31,7 @@ pub struct Batch {
     pub round: u32,
 }
 
-/// A third clerk (1 to 999) who keys a batch (1 to 9999) in its current round and in later ones.
+/// A third clerk (1 to 999), who keys a batch (1 to 9999) in its current round and in later rounds.
 #[derive(PartialEq, Drop)]
 pub struct ThirdClerk {
     pub batch: u32,
@@ -41,7 +41,7 @@ pub struct ThirdClerk {
 /// The office's commands for batches.
 #[derive(Debug, Drop)]
 pub enum BatchCommand {
-    /// Assigns a batch of `size` papers of this ward to two clerks, in its first round.
+    /// Assigns a batch of `size` papers in this ward to two clerks. The batch starts in its first round.
     Add {
         batch: u32,
         ward: u32,
@@ -49,11 +49,12 @@ pub enum BatchCommand {
         first_clerk: u32,
         second_clerk: u32,
     },
-    /// Opens one more round of a batch whose keyings differ.
+    /// Opens another round of a batch whose keyings differ.
     Again {
         batch: u32,
     },
-    /// Assigns a batch whose keyings differ to a third clerk as well; it is taken as soon as any two keyings agree.
+    /// Assigns a batch whose keyings differ to a third clerk, in addition to its two clerks. The batch is taken as soon as any
+    /// two keyings agree.
     Third {
         batch: u32,
         clerk: u32,
@@ -106,7 +107,7 @@ fn is_in_range(actor: u32, command: &BatchCommand, part: &CommandInput) -> bool
     }
 }
 
-/// Returns the objection to a third clerk for a batch, given that the numbers are in range.
+/// Returns the objection to assigning a third clerk to a batch, given that the numbers are in range.
 fn third_objection(clerk: u32, part: &CommandInput) -> Option<Reason>
     ensures { result ≡ first_reason (third_objections clerk (input_entries part.now)) }
 {
@@ -128,7 +129,7 @@ fn third_objection(clerk: u32, part: &CommandInput) -> Option<Reason>
     None
 }
 
-/// Returns the objection to a command; if there are several, the one with the lowest number.
+/// Returns the objection to a command or, if there are several, the one with the lowest number.
 pub(crate) fn objection_to(
     actor: u32,
     command: &BatchCommand,
@@ -175,7 +176,7 @@ pub(crate) fn objection_to(
     }
 }
 
-/// Returns the round after the current one, at most the last.
+/// Returns the round after the current one, but at most the last round.
 fn next_round(batch: &Option<Batch>) -> u32
     ensures { result ≡ next_round (option_map batch_entry batch.now) }
 {
@@ -187,7 +188,7 @@ fn next_round(batch: &Option<Batch>) -> u32
 }
 
 #[tactic(auto, unfolding(crate::specs::Batches::subject_of))]
-/// Returns the subject of a command's receipt.
+/// Returns the subject of the receipt for a command.
 pub(crate) fn subject_of(alloc: Global, command: &BatchCommand) -> Result<String, AllocError>
     ensures { IfOk result (λ text. string_bytes text ≡ subject_of command.now) }
 {
@@ -199,7 +200,7 @@ pub(crate) fn subject_of(alloc: Global, command: &BatchCommand) -> Result<String
 }
 
 #[tactic(auto, unfolding(crate::specs::Batches::reply_to))]
-/// Returns the reply to an accepted command; for a batch to be keyed again it includes the new round.
+/// Returns the reply to an accepted command. If the command reopens a batch, the reply includes the new round.
 pub(crate) fn reply_to(
     alloc: Global,
     command: &BatchCommand,
@@ -219,7 +220,7 @@ pub(crate) fn reply_to(
     }
 }
 
-/// Returns the effect of a command on the state; a new batch is in its first round.
+/// Returns the effect of a command on the state. A new batch starts in its first round.
 pub(crate) fn effect_of(command: &BatchCommand, part: &CommandInput) -> Effect
     ensures { effect_entry result ≡ effect_of command.now (input_entries part.now) }
 {

@@ -1,4 +1,4 @@
-//! Candidates, and the commands that concern them.
+//! Candidates, and the commands for them.
 
 ghost use Rattle.std.specs.Prelude.{◌≡◌, ◌&&◌, IfOk, string_bytes};
 ghost use Rattle.register.specs.Reasons.{first_reason};
@@ -15,7 +15,7 @@ use crate::view::CommandInput;
 use crate::wards::phase_objection;
 use std::alloc::{AllocError, Global};
 
-/// A candidate: the ward (1 to 99), the candidate's number in it (1 to 30) and the name.
+/// A candidate: the ward (1 to 99), the candidate's number in that ward (1 to 30), and the name.
 #[derive(PartialEq, Drop)]
 pub struct Candidate {
     pub ward: u32,
@@ -32,14 +32,14 @@ pub enum CandidateCommand {
         candidate: u32,
         name: String,
     },
-    /// Withdraws the candidate with this number from this ward; the number becomes free.
+    /// Withdraws the candidate with this number from this ward. The number can then be used again.
     Withdraw {
         ward: u32,
         candidate: u32,
     },
 }
 
-/// Returns whether the actor is the office and the ward's and the candidate's numbers are in range.
+/// Returns whether the actor is the office and both numbers are in range.
 fn is_office_on(actor: u32, ward: u32, candidate: u32) -> bool
     ensures { result ≡ (is_office actor && (is_ward_number ward && is_candidate_number candidate)) }
 {
@@ -62,7 +62,7 @@ fn is_in_range(actor: u32, command: &CandidateCommand) -> bool
     }
 }
 
-/// Returns the objection to a command; if there are several, the one with the lowest number.
+/// Returns the objection to a command or, if there are several, the one with the lowest number.
 pub(crate) fn objection_to(
     actor: u32,
     command: &CandidateCommand,
@@ -99,7 +99,7 @@ pub(crate) fn objection_to(
 }
 
 #[tactic(auto, unfolding(crate::specs::Candidates::subject_of))]
-/// Returns the subject of a command's receipt.
+/// Returns the subject of the receipt for a command.
 pub(crate) fn subject_of(alloc: Global, command: &CandidateCommand) -> Result<String, AllocError>
     ensures { IfOk result (λ text. string_bytes text ≡ subject_of command.now) }
 {
@@ -136,7 +136,7 @@ pub(crate) fn reply_to(
     }
 }
 
-/// Returns the effect of a command on the state. `AllocError` if an allocation fails.
+/// Returns the effect of a command on the state. Returns `AllocError` if an allocation fails.
 pub(crate) fn effect_of(
     command: &CandidateCommand,
     part: &CommandInput,

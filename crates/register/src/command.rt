@@ -9,20 +9,21 @@ use crate::keyings::KeyingCommand;
 use crate::verdicts::{Verdict, VerdictCommand};
 use crate::wards::WardCommand;
 
-/// What an actor asks of the office, by subject. The numbers are as the actor sent them, in range or not.
+/// What an actor asks the office to do, by subject. The numbers are exactly as the actor sent them, so they may
+/// be out of range.
 #[derive(Debug, Drop)]
 pub enum Command {
-    /// Concerns a ward.
+    /// A command for a ward.
     Ward(WardCommand),
-    /// Concerns a candidate.
+    /// A command for a candidate.
     Candidate(CandidateCommand),
-    /// Concerns a batch of ballot papers.
+    /// A command for a batch of ballot papers.
     Batch(BatchCommand),
     /// A clerk's keying of a batch.
     Keying(KeyingCommand),
     /// A verdict on a doubtful paper.
     Verdict(VerdictCommand),
-    /// Concerns the count of a ward.
+    /// A command for the count of a ward.
     Count(CountCommand),
 }
 
@@ -73,7 +74,7 @@ impl Command {
         })
     }
 
-    /// Returns the command that records a clerk's keying of a batch: one marks text per paper.
+    /// Returns the command that records a clerk's keying of a batch, with one marks text per paper.
     pub fn key(batch: u32, round: u32, papers: Vec<String>) -> Command
         ensures { result ≡ Command.Keying (record { batch = batch; round = round; papers = papers }) }
     {
@@ -116,7 +117,7 @@ impl Command {
         Command::Count(CountCommand::Seal { ward })
     }
 
-    /// Returns the command that counts the next stage.
+    /// Returns the command that counts the next stage of a ward.
     pub fn advance(ward: u32) -> Command
         ensures { result ≡ Command.Count (CountCommand.Advance ward) }
     {
@@ -142,7 +143,7 @@ impl Command {
     }
 }
 
-/// A command with its actor (0 is the office, 1 to 999 a clerk) and its id.
+/// A command, with the actor who sends it (0 for the office, 1 to 999 for a clerk) and its id.
 #[derive(Debug, Drop)]
 pub struct Request {
     pub actor: u32,

@@ -11,10 +11,10 @@ use crate::tabulations::Addition;
 use crate::verdicts::JudgedPaper;
 use crate::wards::Ward;
 
-/// One line of text, without its line end.
+/// A line of text, without its newline.
 pub type Reply = String;
 
-/// What an accepted command does to the state, apart from its receipt.
+/// What an accepted command does to the state, apart from the receipt.
 #[derive(Drop)]
 pub enum Effect {
     /// Adds this ward.
@@ -23,7 +23,7 @@ pub enum Effect {
     WardMoved { ward: u32, phase: Phase },
     /// Adds this candidate.
     CandidateAdded(Candidate),
-    /// Removes the candidate with this number from this ward, which frees the number.
+    /// Removes the candidate with this number from this ward. The number can then be used again.
     CandidateWithdrawn { ward: u32, candidate: u32 },
     /// Adds this batch.
     BatchAdded(Batch),
@@ -31,21 +31,21 @@ pub enum Effect {
     BatchReopened { batch: u32, round: u32 },
     /// Assigns this third clerk.
     ThirdSet(ThirdClerk),
-    /// Adds these keyed papers, all of one keying.
+    /// Adds these keyed papers, all from a single keying.
     PapersKeyed(Vec<KeyedPaper>),
-    /// Adds the verdict on this paper.
+    /// Adds this verdict on a paper.
     PaperJudged(JudgedPaper),
-    /// Sets the number of stages done in the count of this ward.
+    /// Sets the number of completed stages in the count of this ward.
     StageCounted { ward: u32, done: u32 },
     /// Adds this lot.
     LotDrawn(DrawnLot),
 }
 
-/// All that an accepted request changes. It is stored in full or not at all.
+/// Everything that an accepted request changes. It is stored either in full or not at all.
 #[derive(Drop)]
 pub struct Change {
     pub effect: Effect,
-    /// What it adds to the tabulation of the counts: nothing unless it counts a stage.
+    /// What the request adds to the tabulation of the counts: nothing, unless it counts a stage.
     pub addition: Addition,
     pub receipt: Receipt,
 }
@@ -53,10 +53,10 @@ pub struct Change {
 /// The machine's response to a request.
 #[derive(Drop)]
 pub enum Decision {
-    /// The state changes, and this is the reply.
+    /// The request is accepted, with this change and this reply.
     Accepted(Change, Reply),
-    /// The request was accepted before: this is the reply from then, and nothing changes.
+    /// The request was accepted earlier: this is the original reply, and nothing changes.
     Kept(Reply),
-    /// Nothing changes.
+    /// The request is refused, and nothing changes.
     Refused(Refusal),
 }

@@ -1,16 +1,17 @@
 //! The abstract machine of the office: how each request changes its state.
 //!
-//! A request is an actor, an id and a `Command`. The machine decides it from a `View`: the receipt and the part of the state
-//! that the request needs. The result is a `Decision`: the request is accepted with a `Change` and a reply; or kept, because
-//! it was accepted before under the same id; or refused for one named reason. Nothing here touches a store.
+//! A request consists of an actor, an id and a `Command`. The machine decides a request based on a `View`: the receipt, and
+//! the part of the state that the request needs. The result is a `Decision`: the request is accepted, with a `Change` and a
+//! reply; kept, because it was accepted earlier with the same id; or refused, for one specific reason. Nothing here accesses
+//! a store.
 //!
 //! ```text
 //! let decision = decide(alloc, &view, &command)?;
 //! ```
 //!
-//! `specs/Machine.antt` defines the machine itself, on the maps of `specs/Offices.antt`. Each subject has its own file, here
-//! and in `specs/`: what its commands need, the objections to them, and their subjects, replies and effects. The machine
-//! only dispatches on the subject.
+//! `specs/Machine.antt` defines the machine itself, on the maps defined in `specs/Offices.antt`. Each subject has its own
+//! file, both here and in `specs/`, with the part of the state that its commands need, and with their objections, subjects,
+//! replies and effects. The machine only dispatches on the subject.
 #![tactic(auto)]
 
 // Input.
@@ -18,14 +19,14 @@ pub mod command;
 // State.
 pub mod phase;
 pub mod receipt;
-// What the machine sees of the state,
+// What the machine sees of the state.
 pub mod view;
-// and what it decides.
+// What the machine decides.
 pub mod decision;
 pub mod refusal;
 // Ranges of numbers and texts.
 pub mod ranges;
-// How marks are read, and when a batch is taken.
+// How marks are read, and when a batch counts as taken.
 pub mod agreement;
 pub mod marks;
 // The progress of a ward, its poll, and what its count depends on.
@@ -33,10 +34,10 @@ pub mod elections;
 pub mod next_steps;
 pub mod polls;
 pub mod status;
-// What is stored of the counts, and what a stage adds to it.
+// What is stored about the counts, and what a stage adds to that.
 mod additions;
 pub mod tabulations;
-// Numbers in words.
+// Lists of numbers as text.
 mod texts;
 // The commands, by subject.
 pub mod batches;
@@ -45,7 +46,7 @@ pub mod counts;
 pub mod keyings;
 pub mod verdicts;
 pub mod wards;
-// What the state keeps of a request, compared with a repeated one.
+// Comparing a repeated request with what is stored about the original one.
 pub mod repeats;
 // The machine, which dispatches on the subject.
 mod machine;

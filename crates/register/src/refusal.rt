@@ -11,13 +11,13 @@ use std::marker::Model;
 /// The reason for refusing a request.
 #[derive(Clone, Copy, PartialEq, Eq)]
 pub enum Reason {
-    /// The id isn't 1 to 40 characters of `a-z`, `0-9` and `-`.
+    /// The id doesn't consist of 1 to 40 characters from `a-z`, `0-9` and `-`.
     BadId,
-    /// The receipt of this actor and id has another subject.
+    /// The receipt for this actor and id has a different subject.
     IdUsed,
     /// A number is out of range, or the actor may not send this command.
     NumberOutOfRange,
-    /// The name isn't 1 to 120 bytes, or has a control character.
+    /// The name isn't 1 to 120 bytes long, or contains a control character.
     BadName,
     /// There is no ward with this number.
     NoSuchWard,
@@ -35,7 +35,7 @@ pub enum Reason {
     NoSuchCandidate,
     /// The ward has no candidates.
     NoCandidates,
-    /// The batch's two clerks are the same, or the third already keys it.
+    /// The batch's two clerks are the same, or the third clerk already keys the batch.
     SameClerk,
     /// The actor isn't one of the batch's clerks.
     NotItsClerk,
@@ -43,27 +43,28 @@ pub enum Reason {
     NotThisRound,
     /// The clerk has already keyed this round.
     AlreadyKeyed,
-    /// The number of marks texts isn't the batch's number of papers.
+    /// The number of marks texts differs from the number of papers in the batch.
     WrongPaperCount,
-    /// The marks text of this paper, the first faulty one, has the mark fault with this number.
+    /// The marks text of this paper, the first invalid one, has the mark fault with this number.
     BadMarks { paper: u32, fault: u32 },
     /// The batch's current round has fewer than two keyings, or two equal ones.
     NoDifference,
-    /// No two keyings of the batch's current round are equal.
+    /// No two keyings in the batch's current round are equal.
     NotTaken,
-    /// The batch has no paper with this number that is keyed as doubtful.
+    /// The batch has no paper with this number that was keyed as doubtful.
     NotDoubtful,
     /// The paper already has a verdict.
     AlreadyJudged,
-    /// The paper is accepted as doubtful, or with marks that make it invalid, or rejected with a code other than 3, 4 or 5.
+    /// The paper is accepted as doubtful or with marks that make it invalid, or rejected with a code other than 3, 4 or
+    /// 5.
     BadVerdict,
     /// A batch of the ward isn't taken, or a doubtful paper has no verdict.
     NotReady,
     /// No vacancy remains.
     CountFinished,
-    /// The count waits for a lot at this stage, counted from 1, among these candidates.
+    /// The count is waiting for a lot at this stage, counted from 1, among these candidates.
     LotNeeded { stage: u8, among: Columns },
-    /// The count doesn't wait for a lot at this stage.
+    /// The count isn't waiting for a lot at this stage.
     NoSuchLot,
     /// The candidate isn't one of those tied.
     NotAmong,
@@ -74,7 +75,7 @@ pub enum Reason {
 }
 
 impl Reason {
-    /// Returns the number of a reason, and its words up to the first number that they include.
+    /// Returns the number of a reason, and its text up to the first number that the text includes, if any.
     fn told(self) -> (u32, &'static str)
         ensures number { result.0 ≡ reason_number self }
         ensures words { result.1.now ≡ reason_words self }
@@ -113,7 +114,7 @@ impl Reason {
         }
     }
 
-    /// Returns the reason in words, with the numbers that it includes.
+    /// Returns the text of the reason, including its numbers.
     fn text(&self, alloc: Global) -> Result<String, AllocError>
         ensures { IfOk result (λ text. string_bytes text ≡ reason_text self.now) }
     {
@@ -131,9 +132,9 @@ impl Reason {
     }
 }
 
-/// A refusal: its reason, and the reason in words. It changes nothing and leaves no receipt.
+/// A refusal: the reason and its text. A refusal changes nothing and leaves no receipt.
 ///
-/// Contracts see its reason.
+/// In contracts, a refusal is modelled as its reason.
 #[derive(Drop)]
 pub struct Refusal {
     reason: Reason,
@@ -153,7 +154,7 @@ impl Model for Refusal {
 }
 
 impl Refusal {
-    /// Returns a refusal for this reason, with its text. `AllocError` if an allocation fails.
+    /// Returns a refusal with the given reason and its text. Returns `AllocError` if an allocation fails.
     pub fn new(alloc: Global, reason: Reason) -> Result<Refusal, AllocError>
         ensures { IfOk result (λ refusal. refusal ≡ reason) }
     {
@@ -168,14 +169,14 @@ impl Refusal {
         self.reason
     }
 
-    /// Returns the number of the reason, as printed with every refusal.
+    /// Returns the number of the reason, which is printed with every refusal.
     pub fn number(&self) -> u32
         ensures { result ≡ reason_number self.now }
     {
         self.reason.told().0
     }
 
-    /// Returns the reason in words, without its number.
+    /// Returns the text of the reason, without its number.
     pub fn text(&self) -> &str
         ensures { result.now ≡ reason_text self.now }
     {

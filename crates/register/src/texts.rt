@@ -1,4 +1,4 @@
-//! Numbers in words.
+//! Lists of numbers as text.
 
 ghost use Rattle.std.specs.Prelude.{◌≡◌, ◌++◌, IfOk, string_bytes};
 ghost use Rattle.register.specs.Texts.{behind, listed};
@@ -6,7 +6,7 @@ ghost use Rattle.register.specs.Texts.{behind, listed};
 use paper::Columns;
 use std::alloc::{AllocError, Global};
 
-/// Appends a number to others: `, 3`.
+/// Appends a comma, a space and a number to a text: `, 3`.
 fn put_behind(alloc: Global, text: &mut String, number: u8) -> Result<(), AllocError>
     ensures { IfOk result (λ _. string_bytes text.new ≡ string_bytes text.old ++ behind number) }
 {
@@ -14,7 +14,7 @@ fn put_behind(alloc: Global, text: &mut String, number: u8) -> Result<(), AllocE
     text.push_str(told.as_str())
 }
 
-/// Returns numbers separated by a comma and a space: `1, 3`.
+/// Returns the text of the given numbers, separated by a comma and a space: `1, 3`.
 #[tactic(auto, unfolding(crate::specs::Texts::listed))]
 pub(crate) fn listed(alloc: Global, numbers: &Columns) -> Result<String, AllocError>
     ensures { IfOk result (λ text. string_bytes text ≡ listed numbers.now) }

@@ -1,4 +1,4 @@
-//! Wards, and the commands that concern them.
+//! Wards, and the commands for them.
 
 ghost use Rattle.std.specs.Prelude.{◌≡◌, IfOk, map, option_map, string_bytes};
 ghost use Rattle.register.specs.Reasons.{first_reason};
@@ -16,7 +16,8 @@ use crate::refusal::Reason;
 use crate::view::CommandInput;
 use std::alloc::{AllocError, Global};
 
-/// A ward: its number (1 to 99), its seats (1 to 15), its phase, the number of stages done in its count (0 to 31) and its name.
+/// A ward: its number (1 to 99), its number of seats (1 to 15), its phase, the number of completed stages in its count (0 to 31),
+/// and its name.
 #[derive(PartialEq, Drop)]
 pub struct Ward {
     pub number: u32,
@@ -29,9 +30,9 @@ pub struct Ward {
 /// The office's commands for wards.
 #[derive(Debug, Drop)]
 pub enum WardCommand {
-    /// Adds a ward with this number, this number of seats and this name; its nominations are open.
+    /// Adds a ward with this number, this number of seats and this name. Its nominations are open.
     Add { ward: u32, seats: u32, name: String },
-    /// Closes the nominations of this ward; it is polled if it has more candidates than seats.
+    /// Closes the nominations of this ward. The ward is polled if it has more candidates than seats.
     Close { ward: u32 },
 }
 
@@ -52,7 +53,7 @@ fn is_in_range(actor: u32, command: &WardCommand) -> bool
     }
 }
 
-/// Returns whether a ward exists and is in a phase.
+/// Returns whether a ward exists and is in the given phase.
 pub(crate) fn is_in_phase(phase: Phase, ward: &Option<Ward>) -> bool
     ensures { result ≡ is_in_phase phase (option_map ward_entry ward.now) }
 {
@@ -62,7 +63,7 @@ pub(crate) fn is_in_phase(phase: Phase, ward: &Option<Ward>) -> bool
     }
 }
 
-/// Returns the objection to a command that needs a ward in a phase: there is none, or it is in another phase.
+/// Returns the objection to a command that requires a ward in the given phase: there is no such ward, or it is in another phase.
 pub(crate) fn phase_objection(phase: Phase, ward: &Option<Ward>) -> Option<Reason>
     ensures { result ≡ first_reason (phase_objections phase (option_map ward_entry ward.now)) }
 {
@@ -75,14 +76,14 @@ pub(crate) fn phase_objection(phase: Phase, ward: &Option<Ward>) -> Option<Reaso
     None
 }
 
-/// Returns whether a ward has more candidates than seats.
+/// Returns whether a ward is contested: it has more candidates than seats.
 pub fn is_contested(ward: &Ward, candidates: &[Candidate]) -> bool
     ensures { result ≡ is_contested (ward_entry ward.now) (map candidate_entry candidates.now) }
 {
     (ward.seats as usize) < candidates.len()
 }
 
-/// Returns whether the ward is to be polled: it exists and is contested.
+/// Returns whether a ward requires a poll: it exists and is contested.
 fn is_to_be_polled(ward: &Option<Ward>, candidates: &[Candidate]) -> bool
     ensures { result ≡ is_to_be_polled (option_map ward_entry ward.now) (map candidate_entry candidates.now) }
 {
@@ -92,7 +93,7 @@ fn is_to_be_polled(ward: &Option<Ward>, candidates: &[Candidate]) -> bool
     }
 }
 
-/// Returns the objection to a command; if there are several, the one with the lowest number.
+/// Returns the objection to a command or, if there are several, the one with the lowest number.
 pub(crate) fn objection_to(actor: u32, command: &WardCommand, part: &CommandInput) -> Option<Reason>
     ensures { result ≡ first_reason (objections actor command.now (input_entries part.now)) }
 {
@@ -122,7 +123,7 @@ pub(crate) fn objection_to(actor: u32, command: &WardCommand, part: &CommandInpu
 }
 
 #[tactic(auto, unfolding(crate::specs::Wards::subject_of))]
-/// Returns the subject of a command's receipt.
+/// Returns the subject of the receipt for a command.
 pub(crate) fn subject_of(alloc: Global, command: &WardCommand) -> Result<String, AllocError>
     ensures { IfOk result (λ text. string_bytes text ≡ subject_of command.now) }
 {
@@ -133,7 +134,8 @@ pub(crate) fn subject_of(alloc: Global, command: &WardCommand) -> Result<String,
 }
 
 #[tactic(auto, unfolding(crate::specs::Wards::reply_to))]
-/// Returns the reply to an accepted command; for a closed ward it includes whether it is polled.
+/// Returns the reply to an accepted command. If the command closes a ward's nominations, the reply says whether the ward will be
+/// polled.
 pub(crate) fn reply_to(
     alloc: Global,
     command: &WardCommand,
@@ -152,8 +154,8 @@ pub(crate) fn reply_to(
     }
 }
 
-/// Returns the effect of a command on the state. When its nominations close, a contested ward enters keying, and an uncontested one
-/// is sealed. `AllocError` if an allocation fails.
+/// Returns the effect of a command on the state. When nominations close, a contested ward enters keying, and an uncontested one is
+/// sealed. Returns `AllocError` if an allocation fails.
 pub(crate) fn effect_of(command: &WardCommand, part: &CommandInput) -> Result<Effect, AllocError>
     ensures { IfOk result (λ effect. effect_entry effect ≡ effect_of command.now (input_entries part.now)) }
 {

@@ -1,4 +1,4 @@
--- What a walk through wards and their candidates proves about the state of the rows.
+-- What walking wards and candidates side by side proves about the state that the rows represent.
 use Rattle.std.proofs.Common.{◌≡◌, ◌≤◌, map, refl, ◌∙◌, arith}
 use Rattle.std.specs.declared.cmp.Ordering.{Ordering}
 use Rattle.std.specs.declared.cmp.Ordering.TheVariants.{Less, Equal, Greater}
@@ -11,7 +11,7 @@ use Rattle.rowcheck.specs.States.{state_of}
 use Rattle.rowcheck.specs.Walks.Nominations.{are_nominated}
 use Rattle.rowcheck.proofs.SideBySideLemmas.{by_run_map, below_from, equal_from, walk_tells}
 
--- candidates in key order are in the order of their wards
+-- candidates in key order are ordered by ward
 ward_order : (c d : CandidateEntry) → candidate_cmp c d ≡ Less → c.ward ≤ d.ward
 ward_order c d less = go (nat_cmp c.ward d.ward) refl less
   where
@@ -20,7 +20,8 @@ ward_order c d less = go (nat_cmp c.ward d.ward) refl less
     go Equal is told = let e = equal_from c.ward d.ward is in omega (arith, e)
     go Greater is told = absurd (cc)
 
--- the walk checks whether every candidate has its ward, and every ward has the candidates that its phase requires
+-- the walk checks that every candidate belongs to an existing ward, and that every ward has the candidates that
+-- its phase requires
 pub walked : (rows : Rows) → MapsAreSorted (state_of rows) → are_nominated rows.wards.items rows.candidates.items ≡ all_nominated (state_of rows)
 walked rows rise =
     by_run_map ward_entry candidate_entry (λ (w : WardEntry). w.number) (λ (c : CandidateEntry). c.ward) (λ w candidates. are_enough w.phase w candidates) rows.wards.items rows.candidates.items

@@ -1,4 +1,5 @@
--- Rows in key order are in the order in which they compare with a key, or with a prefix of one; and what is found this way is what the state has.
+-- Rows in key order are also in order when compared with a key, or with a prefix of one; and a search of the rows finds what the state
+-- contains.
 use Rattle.std.proofs.Common.{◌≡◌, ℕ, ◌<◌, ◌≤◌, ◌==◌, Bool, true, false, ◌&&◌, cond, nat_lt, List, [], ◌∷◌, map, length, get_or, filter, find, slice_get, Option, Some, None, option_map}
 use Rattle.std.proofs.Common.{option_copied, is_some, Bor, zero, suc, refl, sym, ap, ◌∙◌, arith, inl, inr, eq-eqb}
 use Rattle.std.specs.List.{AllByRecursion}
@@ -26,7 +27,7 @@ above_from m n more = go (nat_lt m n) refl (m == n) refl more
           | inr away ↦ let differs = away.1 in omega (arith, least, differs)
         ]
 
--- a comparison of rows that follows their order: those with a higher key don't compare as lower
+-- a comparison that is consistent with the order of the rows: no row compares less than a row that sorts before it
 abbrev pub Follows : {Y : Type 0} → (Y → Y → Ordering) → (Y → Ordering) → Type 0
 Follows {Y} cmp o = (y z : Y) → cmp y z ≡ Less → ordering_index (o y) ≤ ordering_index (o z)
 
@@ -36,7 +37,7 @@ at_most_two Equal = omega arith
 at_most_two Greater = omega arith
 
 module _ {Y : Type 0} (n : Y → ℕ) (key : ℕ) where
-  -- by a number first, and then by a comparison that follows the rest
+  -- comparing first by a number, and then by a comparison that is consistent with the rest of the order
   pub follows_then : (rest : Y → Y → Ordering) (o : Y → Ordering) → Follows rest o → Follows (then_cmp (on n nat_cmp) rest) (λ y. ordering_then (nat_cmp (n y) key) (o y))
   follows_then rest o later y z less = go (nat_cmp (n y) (n z)) refl less
     where
@@ -60,7 +61,7 @@ module _ {Y : Type 0} (n : Y → ℕ) (key : ℕ) where
       go Equal is told = rw (equal_from (n y) (n z) is) (together (nat_cmp (n z) key) told)
       go Greater is told = absurd (cc)
 
-  -- by a number alone
+  -- comparing by a number alone
   pub follows : (rest : Y → Y → Ordering) → Follows (then_cmp (on n nat_cmp) rest) (λ y. nat_cmp (n y) key)
   follows rest y z less = plain (nat_cmp (n y) key) (nat_cmp (n z) key) (follows_then rest (λ x. Equal) (λ a b below. omega arith) y z less)
     where
@@ -73,11 +74,11 @@ module _ {Y : Type 0} (n : Y → ℕ) (key : ℕ) where
       plain Greater Equal below = below
       plain Greater Greater below = below
 
-  -- if that is the whole key
+  -- comparing by a number that is the entire key
   pub follows_key : Follows (on n nat_cmp) (λ y. nat_cmp (n y) key)
   follows_key y z less = follows (λ a b. Less) y z (rw less refl)
 
--- rows in key order are in that order
+-- rows in key order are also ordered by such a comparison
 pub stand_in_order : {X Y : Type 0} (f : X → Y) (cmp : Y → Y → Ordering) (o : Y → Ordering) → Follows cmp o → (xs : List X) → IsStrictlySortedBy cmp (map f xs)
     → IsNonDecreasingBy (λ x. ordering_index (o (f x))) xs
 unfolding IsStrictlySortedBy
@@ -94,7 +95,7 @@ stand_in_order f cmp o along (x ∷ xs) up (suc i) (suc j) d low high = stand_in
 
 -- ---- what is found
 
--- numbers compare as equal in both directions
+-- whether two numbers compare as equal doesn't depend on which comes first
 pub equal_either_way : (m n : ℕ) → is_eq (nat_cmp m n) ≡ is_eq (nat_cmp n m)
 equal_either_way m n =
     unsigned_tied m n
@@ -114,7 +115,7 @@ then_eq Greater q = refl
 number_and : (m a : ℕ) (o : Ordering) (b : Bool) → is_eq o ≡ b → is_eq (ordering_then (nat_cmp m a) o) ≡ ((m == a) && b)
 number_and m a o b same = then_eq (nat_cmp m a) o ∙ rw (unsigned_tied m a, same) refl
 
--- keys of several numbers compare as equal if each number does
+-- keys of several numbers compare as equal if and only if each pair of numbers does
 pub three_equal : (m a n b p c : ℕ) → is_eq (ordering_then (nat_cmp m a) (ordering_then (nat_cmp n b) (nat_cmp p c))) ≡ ((m == a) && ((n == b) && (p == c)))
 three_equal m a n b p c = number_and m a _ _ (number_and n b _ _ (unsigned_tied p c))
 
@@ -128,7 +129,7 @@ module _ {X Y : Type 0} (f : X → Y) (p : Y → Bool) (q : X → Bool) (alike :
       go true later = ap (λ ys. f x ∷ ys) later
       go false later = later
 
-  -- the entry of the first one
+  -- the entry for the first row that is found
   pub first_found : (xs : List X) → option_map f (slice_get (filter q xs) 0) ≡ find p (map f xs)
   first_found [] = refl
   first_found (x ∷ xs) = rw (alike x) (go (p (f x)) (first_found xs))
@@ -137,7 +138,7 @@ module _ {X Y : Type 0} (f : X → Y) (p : Y → Bool) (q : X → Bool) (alike :
       go true later = refl
       go false later = later
 
--- an entry is found if a row is
+-- an entry is found if and only if its row is
 pub some_found : {X Y : Type 0} (f : X → Y) (o : Option (Bor X)) → is_some (option_map f (option_copied o)) ≡ is_some o
 some_found f None = refl
 some_found f (Some x) = refl

@@ -1,4 +1,4 @@
--- Lists of rows are equal if their entries are.
+-- Lists of rows are equal if and only if their entries are.
 use Rattle.std.proofs.Common.{rules, ◌≡◌, ◌&&◌, ℕ, nat_eq, Bool, true, List, [], ◌∷◌, map, refl, sym, ap, ap₂, true≢false}
 use Rattle.std.specs.Cmp.Lexicographic.{pointwise, pointwise_decides}
 use Rattle.std.proofs.lemmas.Bool.{and_from, and_parts}
@@ -20,9 +20,9 @@ use Rattle.register.specs.contracts.verdicts.JudgedPaperPartialEq.TheImpl as jud
 use Rattle.register.specs.contracts.counts.DrawnLotPartialEq.TheImpl as lot_eq
 use Rattle.register.specs.contracts.receipt.ReceiptPartialEq.TheImpl as receipt_eq
 
--- For rows V with entries X, and a test of two rows:
+-- Let V be the type of the rows, X the type of their entries, and `is_one` a test of two rows.
 module _ {V X : Type 0} (is_one : V → V → Bool) (entry : V → X) where
-  -- the test confirms only equal entries
+  -- the test accepts two rows only if their entries are equal
   pub entries_one : ((a b : V) → is_one a b ≡ true → entry a ≡ entry b) → (xs ys : List V) → pointwise is_one xs ys ≡ true → map entry xs ≡ map entry ys
   entries_one sound [] [] same = refl
   entries_one sound [] (y ∷ ys) same = absurd (true≢false (sym same))
@@ -31,7 +31,7 @@ module _ {V X : Type 0} (is_one : V → V → Bool) (entry : V → X) where
       let both = and_parts (is_one x y) (pointwise is_one xs ys) same in
       ap₂ (λ z zs. z ∷ zs) (sound x y both.0) (entries_one sound xs ys both.1)
 
-  -- and confirms all rows with equal entries
+  -- the test accepts any two rows whose entries are equal
   pub rows_one : ((a b : V) → entry a ≡ entry b → is_one a b ≡ true) → (xs ys : List V) → map entry xs ≡ map entry ys → pointwise is_one xs ys ≡ true
   rows_one whole [] [] same = refl
   rows_one whole [] (y ∷ ys) same = absurd (cc same)
@@ -44,18 +44,18 @@ module _ {V X : Type 0} (is_one : V → V → Bool) (entry : V → X) where
       tail_one : (x y : V) (xs ys : List V) → map entry (x ∷ xs) ≡ map entry (y ∷ ys) → map entry xs ≡ map entry ys
       tail_one x y xs ys same = cc same
 
--- a number is the same if and only if the test confirms it,
+-- two numbers are equal if and only if the test accepts them
 number_decided : (m n : ℕ) → (nat_eq m n ≡ true → m ≡ n) × (m ≡ n → nat_eq m n ≡ true)
 number_decided m n = search rules
 
--- and so is a text
+-- two texts are equal if and only if the test accepts them
 text_one : (xs ys : List ℕ) → pointwise nat_eq xs ys ≡ true → xs ≡ ys
 text_one xs ys = (pointwise_decides number_decided xs ys).0
 
 text_whole : (xs ys : List ℕ) → xs ≡ ys → pointwise nat_eq xs ys ≡ true
 text_whole xs ys = (pointwise_decides number_decided xs ys).1
 
--- `==` confirms two rows of one kind if and only if their entries are the same
+-- `==` accepts two rows of the same type if and only if their entries are equal
 pub ward_one : (a b : Ward) → (ward_eq.ghosts).eq a b ≡ true → ward_entry a ≡ ward_entry b
 ward_one a b same = search (rules, text_one)
 

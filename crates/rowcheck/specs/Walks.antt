@@ -1,5 +1,5 @@
--- How the rows are walked through to check each condition: the results of this crate's private functions. No public promise cites this file; readers of
--- the promises can skip it.
+-- The results of this crate's private functions, which iterate over the rows to check each condition. No public contract refers to this file, so
+-- readers of the contracts can skip it.
 pub mod KeyRanges
 pub mod Nominations
 pub mod Keyings

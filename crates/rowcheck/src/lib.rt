@@ -1,31 +1,33 @@
-//! Which rows are the state of an office.
+//! Checks whether rows form the state of an office.
 //!
-//! When an office is opened, its tables are read into `Rows`, and each function here returns whether the rows meet one
-//! condition. An office opens only if all of them are met.
+//! When an office is opened, its tables are read into `Rows`, and each function here returns whether the rows meet one of the
+//! conditions. An office opens only if they meet all of them.
 //!
-//! A condition is a definition for the state in `register`'s `specs/Items.antt`, such as `all_in_range`. The function of the
-//! same name, such as `all_in_range(&rows)`, checks it for `state_of rows`. `all_counted` counts again, once, what is done
-//! of each count. If the counts are right it returns their tabulation; `AllocError` if an allocation fails. `is_tabulated`
-//! compares the rows of bundles and figures with that tabulation, one by one: they are the tabulation of the state
-//! (`IsTabulationOf`, in `specs/Tabulated.antt`). No list is searched once per row of another. Lists in key order are walked
-//! side by side, or the rows of a key, which are adjacent, are found by bisection (`runs`, `finding`). Only the batches are
-//! scanned once per ward in count, of which there are at most 99; and the papers of one batch, at most 500, once per verdict
-//! on one of them.
+//! Each condition is defined for a state in `register`'s `specs/StateConditions.antt`, for example `all_in_range`. The function
+//! of the same name, `all_in_range(&rows)`, checks it for `state_of rows`. `all_counted` recounts the completed stages of each
+//! count, once. If the counts are correct, it returns their tabulation; it returns `AllocError` if an allocation fails.
+//! `is_tabulated` compares the rows of bundles and figures with that tabulation, one by one: they must be the tabulation of the
+//! state (`IsTabulationOf`, in `specs/Tabulated.antt`). No list is searched once per row of another list. Lists in key order
+//! are walked side by side, or the rows with the same key, which are adjacent, are found by bisection (`key_ranges`,
+//! `finding`). There are two exceptions. All batches are scanned once per ward in count, of which there are at most 99. The
+//! papers of a batch, of which there are at most 500, are scanned once per verdict on one of them.
 //!
-//! The conditions also have numbers, by which documents refer to them: `item1` to `item8`, each of which returns a `bool`.
+//! The conditions also have numbers, by which documents refer to them: `item1` to `item8`. Each function returns a `bool`;
+//! `item7` and `item8` wrap it in a `Result`.
 //!
-//! `are_same` compares the rows of two offices, and `finding` returns the rows of a key to callers that walk through an office.
+//! `are_same` compares the rows of two offices, and `finding` returns the rows with a given key to callers that iterate over
+//! the rows of an office.
 #![tactic(auto)]
 
-// Rows,
+// Rows.
 pub mod rows;
-// the runs of them that bisection finds,
+// Runs of rows, found by bisection.
 mod key_ranges;
-// and the entries found this way.
+// Entries, also found by bisection.
 pub mod finding;
 // Comparing two offices.
 mod sameness;
-// The conditions, and what they read: subjects of receipts, and numbers in them.
+// The conditions, and what they read: the subjects of receipts, and the numbers in those subjects.
 mod batches;
 mod counts;
 mod keyings;

@@ -1,4 +1,4 @@
-//! The last two conditions, each checked on its own.
+//! The seventh and eighth conditions, each checked on its own.
 
 ghost use Rattle.std.specs.Prelude.{◌≡◌, ◌↔◌, true, IfOk, IsTrue};
 ghost use Rattle.register.specs.Offices.{MapsAreSorted};
@@ -11,9 +11,9 @@ use crate::rows::Rows;
 use crate::tabulation::is_tabulated;
 use std::alloc::{AllocError, Global};
 
-/// Returns whether the counts are as the rows claim: the seventh condition, for rows that meet the first and the fourth.
-/// [`all_counted`](crate::all_counted) checks the same and returns the tabulation of the counts. `AllocError` if an
-/// allocation fails.
+/// Returns whether the counts match what the rows claim: the seventh condition, for rows that meet the first and fourth
+/// conditions. [`all_counted`](crate::all_counted) performs the same check and returns the tabulation of the counts.
+/// Returns `AllocError` if an allocation fails.
 pub fn item7(alloc: Global, rows: &Rows) -> Result<bool, AllocError>
     requires rise { MapsAreSorted (state_of rows.now) }
     requires in_range { all_in_range (state_of rows.now) ≡ true }
@@ -24,9 +24,9 @@ pub fn item7(alloc: Global, rows: &Rows) -> Result<bool, AllocError>
     Ok(found.is_some())
 }
 
-/// Returns whether bundles and figures are those of the counts: the eighth condition, for rows that meet the first, the
-/// fourth and the seventh. Counts again; a caller that has already counted compares with
-/// [`is_tabulated`](crate::is_tabulated). `AllocError` if an allocation fails.
+/// Returns whether the bundles and figures are those of the counts: the eighth condition, for rows that meet the first,
+/// fourth and seventh conditions. This function recounts; a caller that has already done so can use
+/// [`is_tabulated`](crate::is_tabulated) instead. Returns `AllocError` if an allocation fails.
 pub fn item8(alloc: Global, rows: &Rows) -> Result<bool, AllocError>
     requires rise { MapsAreSorted (state_of rows.now) }
     requires in_range { all_in_range (state_of rows.now) ≡ true }

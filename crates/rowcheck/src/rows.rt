@@ -1,12 +1,13 @@
-//! Rows, as the values that they represent.
+//! The rows of an office, as the values that they represent.
 
 use register::{
     Batch, Candidate, DrawnLot, JudgedPaper, KeyedPaper, PlacedBundle, Receipt, StageFigure,
     ThirdClerk, Ward,
 };
 
-/// The rows of an office, each table's in key order. Their numbers and texts are in range only if `all_in_range` confirms
-/// it; the same holds for those of bundles and figures with `is_tabulated`.
+/// The rows of an office; the rows of each table are in key order. Their numbers and texts are known to be in
+/// range only once `all_in_range` has confirmed it; for the rows of bundles and figures, `is_tabulated`
+/// confirms it.
 #[derive(Drop)]
 pub struct Rows {
     pub wards: Vec<Ward>,

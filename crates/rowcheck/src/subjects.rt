@@ -51,8 +51,8 @@ fn is_about_keying(word: &[u8], numbers: &[u8]) -> bool
     word == b"key".as_slice() && are_plain_numbers(1, LAST_BATCH, 1, LAST_ROUND, numbers)
 }
 
-/// Returns whether a word and the numbers after it may be the subject of an office receipt. Numbers are read only after a
-/// word that requires them.
+/// Returns whether a word and the numbers after it can be the subject of an office receipt. The numbers are read only if
+/// the word requires numbers.
 fn is_of_office(word: &[u8], numbers: &[u8]) -> bool
     ensures { result ≡ is_of_office word.now numbers.now }
 {
@@ -63,7 +63,7 @@ fn is_of_office(word: &[u8], numbers: &[u8]) -> bool
         || is_about_paper(word, numbers)
 }
 
-/// Returns whether a text may be the subject of an office receipt.
+/// Returns whether a text can be the subject of an office receipt.
 pub(crate) fn is_office_subject(subject: &str) -> bool
     ensures { result ≡ is_office_subject subject.now }
 {
@@ -71,7 +71,7 @@ pub(crate) fn is_office_subject(subject: &str) -> bool
     is_of_office(word, numbers)
 }
 
-/// Returns whether a text may be the subject of a clerk's receipt.
+/// Returns whether a text can be the subject of a clerk's receipt.
 pub(crate) fn is_clerk_subject(subject: &str) -> bool
     ensures { result ≡ is_clerk_subject subject.now }
 {

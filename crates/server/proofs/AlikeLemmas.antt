@@ -1,4 +1,4 @@
--- Two services that look alike to a clerk send the clerk the same.
+-- Two services that look alike to a clerk send the clerk the same responses.
 use Rattle.std.proofs.Common.{◌≡◌, ◌∙◌, ◌⊎◌, ◌∷◌, List, [], Some, ap, inl, inr, map, refl, subst, sym, ℕ}
 use Rattle.std.specs.Prelude.{⊤}
 use Rattle.sqlite.specs.Held.{Held}
@@ -9,18 +9,18 @@ use Rattle.register.specs.declared.command.Request.{Request}
 use Rattle.office.specs.Answers.{told_of}
 use Rattle.connections.specs.declared.client.Listener.{Listener}
 use Rattle.connections.specs.declared.client.Listener.TheVariants.{Clients}
-use Rattle.wire.specs.Requests.{HttpRequestEntry, Asks, console, denied, keying, order, reading, shown}
+use Rattle.wire.specs.Requests.{HttpRequestEntry, Asks, console, denied, keying, order, public, reading, shown}
 use Rattle.wire.specs.Responses.{ResponseEntry, denied_response, shown_response}
-use Rattle.wire.specs.Serving.{IsServed, TellsAsked, TellsFault, TellsFor, reading_response, told_response}
+use Rattle.wire.specs.Serving.{IsServed, TellsAsked, TellsFault, TellsFor, public_response, reading_response, told_response}
 use Rattle.wire.specs.Told.{IsTold}
 use Rattle.wire.specs.declared.request_error.RequestError.TheVariants.{NotFound}
 use Rattle.wire.proofs.RequestLemmas.{AsksOneThing-all}
 use Rattle.wire.proofs.OutcomeLemmas.{IsOutcome-handed}
 use Rattle.server.specs.Blind.{AnswersAsSeen, AreAnsweredAlike, AreClients, AreOwn, RespondsBySeen, IsAnsweredBySeen, IsStoppedBySeen, IsUnanswered}
 use Rattle.server.specs.Settings.{ServerSettingsEntry}
-use Rattle.server.specs.Exchanges.{AreTurnedAway, AsksNoOrder, EndsSo, IsClientAnsweredAt, IsToldClosed, Exchange}
+use Rattle.server.specs.Exchanges.{AreRefusedClosed, AsksNoOrder, EndsSo, IsClientAnsweredAt, GetsClosedResponse, Exchange}
 
--- ---- the first of a list of texts, and the others
+-- ---- the first element of a list, and the rest
 
 heads : (x y : List ℕ) (xs ys : List (List ℕ)) → x ∷ xs ≡ y ∷ ys → x ≡ y
 heads x y xs ys is = ap of is
@@ -37,7 +37,7 @@ tails x y xs ys is = ap of is
     of (z ∷ zs) = zs
 
 module _ (settings : ServerSettingsEntry) where
-  -- ---- one client at a view, and another that asks the same there
+  -- ---- a client in a given view, and another client with the same request in that view
 
   none_sent : (view : OfficeState) (sent sent_too : List Request) → sent ≡ [] → sent_too ≡ [] → after view sent_too ≡ after view sent
   none_sent view sent sent_too none none_too = ap (after view) (none_too ∙ sym none)
@@ -53,6 +53,8 @@ module _ (settings : ServerSettingsEntry) where
       (shown_response show, one.0, two.0, none_sent view sent sent_too one.1 two.1)
   asked_alike view (order entry) sent sent_too response response_too one two =
       (denied_response NotFound, one.0, two.0, none_sent view sent sent_too one.1 two.1)
+  asked_alike view (public its what) sent sent_too response response_too one two =
+      (public_response view its what, one.0, two.0, none_sent view sent sent_too one.1 two.1)
   asked_alike view (reading what) sent sent_too response response_too one two =
       (reading_response view what, one.0, two.0, none_sent view sent sent_too one.1 two.1)
   asked_alike view (keying clerk batch entry) sent sent_too response response_too (request, handed, told, is_sent) (request_too, handed_too, told_too, is_sent_too) =
@@ -72,15 +74,15 @@ module _ (settings : ServerSettingsEntry) where
       let same = AsksOneThing-all settings.clients one asked_too asked (subst (λ (b : List ℕ). Asks settings.clients b asked_too) (sym is) asks_too) asks in
       inl (asked_alike view asked sent sent_too response response_too tells (subst (λ (a : HttpRequestEntry). TellsAsked view a response_too sent_too) same tells_too))
 
-  -- ---- a clerk's own visits
+  -- ---- a clerk's own exchanges
 
-  -- they are answered at the clerk's view, until one of them isn't answered
+  -- a clerk's own exchanges are answered in the clerk's view, until one of them gets no answer
   abbrev AnswersOwn : OfficeState → List Exchange → Type 0
   AnswersOwn view [] = ⊤
   AnswersOwn view (exchange ∷ own) =
       ((sent : List Request) × EndsSo exchange (IsServed (TellsFor settings.clients (Some exchange.got) view sent)) × AnswersOwn (after view sent) own) ⊎ IsUnanswered settings exchange
 
-  -- so they are alike at one view
+  -- so two lists of them are answered alike in the same view
   alike_at : (view : OfficeState) (own same : List Exchange) → AnswersOwn view own → AnswersOwn view same
       → map (λ (exchange : Exchange). exchange.got) own ≡ map (λ (exchange : Exchange). exchange.got) same → AreAnsweredAlike settings own same
   alike_at view [] [] run run_too is = refl
@@ -106,32 +108,32 @@ module _ (settings : ServerSettingsEntry) where
       by (inr (inr fault)) later = inr (inr (inl (served_too, record { response = it_too.response; ready = fault; put = it_too.put })))
 
   module _ {S : Type 0} (state_of : Held S → State) (clerk : ℕ) where
-    away_own : (view : OfficeState) (exchanges own : List Exchange) → AreTurnedAway settings exchanges → AreClients settings.clients exchanges → AreOwn settings.clients clerk exchanges own
+    away_own : (view : OfficeState) (exchanges own : List Exchange) → AreRefusedClosed settings exchanges → AreClients settings.clients exchanges → AreOwn settings.clients clerk exchanges own
         → AnswersOwn view own
     away_own view [] own away clients none = subst (AnswersOwn view) (sym none) tt
     away_own view (exchange ∷ exchanges) own (closed, away) (client, free, clients) (inl (under, (later, is, others))) =
-        subst (AnswersOwn view) (sym is) (inr (inr (subst (λ (listener : Listener). IsToldClosed listener settings exchange) client closed)))
+        subst (AnswersOwn view) (sym is) (inr (inr (subst (λ (listener : Listener). GetsClosedResponse listener settings exchange) client closed)))
     away_own view (exchange ∷ exchanges) own (closed, away) (client, free, clients) (inr (not, others)) = away_own view exchanges own away clients others
 
-    -- a clerk's own visit was answered at the view
+    -- the first of a clerk's own exchanges was answered in the view
     answers_first : (view next : OfficeState) (exchange : Exchange) (later : List Exchange)
         → ((sent : List Request) × IsClientAnsweredAt settings view exchange sent × (next ≡ after view sent)) → AnswersOwn next later → AnswersOwn view (exchange ∷ later)
     answers_first view next exchange later (sent, inl (back, none), is_next) others = inr (inr (inl (inl back)))
     answers_first view next exchange later (sent, inr (free, told), is_next) others = inl (sent, told, subst (λ (v : OfficeState). AnswersOwn v later) is_next others)
 
-    -- a client that asks no order was answered as one
+    -- a client that sends no order was answered as such
     client_turn : (view next : OfficeState) (exchange : Exchange) → AsksNoOrder settings.clients exchange.got → RespondsBySeen Clients state_of settings clerk view exchange next
         → IsAnsweredBySeen settings clerk view exchange next
     client_turn view next exchange free (inl it) = it
     client_turn view next exchange free (inr it) = absurd (free it.tells.entry it.tells.asks)
 
-    -- or it met a fault
+    -- the office had a fault
     client_stop : (view : OfficeState) (exchange : Exchange) → AsksNoOrder settings.clients exchange.got → IsStoppedBySeen Clients state_of settings clerk view exchange
         → EndsSo exchange (IsServed TellsFault)
     client_stop view exchange free (inl (none, it)) = it
     client_stop view exchange free (inr (next, it)) = absurd (free it.tells.entry it.tells.asks)
 
-    -- of all that are answered so, a clerk's own
+    -- the clerk's own exchanges, out of all those that are answered this way
     own_seen : (view : OfficeState) (exchanges own : List Exchange) → AnswersAsSeen state_of settings clerk view exchanges → AreClients settings.clients exchanges
         → AreOwn settings.clients clerk exchanges own → AnswersOwn view own
     own_seen view [] own seen clients none = subst (AnswersOwn view) (sym none) tt

@@ -1,4 +1,4 @@
--- Answers to reads: what one tells, and what is kept of it.
+-- Responses to reads: what each says, and what is cached.
 use Rattle.std.proofs.Common.{◌≡◌, ◌∙◌, ◌⊎◌, ◌∷◌, ◌++◌, Bool, false, true, true≢false, ℕ, List, [], Option, Some, arith, inl, inr, refl, subst, suc, sym}
 use Rattle.std.specs.List.{Contains}
 use Rattle.std.proofs.lemmas.List.Elements.{All-push}
@@ -13,7 +13,7 @@ use Rattle.connections.specs.Streams.{HasTaken, Stream}
 use Rattle.connections.specs.declared.client.Listener.TheVariants.{Clients}
 use Rattle.tables.specs.Faults.{fault_number}
 use Rattle.tables.specs.declared.fault.Fault.{Fault}
-use Rattle.wire.specs.Requests.{HttpRequestEntry, Asks, console, denied, keying, order, reading, shown}
+use Rattle.wire.specs.Requests.{HttpRequestEntry, Asks, console, denied, keying, order, public, reading, shown}
 use Rattle.wire.specs.Gates.{HttpSettingsEntry}
 use Rattle.wire.specs.Responses.{ResponseEntry, fault_response}
 use Rattle.wire.specs.Serving.{FaultLeaves, IsAnswered, IsPut, IsServed, Readies, ReadiesFor, closed_response, reading_response}
@@ -22,18 +22,18 @@ use Rattle.wire.specs.declared.response.Response.{Response}
 use Rattle.wire.specs.declared.serving.Served.{Served}
 use Rattle.wire.specs.declared.serving.Served.TheVariants.{Answered, ReadFailed, WriteFailed}
 use Rattle.wire.specs.declared.target.Resource.{Resource}
-use Rattle.server.specs.Reads.{AreReadAt, ServedOffice, IsRead, MemoryEntry, ReadEntry, TellsNoFault, served_office}
+use Rattle.server.specs.Reads.{AreReadAt, ServedOffice, IsRead, MemoryEntry, ReadEntry, IsNoFault, served_office}
 use Rattle.server.specs.Endings.{EndsIn}
 use Rattle.server.specs.Exchanges.{ChangesNothing, EndsSo, HasAnswered, KeepsReads, ServesClient, Exchange}
 
--- ---- what an answer tells
+-- ---- what a response says
 
--- a fault has its own status
+-- a fault has a distinct status
 told_fault : (number status : ℕ) (old new : Option (List ℕ)) (response : _) → IsTold (fault_response number) response → IsPut old new response (Answered status) → status ≡ 503
 told_fault number status old new response (inl is) put = put.0 ∙ is.status
 told_fault number status old new response (inr is) put = put.0 ∙ is.status
 
--- what changes nothing was answered, and the office is at its state
+-- a request that changes nothing was answered, and the office is in the same state
 answered_still : (s : OfficeState) (asked : HttpRequestEntry) (answer : ResponseEntry) (closed : Bool) (st : State) → ChangesNothing asked → IsAnswered s asked answer closed st → IsOpenAt s closed st
 answered_still s (denied why) answer closed st still it = subst (λ (x : OfficeState). IsOpenAt x closed st) it.is.0 it.open_at
 answered_still s (shown clerk show) answer closed st still it = subst (λ (x : OfficeState). IsOpenAt x closed st) it.is.0 it.open_at
@@ -41,8 +41,9 @@ answered_still s (reading what) answer closed st still it = subst (λ (x : Offic
 answered_still s (keying clerk batch entry) answer closed st still it = absurd still
 answered_still s (console show) answer closed st still it = subst (λ (x : OfficeState). IsOpenAt x closed st) it.is.0 it.open_at
 answered_still s (order entry) answer closed st still it = absurd still
+answered_still s (public its what) answer closed st still it = subst (λ (x : OfficeState). IsOpenAt x closed st) it.is.0 it.open_at
 
--- or it met a fault, and only read
+-- the office had a fault, and was only read
 failed_still : (s : OfficeState) (asked : HttpRequestEntry) (f : Fault) (closed : Bool) (st : State) → ChangesNothing asked → FaultLeaves s asked f closed st → IsReadAt s closed st
 failed_still s (denied why) f closed st still leaves = absurd leaves
 failed_still s (shown clerk show) f closed st still leaves = absurd leaves
@@ -51,12 +52,14 @@ failed_still s (reading what) f closed st still (inr shut) = inr (shut.is_closed
 failed_still s (keying clerk batch entry) f closed st still leaves = absurd still
 failed_still s (console show) f closed st still leaves = absurd leaves
 failed_still s (order entry) f closed st still leaves = absurd still
+failed_still s (public its what) f closed st still (inl stays) = inl stays.open_at
+failed_still s (public its what) f closed st still (inr shut) = inr (shut.is_closed, shut.leaves)
 
 pub only_read : (s : OfficeState) (asked : HttpRequestEntry) (response : _) (closed : Bool) (st : State) → ChangesNothing asked → Readies s asked response closed st → IsReadAt s closed st
 only_read s asked response closed st still (entry, tells, inl answered) = inl (answered_still s asked entry closed st still answered)
 only_read s asked response closed st still (entry, tells, inr (fault, told, more)) = failed_still s asked fault closed st still more
 
--- an answer that tells no fault is the one to the read
+-- a response that doesn't report a fault is the response to the read
 no_fault : (s : OfficeState) (what : Resource) (status : ℕ) (old new : Option (List ℕ)) (response : _) (closed : Bool) (st : State) → Readies s (reading what) response closed st
     → IsPut old new response (Answered status) → (status ≡ 503 → ⊥) → IsTold (reading_response s what) response
 no_fault s what status old new response closed st (entry, tells, inl answered) put other = subst (λ (e : ResponseEntry). IsTold e response) answered.is.1 tells
@@ -81,7 +84,7 @@ module _ {S : Type 0} (state_of : Held S → State) (old new : OfficeValue S) (a
     clean = clean;
   }
 
-  read_told : (s : OfficeState) (what : Resource) (ending : Served) → TellsNoFault ending → asked ≡ reading what
+  read_told : (s : OfficeState) (what : Resource) (ending : Served) → IsNoFault ending → asked ≡ reading what
       → IsServed (λ response. Readies s asked response new.closed (state_of new.held)) (Some []) (Some answer) ending → IsRead s what answer
   read_told s what (Answered status) other same it = record {
     status = status;
@@ -95,8 +98,8 @@ module _ {S : Type 0} (state_of : Held S → State) (old new : OfficeValue S) (a
   read_told s what ReadFailed other same it = absurd other
   read_told s what WriteFailed other same it = absurd other
 
-  -- the answer that was sent is the one to the read
-  pub call_read : TellsNoFault served → (HasCleanDisk (state_of new.held) → old.closed ≡ false → (s : OfficeState) → IsAt s (state_of old.held)
+  -- the response that was sent is the response to the read
+  pub call_read : IsNoFault served → (HasCleanDisk (state_of new.held) → old.closed ≡ false → (s : OfficeState) → IsAt s (state_of old.held)
       → IsServed (λ response. Readies s asked response new.closed (state_of new.held)) (Some before) (Some after) served)
       → WhenOpenAt state_of old new (λ s. (what : Resource) → asked ≡ reading what → IsRead s what answer)
   call_read well serves = λ clean is_open s at what same.
@@ -108,7 +111,7 @@ module _ {S : Type 0} (state_of : Held S → State) (old new : OfficeValue S) (a
       → ChangesNothing asked → WhenOpenAt state_of old new (λ s. IsReadAt s new.closed (state_of new.held))
   call_only serves still = λ clean is_open s at. let it = serves clean is_open s at in only_read s asked it.response new.closed (state_of new.held) still it.ready
 
--- ---- a response that was put
+-- ---- a response that was written
 
 pub put_first : (response : Response) (answer before after : List ℕ) (served : Served) → before ≡ [] → answer ≡ after → IsPut (Some before) (Some after) response served
     → EndsIn answer (λ old new ending. IsPut old new response ending)
@@ -117,7 +120,7 @@ put_first response answer before after served is_before is_answer it = (
   subst (λ (a : List ℕ). IsPut (Some []) (Some a) response served) (sym is_answer) (subst (λ (b : List ℕ). IsPut (Some b) (Some after) response served) is_before it),
 )
 
--- it was the one to what was asked
+-- it was the response to the request
 pub put_answers : {S : Type 0} (state_of : Held S → State) (old new : OfficeValue S) (asked : HttpRequestEntry) (answer : List ℕ) (response : Response)
     → EndsIn answer (λ before after ending. IsPut before after response ending)
     → (HasCleanDisk (state_of new.held) → old.closed ≡ false → (s : OfficeState) → IsAt s (state_of old.held) → Readies s asked response new.closed (state_of new.held))
@@ -129,10 +132,10 @@ put_answers state_of old new asked answer response (served, put) answers told st
   clean = clean;
 }
 
--- ---- a client is served
+-- ---- a client was served
 
 module _ {S : Type 0} (settings : HttpSettingsEntry) (state_of : Held S → State) where
-  -- by the office
+  -- the client was served by the office
   pub served_anew : (old new : OfficeValue S) (kept later : MemoryEntry) (number moment : ℕ) (got : List ℕ) (asked : HttpRequestEntry) (answer : List ℕ) → Asks settings got asked
       → HasAnswered state_of old asked answer new → KeepsReads settings state_of (served_office old kept) got (served_office new later)
       → ServesClient settings state_of (served_office old kept) (record { listener = Clients; number = number; moment = moment; got = got; answer = answer }) (served_office new later)
@@ -147,7 +150,7 @@ module _ {S : Type 0} (settings : HttpSettingsEntry) (state_of : Held S → Stat
     clean = has.clean;
   }
 
-  -- memory ran out while the request was read, and the cache is empty
+  -- an allocation failed while the request was parsed, and the cache is empty
   pub served_none : (office : OfficeValue S) (kept later : MemoryEntry) (number moment : ℕ) (got answer : List ℕ) → later.reads ≡ [] → EndsIn answer (IsServed (IsWritten (fault_response 101)))
       → ServesClient settings state_of (served_office office kept) (record { listener = Clients; number = number; moment = moment; got = got; answer = answer }) (served_office office later)
   served_none office kept later number moment got answer none (served, it) = record {
@@ -176,7 +179,7 @@ module _ {S : Type 0} (settings : HttpSettingsEntry) (state_of : Held S → Stat
     },
   )
 
-  -- from what was kept
+  -- the client was served from the cache
   pub served_again : (office : OfficeValue S) (kept : MemoryEntry) (number moment : ℕ) (got : List ℕ) (what : Resource) (answer : List ℕ) (entry : ReadEntry)
       → office.closed ≡ false → Asks settings got (reading what)
       → Contains kept.reads entry → entry.what ≡ what → entry.answer ≡ answer
@@ -191,7 +194,7 @@ module _ {S : Type 0} (settings : HttpSettingsEntry) (state_of : Held S → Stat
     clean = λ clean. clean;
   }
 
-  -- and then a wrong code is noted
+  -- then a wrong code is counted
   pub noted_still : (old : ServedOffice S) (exchange : Exchange) (new : OfficeValue S) (kept later : MemoryEntry) → later.reads ≡ kept.reads
       → ServesClient settings state_of old exchange (served_office new kept)
       → ServesClient settings state_of old exchange (served_office new later)
@@ -202,18 +205,18 @@ module _ {S : Type 0} (settings : HttpSettingsEntry) (state_of : Held S → Stat
     clean = it.clean;
   }
 
-  -- ---- what is kept of it
+  -- ---- what is cached
 
   behind : (s : OfficeState) (gone kept : List ReadEntry) → AreReadAt s (gone ++ kept) → AreReadAt s kept
   behind s [] kept right = right
   behind s (one ∷ gone) kept right = behind s gone kept (λ place entry within. right (suc place) entry (omega (arith, within)))
 
-  -- nothing more is kept
+  -- nothing else is cached
   pub keeps_same : (old new : OfficeValue S) (kept : MemoryEntry) (got : List ℕ) (asked : HttpRequestEntry) → Asks settings got asked → ChangesNothing asked
       → WhenOpenAt state_of old new (λ s. IsReadAt s new.closed (state_of new.held)) → KeepsReads settings state_of (served_office old kept) got (served_office new kept)
   keeps_same old new kept got asked asks still only = inr ((asked, asks, still), λ clean is_open s at right. (right, only clean is_open s at))
 
-  -- this answer may be kept too, and the oldest were removed
+  -- the response may have been cached too, and the oldest ones were removed
   pub keeps_more : (old new : OfficeValue S) (kept later : MemoryEntry) (got : List ℕ) (what : Resource) (answer told : List ℕ) → told ≡ answer → Asks settings got (reading what)
       → WhenOpenAt state_of old new (λ s. IsRead s what answer) → WhenOpenAt state_of old new (λ s. IsReadAt s new.closed (state_of new.held))
       → (gone left : List ReadEntry) × (kept.reads ≡ gone ++ left) × ((later.reads ≡ left) ⊎ (later.reads ≡ left ++ record { what = what; answer = told } ∷ []))
@@ -233,6 +236,6 @@ module _ {S : Type 0} (settings : HttpSettingsEntry) (state_of : Held S → Stat
     ),
   )
 
--- nothing was sent yet
+-- nothing has been sent yet
 pub told_zero : {L : Type 0} (stream : Stream L) (now : L) (answer : List ℕ) (sent : ℕ) → sent ≡ 0 → HasTaken (stream.taken now) [] → IsSent stream now answer sent
 told_zero {L} stream now answer sent none fresh = subst (λ (n : ℕ). IsSent stream now answer n) (sym none) (record { within = omega arith; took = fresh })

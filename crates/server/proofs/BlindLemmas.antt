@@ -1,4 +1,4 @@
--- What a clerk is sent follows from what the clerk sees.
+-- What a clerk sees determines what the clerk is sent.
 use Rattle.std.proofs.Common.{◌≡◌, ◌∙◌, ◌∷◌, ◌++◌, ◌==◌, ◌&&◌, Bool, Err, List, [], Ok, Some, None, Option, ap, cond, false, inl, inr, refl, string_bytes, subst, sym, true, ℕ}
 use Rattle.std.proofs.lemmas.Bool.{both_ways, eq-eqb, eqb-true}
 use Rattle.std.specs.Str.{bytes_eq}
@@ -16,20 +16,22 @@ use Rattle.register.specs.declared.command.Request.{Request}
 use Rattle.register.specs.declared.keyings.KeyingCommand.{KeyingCommand}
 use Rattle.register.specs.declared.refusal.Reason.TheVariants.{BadId, IdUsed, NotItsClerk, NumberOutOfRange}
 use Rattle.laws.specs.Blindness.{AlikeOfficesAnswerAlike, SeenIsAlike, SeenIsObserved, asked as observes, observed_of, ruling_on, seen_after}
+use Rattle.store.specs.EarlierKeyings.{KeyedRoundEntry}
+use Rattle.store.proofs.EarlierLemmas.{earlier_seen}
 use Rattle.office.specs.Answers.{Told, told_of}
 use Rattle.office.specs.Reads.{found_or}
 use Rattle.connections.specs.declared.client.Listener.{Listener}
 use Rattle.connections.specs.declared.client.Listener.TheVariants.{Clients, Orders}
-use Rattle.wire.specs.Requests.{HttpRequestEntry, Asks, clerk_asked, console, denied, keying, order, reading, shown}
+use Rattle.wire.specs.Requests.{HttpRequestEntry, Asks, clerk_asked, console, denied, keying, order, public, reading, shown}
 use Rattle.wire.specs.Bodies.{KeyingEntry}
 use Rattle.wire.specs.Gates.{HttpSettingsEntry}
 use Rattle.wire.specs.Responses.{ResponseEntry}
-use Rattle.wire.specs.Serving.{IsHandedOn, IsPut, TellsAsked, TellsFor, paper_response, read_response, reading_response, told_response, work_response}
+use Rattle.wire.specs.Serving.{IsHandedOn, IsPut, TellsAsked, TellsFor, earlier_response, paper_response, read_response, reading_response, told_response, work_response}
 use Rattle.wire.specs.Told.{IsTold}
 use Rattle.wire.specs.declared.request_error.RequestError.{RequestError}
 use Rattle.wire.specs.declared.serving.Served.{Served}
 use Rattle.wire.specs.declared.target.Resource.{Resource}
-use Rattle.wire.specs.declared.target.Resource.TheVariants.{Candidates, Declaration, Office, Sheet, Work}
+use Rattle.wire.specs.declared.target.Resource.TheVariants.{Candidates, Declaration, Keyed, Office, Sheet, Work}
 use Rattle.wire.proofs.RequestLemmas.{AsksOneThing-all}
 use Rattle.server.specs.Blind.{AnswersAsSeen, RespondsBySeen, IsAnsweredBySeen, IsStoppedBySeen, IsUnder}
 use Rattle.server.specs.Settings.{ServerSettingsEntry}
@@ -37,22 +39,22 @@ use Rattle.server.specs.Exchanges.{AnswersInTurn, AsksNoOrder, IsAnsweredAt, IsC
 
 -- ---- requests under a clerk's number
 
--- such a request asks no order
+-- such a request isn't an order
 pub under_no_order : (settings : HttpSettingsEntry) (clerk : ℕ) (bytes : List ℕ) → IsUnder settings clerk bytes → AsksNoOrder settings bytes
 under_no_order settings clerk bytes under entry asks =
     let one : under.asked ≡ order entry = AsksOneThing-all settings bytes under.asked (order entry) under.asks asks in
     let bad : None ≡ Some clerk = sym (ap clerk_asked one) ∙ under.its in
     absurd (cc bad)
 
--- ---- what a request makes of a view
+-- ---- how a request changes a view
 
--- what an outcome tells doesn't hang on the state that it changes
+-- the reply in an outcome doesn't depend on the state that the outcome applies to
 told_anywhere : (s t : OfficeState) (ruling : Ruling) → told_of (outcome_at s ruling) ≡ told_of (outcome_at t ruling)
 told_anywhere s t (accepts change reply) = refl
 told_anywhere s t (keeps reply) = refl
 told_anywhere s t (refuses why) = refl
 
--- a request that isn't a clerk's keys nothing
+-- a keying that isn't from a clerk changes nothing
 none_keyed : (s : OfficeState) (actor : ℕ) (id : List ℕ) (c : KeyingCommand) → is_clerk actor ≡ false → state_after s (step s actor id (command.Keying c)) ≡ s
 unfolding step decided
 none_keyed s actor id c no_clerk = go (is_id id) (receipt_at s actor id)
@@ -62,7 +64,7 @@ none_keyed s actor id c no_clerk = go (is_id id) (receipt_at s actor id)
     go true (Some r) = elim (bytes_eq r.subject (subject_of (command.Keying c))) as (λ b. state_after s (outcome_at s (cond b (keeps r.reply) (refuses IdUsed))) ≡ s) [ true ↦ refl | false ↦ refl ]
     go true None = rw no_clerk refl
 
--- the office is no clerk
+-- the office isn't a clerk
 no_clerk : (actor : ℕ) → is_office actor ≡ true → is_clerk actor ≡ false
 no_clerk actor office = ap is_clerk (eqb-true actor 0 office)
 
@@ -74,7 +76,7 @@ no_office actor is = go (is_office actor) refl
     go false other = other
     go true office = absurd (both_ways (is_clerk actor) (no_clerk actor office) is)
 
--- one number
+-- numbers that are equal as options are equal
 some_same : (n m : ℕ) → Some n ≡ Some m → n ≡ m
 some_same n m is = ap of is
   where
@@ -96,13 +98,13 @@ module _ (itself : SeenIsAlike) (alike : AlikeOfficesAnswerAlike) (seen : SeenIs
       ((alike clerk s view good (itself clerk s)).decided (string_bytes r.id) r.command) in
       told_anywhere s view (ruling_on s r) ∙ ap (λ (ruling : Ruling). told_of (outcome_at view ruling)) same
 
-  -- it makes the next view
+  -- the clerk's own request leads to the next view
   own_seen : (s : OfficeState) (r : Request) → IsState s → r.actor ≡ clerk → seen_by clerk (after s (r ∷ [])) ≡ after (seen_by clerk s) (r ∷ [])
   own_seen s r state its =
       seen clerk s (r ∷ []) good state
       ∙ ap (λ (b : Bool). seen_after clerk (seen_by clerk s) (cond b (observes r ∷ []) (cond (is_office r.actor) (observed_of (ruling_on s r)) []) ++ [])) (eq-eqb r.actor clerk its)
 
-  -- another's keying leaves the view
+  -- another clerk's keying leaves the view unchanged
   other_seen : (s : OfficeState) (r : Request) (c : KeyingCommand) → IsState s → r.command ≡ command.Keying c → (r.actor == clerk) ≡ false → seen_by clerk (after s (r ∷ [])) ≡ seen_by clerk s
   other_seen s r c state keys other = go (is_office r.actor) refl
     where
@@ -126,7 +128,12 @@ module _ (itself : SeenIsAlike) (alike : AlikeOfficesAnswerAlike) (seen : SeenIs
       ap (λ (paper : Option BallotPaperEntry). read_response (paper_response batch) (cond (is_clerk clerk && is_batch_number batch) (found_or NotItsClerk paper) (Err NumberOutOfRange)))
       ((alike clerk s (seen_by clerk s) good (itself clerk s)).paper batch)
 
-  -- a clerk's reads are of what the clerk sees
+  keyed_seen : (s : OfficeState) (batch : ℕ) → reading_response s (Keyed clerk batch) ≡ reading_response (seen_by clerk s) (Keyed clerk batch)
+  keyed_seen s batch =
+      ap (λ (keyed : Option (Option KeyedRoundEntry)). read_response (earlier_response batch) (cond (is_clerk clerk && is_batch_number batch) (found_or NotItsClerk keyed) (Err NumberOutOfRange)))
+      (sym (earlier_seen s clerk batch))
+
+  -- a clerk reads only what the clerk sees
   read_seen : (s : OfficeState) (what : Resource) → clerk_asked (reading what) ≡ Some clerk → reading_response s what ≡ reading_response (seen_by clerk s) what
   read_seen s (Work n) its =
       let same : n ≡ clerk = some_same n clerk its in
@@ -134,14 +141,17 @@ module _ (itself : SeenIsAlike) (alike : AlikeOfficesAnswerAlike) (seen : SeenIs
   read_seen s (Candidates n batch) its =
       let same : n ≡ clerk = some_same n clerk its in
       subst (λ (m : ℕ). reading_response s (Candidates m batch) ≡ reading_response (seen_by clerk s) (Candidates m batch)) (sym same) (paper_seen s batch)
+  read_seen s (Keyed n batch) its =
+      let same : n ≡ clerk = some_same n clerk its in
+      subst (λ (m : ℕ). reading_response s (Keyed m batch) ≡ reading_response (seen_by clerk s) (Keyed m batch)) (sym same) (keyed_seen s batch)
   read_seen s (Sheet ward) its = absurd (cc its)
   read_seen s (Declaration ward) its = absurd (cc its)
   read_seen s (Office read) its = absurd (cc its)
 
-  -- ---- one turn
+  -- ---- one exchange
 
   module _ {S : Type 0} (state_of : Held S → State) (settings : ServerSettingsEntry) where
-    -- nothing was handed on
+    -- nothing was sent to the office
     nothing_sent : (s : OfficeState) (exchange : Exchange) (sent : List Request) → sent ≡ []
         → (IsUnder settings.clients clerk exchange.got → IsClientAnsweredAt settings (seen_by clerk s) exchange [])
         → ((why : RequestError) → Asks settings.clients exchange.got (denied why) → IsClientAnsweredAt settings (seen_by clerk s) exchange [])
@@ -150,7 +160,7 @@ module _ (itself : SeenIsAlike) (alike : AlikeOfficesAnswerAlike) (seen : SeenIs
         let same : seen_by clerk (after s sent) ≡ seen_by clerk s = ap (λ (rs : List Request). seen_by clerk (after s rs)) none in
         record { own = λ under. ([], answers under, same); denied = denies; other = λ not. same }
 
-    -- a keying was handed on, the clerk's own or another's
+    -- a keying was sent to the office, the clerk's own or another's
     keying_seen : (s : OfficeState) (exchange : Exchange) (served : Served) (n batch : ℕ) (entry : KeyingEntry) (request : Request) → IsState s → AsksNoOrder settings.clients exchange.got
         → Asks settings.clients exchange.got (keying n batch entry)
         → IsHandedOn n batch entry request → (response : _) → IsTold (told_response (told_of (step_of s request))) response → IsPut (Some []) (Some exchange.answer) response served
@@ -192,7 +202,7 @@ module _ (itself : SeenIsAlike) (alike : AlikeOfficesAnswerAlike) (seen : SeenIs
               other = λ not. other_seen s request handed.handed state handed.command apart;
             }
 
-    -- what a client asked was answered, which was no order
+    -- a client asked for something other than an order, and was answered
     asked_seen : (s : OfficeState) (exchange : Exchange) (sent : List Request) (served : Served) (asked : HttpRequestEntry) → IsState s → AsksNoOrder settings.clients exchange.got
         → Asks settings.clients exchange.got asked → (response : _)
         → TellsAsked s asked response sent → IsPut (Some []) (Some exchange.answer) response served
@@ -210,6 +220,16 @@ module _ (itself : SeenIsAlike) (alike : AlikeOfficesAnswerAlike) (seen : SeenIs
         inr (free, (served, record { response = response; ready = inl (console show, asks, (tells.0, refl)); put = put })) in
         nothing_sent s exchange sent tells.1 (λ under. answers) (λ why denies. answers)
     asked_seen s exchange sent served (order entry) state free asks response tells put = absurd (free entry asks)
+    asked_seen s exchange sent served (public its what) state free asks response tells put = nothing_sent s exchange sent tells.1 answers denies
+      where
+        answers : IsUnder settings.clients clerk exchange.got → IsClientAnsweredAt settings (seen_by clerk s) exchange []
+        answers under =
+            let one = AsksOneThing-all settings.clients exchange.got (public its what) under.asked asks under.asks in
+            let nobodys : None ≡ Some clerk = ap clerk_asked one ∙ under.its in
+            absurd (cc nobodys)
+
+        denies : (why : RequestError) → Asks settings.clients exchange.got (denied why) → IsClientAnsweredAt settings (seen_by clerk s) exchange []
+        denies why so = let bad : public its what ≡ denied why = AsksOneThing-all settings.clients exchange.got (public its what) (denied why) asks so in absurd (cc bad)
     asked_seen s exchange sent served (reading what) state free asks response tells put = nothing_sent s exchange sent tells.1 answers denies
       where
         answers : IsUnder settings.clients clerk exchange.got → IsClientAnsweredAt settings (seen_by clerk s) exchange []
@@ -249,7 +269,7 @@ module _ (itself : SeenIsAlike) (alike : AlikeOfficesAnswerAlike) (seen : SeenIs
         inr (seen_by clerk (after s answered), record { s = s; seen = refl; sent = answered; last = last; tells = it; made = refl })
     stop_seen Orders s exchange answered last it = (seen_by clerk (after s answered), record { s = s; seen = refl; sent = answered; last = last; tells = it; made = refl })
 
-    -- ---- one after the other
+    -- ---- one exchange after another
 
     pub all_seen : (states : (s : OfficeState) (rs : List Request) → IsState s → IsState (after s rs)) (s : OfficeState) (exchanges : List Exchange) (answered last : List Request) → IsState s
         → AnswersInTurn state_of settings s exchanges answered last → AnswersAsSeen state_of settings clerk (seen_by clerk s) exchanges

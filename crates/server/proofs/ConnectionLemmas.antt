@@ -1,4 +1,4 @@
--- All connections that were accepted, as others are accepted, serviced or closed.
+-- What happened to all accepted connections, as connections are accepted, serviced and closed.
 use Rattle.std.proofs.Common.{◌≡◌, ◌<◌, ◌≤◌, ◌+◌, ◌-◌, ◌∙◌, ◌⊎◌, ◌∷◌, ◌++◌, ◌==◌, ℕ, Bool, List, [], None, Option, Some, All, AllPairs, IsSomeAnd, cond}
 use Rattle.std.proofs.Common.{ap, append-nil, arith, drop, eq-eqb, get_or, inl, inr, length, length-set, map, ne_eqb, option_map, refl, remove, set, subst, sym, suc, take}
 use Rattle.std.proofs.lemmas.Bool.{cases_eq, cases_order}
@@ -17,13 +17,13 @@ use Rattle.connections.specs.Clients.{IsOf, IsServedSo, IsSent}
 use Rattle.connections.specs.declared.client.PendingResponse.{PendingResponse}
 use Rattle.connections.specs.declared.client.Client.{Client}
 use Rattle.connections.specs.declared.client.Accepted.{Accepted}
-use Rattle.server.specs.ServedConnections.{AreIn, ServedConnection, HasExchangeFor, HasLeft, IsGathered, IsIn, IsWhy, IsOpenConnection, HadExchange, AllHadExchanges, exchanges_of}
+use Rattle.server.specs.ServedConnections.{AreOpen, ServedConnection, HasExchangeFor, WasClosed, IsGathered, IsOpenUnder, IsWhy, IsOpenConnection, HadExchange, AllHadExchanges, exchanges_of}
 use Rattle.server.specs.Settings.{ServerSettingsEntry}
 use Rattle.connections.specs.Closing.{MayBeClosed}
 use Rattle.server.specs.Servicing.{answer_of}
 use Rattle.server.specs.Exchanges.{Exchange}
 
--- ---- the visits under a number
+-- ---- the exchanges with a given number
 
 pub none_under : (number : ℕ) (exchanges : List Exchange) → All (λ (v : Exchange). v.number ≡ number → ⊥) exchanges → exchanges_of number exchanges ≡ []
 none_under number [] others = refl
@@ -34,22 +34,22 @@ none_under number (v ∷ vs) others =
 pub one_under : (number : ℕ) (exchange : Exchange) → exchange.number ≡ number → exchanges_of number (exchange ∷ []) ≡ exchange ∷ []
 one_under number exchange is = ap (λ (b : Bool). cond b (exchange ∷ []) []) (eq-eqb exchange.number number is)
 
--- visits of others more
+-- more exchanges of other connections
 pub same_under : (number : ℕ) (exchanges more : List Exchange) → All (λ (v : Exchange). v.number ≡ number → ⊥) more → exchanges_of number (exchanges ++ more) ≡ exchanges_of number exchanges
 same_under number exchanges more others =
     filter-append (λ (v : Exchange). v.number == number) exchanges more ∙ ap (λ (vs : List Exchange). exchanges_of number exchanges ++ vs)
     (none_under number more others) ∙ append-nil (exchanges_of number exchanges)
 
--- one more exchange of a connection that had none
+-- the first exchange of a connection
 pub first_under : (number : ℕ) (exchanges : List Exchange) (exchange : Exchange) → exchanges_of number exchanges ≡ [] → exchange.number ≡ number
     → exchanges_of number (exchanges ++ exchange ∷ []) ≡ exchange ∷ []
 first_under number exchanges exchange none is =
     filter-append (λ (v : Exchange). v.number == number) exchanges (exchange ∷ []) ∙ ap (λ (vs : List Exchange). vs ++ exchanges_of number (exchange ∷ [])) none ∙ one_under number exchange is
 
 module _ {L : Type 0} (settings : ServerSettingsEntry) (stream : Stream L) where
-  -- ---- one client
+  -- ---- one connection
 
-  -- its course so far, by what was read of it and by its answer
+  -- what has happened to a connection so far, given its response and what was received from it
   pub went_so : (came : Accepted L) (now : L) (got : List ℕ) (answer : Option PendingResponse) (belongs : List Exchange) → IsServedSo stream came.stream now got answer
       → HasExchangeFor (option_map (λ (a : PendingResponse). a.bytes.items) answer) belongs
       → ((exchange : Exchange) → belongs ≡ exchange ∷ [] → IsGathered settings stream came exchange) → HadExchange settings stream (record { came = came; last = now }) belongs
@@ -62,14 +62,14 @@ module _ {L : Type 0} (settings : ServerSettingsEntry) (stream : Stream L) where
       → belongs ≡ exchange ∷ [] → IsGathered settings stream connection.came exchange
   gathered_for connection belongs exchange went is = let it = subst (λ (vs : List Exchange). HadExchange settings stream connection vs) is went in it.0
 
-  -- it is unchanged, whatever exchanges others had
+  -- a connection is unchanged, whatever exchanges others had
   stands_still : (exchanges more : List Exchange) (connection : ServedConnection L) (client : Client L) → All (λ (v : Exchange). v.number ≡ client.number → ⊥) more
       → IsOpenConnection stream exchanges connection client
       → IsOpenConnection stream (exchanges ++ more) connection client
   stands_still exchanges more connection client others it =
       record { listener = it.listener; last = it.last; own = it.own; belongs = subst (HasExchangeFor (answer_of client)) (sym (same_under client.number exchanges more others)) it.belongs }
 
-  -- ---- one was serviced
+  -- ---- a connection was serviced
 
   module _ (all_connections : List (ServedConnection L)) (exchanges more : List Exchange) (clients : List (Client L)) (place : ℕ) (old new : Client L)
       (within : place < length clients) (is : old ≡ get_or clients place old)
@@ -105,11 +105,11 @@ module _ {L : Type 0} (settings : ServerSettingsEntry) (stream : Stream L) where
     others : (k : ℕ) → (k ≡ old.number → ⊥) → All (λ (v : Exchange). v.number ≡ k → ⊥) more
     others k ne = All-weaker (λ (v : Exchange). v.number ≡ old.number) (λ (v : Exchange). v.number ≡ k → ⊥) (λ v is_his is_other. ne (sym is_other ∙ is_his)) more mine
 
-    -- which one it is, of those accepted
+    -- the connection in question, out of all that were accepted
     abbrev pub his_guest : ServedConnection L
     his_guest = get_or all_connections old.number (record { came = record { listener = old.listener; stream = old.stream }; last = old.stream })
 
-    -- all that were accepted, with its stream as it is now
+    -- all connections that were accepted, with the stream of the one in question as it is now
     abbrev pub all_now : List (ServedConnection L)
     all_now = set all_connections old.number (record { came = his_guest.came; last = new.stream })
 
@@ -130,7 +130,7 @@ module _ {L : Type 0} (settings : ServerSettingsEntry) (stream : Stream L) where
         ∙ ap (λ (c : Accepted L). set (map (λ (g : ServedConnection L). g.came) all_connections) old.number c) (sym came_at) ∙ set-get_or
         (map (λ (g : ServedConnection L). g.came) all_connections) old.number (record { listener = old.listener; stream = old.stream })
 
-    -- the course of all of them, given its own
+    -- what happened to all connections, given what happened to the one in question
     pub went_still : AllHadExchanges settings stream all_connections exchanges → HadExchange settings stream (record { came = his_guest.came; last = new.stream })
         (exchanges_of old.number (exchanges ++ more))
         → AllHadExchanges settings stream all_now (exchanges ++ more)
@@ -157,7 +157,7 @@ module _ {L : Type 0} (settings : ServerSettingsEntry) (stream : Stream L) where
     abbrev StandsIn : Client L → Type 0
     StandsIn c = (connection : ServedConnection L) → IsOpenConnection stream (exchanges ++ more) (get_or all_now c.number connection) c
 
-    -- the state of the open ones, given its own
+    -- the state of all open connections, given the state of the one in question
     pub stand_still : All (λ (c : Client L). (connection : ServedConnection L) → IsOpenConnection stream exchanges (get_or all_connections c.number connection) c) clients
         → IsOpenConnection stream (exchanges ++ more) (record { came = his_guest.came; last = new.stream }) new
         → All (λ (c : Client L). (connection : ServedConnection L) → IsOpenConnection stream (exchanges ++ more) (get_or all_now c.number connection) c) (set clients place new)
@@ -176,19 +176,20 @@ module _ {L : Type 0} (settings : ServerSettingsEntry) (stream : Stream L) where
             (λ connection. subst (λ (g : ServedConnection L). IsOpenConnection stream (exchanges ++ more) g (get_or clients k d)) (sym (at_other (get_or clients k d).number connection other))
             (stands_still exchanges more (get_or all_connections (get_or clients k d).number connection) (get_or clients k d) (others (get_or clients k d).number other) (stand k d at connection)))
 
-    -- each of the others is in or has left, as before
-    pub left_still : (gone : List (Removed L)) → ((k : ℕ) (d : ServedConnection L) → k < length all_connections → IsIn clients k ⊎ HasLeft stream gone exchanges k (get_or all_connections k d))
-        → (k : ℕ) (d : ServedConnection L) → k < length all_now → IsIn (set clients place new) k ⊎ HasLeft stream gone (exchanges ++ more) k (get_or all_now k d)
+    -- each of the other connections is still open, or had been closed before
+    pub left_still : (gone : List (Removed L))
+        → ((k : ℕ) (d : ServedConnection L) → k < length all_connections → IsOpenUnder clients k ⊎ WasClosed stream gone exchanges k (get_or all_connections k d))
+        → (k : ℕ) (d : ServedConnection L) → k < length all_now → IsOpenUnder (set clients place new) k ⊎ WasClosed stream gone (exchanges ++ more) k (get_or all_now k d)
     left_still gone left k d lt = by (cases_eq k old.number)
       where
-        in_still : IsIn clients k → IsIn (set clients place new) k
+        in_still : IsOpenUnder clients k → IsOpenUnder (set clients place new) k
         in_still is_in = record {
           place = is_in.place;
           within = omega (arith, is_in.within, length-set clients place new);
           belongs = λ c. number_kept is_in.place c ∙ is_in.belongs c;
         }
 
-        by : (k ≡ old.number) ⊎ (k ≡ old.number → ⊥) → IsIn (set clients place new) k ⊎ HasLeft stream gone (exchanges ++ more) k (get_or all_now k d)
+        by : (k ≡ old.number) ⊎ (k ≡ old.number → ⊥) → IsOpenUnder (set clients place new) k ⊎ WasClosed stream gone (exchanges ++ more) k (get_or all_now k d)
         by (inl e) = inl (record {
           place = place;
           within = omega (arith, within, length-set clients place new);
@@ -196,32 +197,33 @@ module _ {L : Type 0} (settings : ServerSettingsEntry) (stream : Stream L) where
         })
         by (inr ne) = either (left k d (omega (arith, lt, long)))
           where
-            either : IsIn clients k ⊎ HasLeft stream gone exchanges k (get_or all_connections k d) → IsIn (set clients place new) k ⊎ HasLeft stream gone (exchanges ++ more) k (get_or all_now k d)
+            either : IsOpenUnder clients k ⊎ WasClosed stream gone exchanges k (get_or all_connections k d)
+                → IsOpenUnder (set clients place new) k ⊎ WasClosed stream gone (exchanges ++ more) k (get_or all_now k d)
             either (inl is_in) = inl (in_still is_in)
-            either (inr it) = inr (subst (λ (x : ServedConnection L). HasLeft stream gone (exchanges ++ more) k x) (sym (at_other k d ne)) (record {
+            either (inr it) = inr (subst (λ (x : ServedConnection L). WasClosed stream gone (exchanges ++ more) k x) (sym (at_other k d ne)) (record {
               why = it.why;
               back = it.back;
               holds = subst (λ (vs : List Exchange). IsWhy stream it.why (get_or all_connections k d).last vs) (sym (same_under k exchanges more (others k ne))) it.holds;
             }))
 
-  -- ---- all of them
+  -- ---- all connections
 
   pub are_same : (all_connections : List (ServedConnection L)) (exchanges : List Exchange) (gone : List (Removed L)) (came came_then : ℕ) (clients clients_then : List (Client L))
       → came_then ≡ came → clients_then ≡ clients
-      → AreIn settings stream all_connections exchanges gone came clients → AreIn settings stream all_connections exchanges gone came_then clients_then
+      → AreOpen settings stream all_connections exchanges gone came clients → AreOpen settings stream all_connections exchanges gone came_then clients_then
   are_same all_connections exchanges gone came came_then clients clients_then same_came same_clients are =
-      subst (λ (n : ℕ). AreIn settings stream all_connections exchanges gone n clients_then) (sym same_came)
-      (subst (λ (cs : List (Client L)). AreIn settings stream all_connections exchanges gone came cs) (sym same_clients) are)
+      subst (λ (n : ℕ). AreOpen settings stream all_connections exchanges gone n clients_then) (sym same_came)
+      (subst (λ (cs : List (Client L)). AreOpen settings stream all_connections exchanges gone came cs) (sym same_clients) are)
 
-  -- one was serviced: all that were accepted are there as before, and so are the open ones
+  -- one connection was serviced: what holds for all accepted connections still holds, and so does what holds for the open ones
   pub one_went_on : (all_connections : List (ServedConnection L)) (exchanges more : List Exchange) (gone : List (Removed L)) (came : ℕ) (clients : List (Client L))
-      (place : ℕ) (old new : Client L) → AreIn settings stream all_connections exchanges gone came clients
+      (place : ℕ) (old new : Client L) → AreOpen settings stream all_connections exchanges gone came clients
       → place < length clients → old ≡ get_or clients place old → new.listener ≡ old.listener → new.number ≡ old.number → All (λ (v : Exchange). v.number ≡ old.number) more
       → ((connection : ServedConnection L) → IsOpenConnection stream exchanges connection old → HadExchange settings stream connection (exchanges_of old.number exchanges)
       → IsOf stream connection.came.stream new × HasExchangeFor (answer_of new) (exchanges_of old.number (exchanges ++ more))
       × ((exchange : Exchange) → exchanges_of old.number (exchanges ++ more) ≡ exchange ∷ [] → IsGathered settings stream connection.came exchange))
       → (all : List (ServedConnection L)) × (map (λ (g : ServedConnection L). g.came) all ≡ map (λ (g : ServedConnection L). g.came) all_connections)
-      × AreIn settings stream all (exchanges ++ more) gone came (set clients place new)
+      × AreOpen settings stream all (exchanges ++ more) gone came (set clients place new)
   one_went_on all_connections exchanges more gone came clients place old new are within is listener number mine goes =
       let here = get_or_read clients place old within is in
       let some_guest : ServedConnection L = record { came = record { listener = old.listener; stream = old.stream }; last = old.stream } in
@@ -247,7 +249,7 @@ module _ {L : Type 0} (settings : ServerSettingsEntry) (stream : Stream L) where
         },
       )
 
-  -- ---- one was accepted
+  -- ---- a connection was accepted
 
   abbrev pub with_one : List (ServedConnection L) → Accepted L → List (ServedConnection L)
   with_one all_connections start = all_connections ++ record { came = start; last = start.stream } ∷ []
@@ -255,7 +257,7 @@ module _ {L : Type 0} (settings : ServerSettingsEntry) (stream : Stream L) where
   one_longer : (all_connections : List (ServedConnection L)) (start : Accepted L) → length (with_one all_connections start) ≡ length all_connections + 1
   one_longer all_connections start = length_push all_connections (record { came = start; last = start.stream })
 
-  -- a new connection has had no exchange, and nothing was sent to it
+  -- a new connection has had no exchange, and nothing has been sent to it
   came_in : (all_connections : List (ServedConnection L)) (exchanges : List Exchange) (start : Accepted L) → AllHadExchanges settings stream all_connections exchanges
       → HasTaken (stream.taken start.stream) []
       → AllHadExchanges settings stream (with_one all_connections start) exchanges
@@ -291,21 +293,23 @@ module _ {L : Type 0} (settings : ServerSettingsEntry) (stream : Stream L) where
       subst (λ (g : ServedConnection L). IsOpenConnection stream exchanges g (get_or clients k d))
       (sym (get_or_append_left all_connections (record { came = start; last = start.stream } ∷ []) connection (get_or clients k d).number (known k d lt))) (stand k d lt connection)
 
-  -- a connection that was open or closed is so still
+  -- every other connection is still open, or still closed
   left_on : (all_connections : List (ServedConnection L)) (exchanges : List Exchange) (gone : List (Removed L)) (clients : List (Client L)) (start : Accepted L) (client : Client L)
       → client.number ≡ length all_connections
-      → ((k : ℕ) (d : ServedConnection L) → k < length all_connections → IsIn clients k ⊎ HasLeft stream gone exchanges k (get_or all_connections k d))
-      → (k : ℕ) (d : ServedConnection L) → k < length (with_one all_connections start) → IsIn (clients ++ client ∷ []) k ⊎ HasLeft stream gone exchanges k (get_or (with_one all_connections start) k d)
+      → ((k : ℕ) (d : ServedConnection L) → k < length all_connections → IsOpenUnder clients k ⊎ WasClosed stream gone exchanges k (get_or all_connections k d))
+      → (k : ℕ) (d : ServedConnection L) → k < length (with_one all_connections start) → IsOpenUnder (clients ++ client ∷ []) k
+      ⊎ WasClosed stream gone exchanges k (get_or (with_one all_connections start) k d)
   left_on all_connections exchanges gone clients start client at left k d lt = by (cases_eq k (length all_connections))
     where
-      in_still : IsIn clients k → IsIn (clients ++ client ∷ []) k
+      in_still : IsOpenUnder clients k → IsOpenUnder (clients ++ client ∷ []) k
       in_still is_in = record {
         place = is_in.place;
         within = omega (arith, is_in.within, length_push clients client);
         belongs = λ c. ap (λ (x : Client L). x.number) (get_or_append_left clients (client ∷ []) c is_in.place is_in.within) ∙ is_in.belongs c;
       }
 
-      by : (k ≡ length all_connections) ⊎ (k ≡ length all_connections → ⊥) → IsIn (clients ++ client ∷ []) k ⊎ HasLeft stream gone exchanges k (get_or (with_one all_connections start) k d)
+      by : (k ≡ length all_connections) ⊎ (k ≡ length all_connections → ⊥) → IsOpenUnder (clients ++ client ∷ []) k
+          ⊎ WasClosed stream gone exchanges k (get_or (with_one all_connections start) k d)
       by (inl e) = inl (record {
         place = length clients;
         within = omega (arith, length_push clients client);
@@ -313,18 +317,19 @@ module _ {L : Type 0} (settings : ServerSettingsEntry) (stream : Stream L) where
       })
       by (inr ne) = either (left k d (omega (arith, lt, ne, one_longer all_connections start)))
         where
-          either : IsIn clients k ⊎ HasLeft stream gone exchanges k (get_or all_connections k d)
-              → IsIn (clients ++ client ∷ []) k ⊎ HasLeft stream gone exchanges k (get_or (with_one all_connections start) k d)
+          either : IsOpenUnder clients k ⊎ WasClosed stream gone exchanges k (get_or all_connections k d)
+              → IsOpenUnder (clients ++ client ∷ []) k
+              ⊎ WasClosed stream gone exchanges k (get_or (with_one all_connections start) k d)
           either (inl is_in) = inl (in_still is_in)
           either (inr it) =
               let less : k < length all_connections = omega (arith, lt, ne, one_longer all_connections start) in
-              inr (subst (λ (x : ServedConnection L). HasLeft stream gone exchanges k x) (sym (get_or_append_left all_connections (record { came = start; last = start.stream } ∷ []) d k less)) it)
+              inr (subst (λ (x : ServedConnection L). WasClosed stream gone exchanges k x) (sym (get_or_append_left all_connections (record { came = start; last = start.stream } ∷ []) d k less)) it)
 
-  -- it was accepted
+  -- a connection was accepted
   pub one_entered : (all_connections : List (ServedConnection L)) (exchanges : List Exchange) (gone : List (Removed L)) (came : ℕ) (clients : List (Client L))
-      (start : Accepted L) (client : Client L) → AreIn settings stream all_connections exchanges gone came clients
+      (start : Accepted L) (client : Client L) → AreOpen settings stream all_connections exchanges gone came clients
       → HasTaken (stream.taken start.stream) [] → client.listener ≡ start.listener → client.stream ≡ start.stream → client.number ≡ came → client.answer ≡ None → IsOf stream start.stream client
-      → AreIn settings stream (with_one all_connections start) exchanges gone (came + 1) (clients ++ client ∷ [])
+      → AreOpen settings stream (with_one all_connections start) exchanges gone (came + 1) (clients ++ client ∷ [])
   one_entered all_connections exchanges gone came clients start client are fresh listener over number unanswered own =
       let at : client.number ≡ length all_connections = number ∙ sym are.count in
       let none : exchanges_of client.number exchanges ≡ [] =
@@ -346,9 +351,9 @@ module _ {L : Type 0} (settings : ServerSettingsEntry) (stream : Stream L) where
         left = left_on all_connections exchanges gone clients start client at are.left;
       }
 
-  -- ---- one left
+  -- ---- a connection was closed
 
-  -- a reason for which a client may leave holds of it
+  -- the reason for closing a client applies to it
   pub why_holds : (exchanges : List Exchange) (connection : ServedConnection L) (client : Client L) (why : CloseReason) → IsOpenConnection stream exchanges connection client
       → MayBeClosed stream why client → IsWhy stream why client.stream (exchanges_of client.number exchanges)
   why_holds exchanges connection client Broken stood may = may
@@ -374,13 +379,13 @@ module _ {L : Type 0} (settings : ServerSettingsEntry) (stream : Stream L) where
 
   module _ (clients : List (Client L)) (place : ℕ) (client : Client L) (within : place < length clients) (here : (d : Client L) → client ≡ get_or clients place d) where
     -- a connection at another place is still open
-    in_without : (k : ℕ) → (k ≡ client.number → ⊥) → IsIn clients k → IsIn (remove clients place) k
+    in_without : (k : ℕ) → (k ≡ client.number → ⊥) → IsOpenUnder clients k → IsOpenUnder (remove clients place) k
     in_without k ne is_in = by (cases_order is_in.place place)
       where
         fewer : length (remove clients place) + 1 ≡ length clients
         fewer = length-remove clients place within
 
-        by : (is_in.place ≡ place) ⊎ ((is_in.place < place) ⊎ (place < is_in.place)) → IsIn (remove clients place) k
+        by : (is_in.place ≡ place) ⊎ ((is_in.place < place) ⊎ (place < is_in.place)) → IsOpenUnder (remove clients place) k
         by (inl same) = absurd (ne (sym (is_in.belongs client) ∙ ap (λ (j : ℕ). (get_or clients j client).number) same ∙ sym (ap (λ (c : Client L). c.number) (here client))))
         by (inr (inl below)) = record {
           place = is_in.place;
@@ -399,9 +404,9 @@ module _ {L : Type 0} (settings : ServerSettingsEntry) (stream : Stream L) where
             before_again n less = omega (arith, less)
 
   pub one_left : (all_connections : List (ServedConnection L)) (exchanges : List Exchange) (gone : List (Removed L)) (came : ℕ) (clients : List (Client L))
-      (place : ℕ) (client : Client L) (why : CloseReason) → AreIn settings stream all_connections exchanges gone came clients
+      (place : ℕ) (client : Client L) (why : CloseReason) → AreOpen settings stream all_connections exchanges gone came clients
       → place < length clients → ((d : Client L) → client ≡ get_or clients place d) → MayBeClosed stream why client
-      → AreIn settings stream all_connections exchanges (gone ++ removed_of client why ∷ []) came (remove clients place)
+      → AreOpen settings stream all_connections exchanges (gone ++ removed_of client why ∷ []) came (remove clients place)
   one_left all_connections exchanges gone came clients place client why are within here may = record {
     count = are.count;
     went = are.went;
@@ -415,9 +420,9 @@ module _ {L : Type 0} (settings : ServerSettingsEntry) (stream : Stream L) where
       stood : (d : ServedConnection L) → IsOpenConnection stream exchanges (get_or all_connections client.number d) client
       stood d = subst (λ (c : Client L). IsOpenConnection stream exchanges (get_or all_connections c.number d) c) (sym (here client)) (are.stand place client within d)
 
-      by : (k : ℕ) (d : ServedConnection L) → (k ≡ client.number) ⊎ (k ≡ client.number → ⊥) → IsIn clients k ⊎ HasLeft stream gone exchanges k (get_or all_connections k d)
-          → IsIn (remove clients place) k ⊎ HasLeft stream (gone ++ removed_of client why ∷ []) exchanges k (get_or all_connections k d)
-      by k d (inl e) left = inr (subst (λ (j : ℕ). HasLeft stream (gone ++ removed_of client why ∷ []) exchanges j (get_or all_connections j d)) (sym e) (record {
+      by : (k : ℕ) (d : ServedConnection L) → (k ≡ client.number) ⊎ (k ≡ client.number → ⊥) → IsOpenUnder clients k ⊎ WasClosed stream gone exchanges k (get_or all_connections k d)
+          → IsOpenUnder (remove clients place) k ⊎ WasClosed stream (gone ++ removed_of client why ∷ []) exchanges k (get_or all_connections k d)
+      by k d (inl e) left = inr (subst (λ (j : ℕ). WasClosed stream (gone ++ removed_of client why ∷ []) exchanges j (get_or all_connections j d)) (sym e) (record {
         why = why;
         back = subst (λ (l : L). Contains (gone ++ removed_of client why ∷ []) (record { number = client.number; stream = l; why = why })) (sym (stood d).last)
             (Contains-push gone (removed_of client why));
@@ -427,8 +432,8 @@ module _ {L : Type 0} (settings : ServerSettingsEntry) (stream : Stream L) where
       by k d (inr ne) (inl is_in) = inl (in_without clients place client within here k ne is_in)
       by k d (inr ne) (inr it) = inr (record { why = it.why; back = Contains-append_left gone (removed_of client why ∷ []) _ it.back; holds = it.holds })
 
-  -- none was accepted yet
-  pub none_in : AreIn settings stream [] [] [] 0 []
+  -- no connection has been accepted yet
+  pub none_in : AreOpen settings stream [] [] [] 0 []
   none_in = record {
     count = refl;
     went = record { each = λ k d lt. absurd (omega (arith, lt)); known = λ k d lt. absurd (omega (arith, lt)) };

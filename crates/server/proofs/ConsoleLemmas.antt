@@ -1,4 +1,4 @@
--- An order of the console that has its turn, part by part.
+-- How an order from the console is processed, step by step.
 use Rattle.std.proofs.Common.{◌≡◌, ◌∙◌, ◌⊎◌, ◌&&◌, Bool, false, true, true≢false, ℕ, List, [], Some, ap, if◌then◌else◌, inl, inr, refl, subst, sym}
 use Rattle.std.specs.Str.{IsUtf8, is_utf8}
 use Rattle.std.proofs.lemmas.Str.{IsUtf8-from_is_utf8, is_utf8-from_IsUtf8}
@@ -12,7 +12,7 @@ use Rattle.desk.specs.declared.lines.Failure.TheVariants.{Office}
 use Rattle.wire.specs.ConsoleOrders.{ConsoleOrderEntry}
 use Rattle.wire.specs.Gates.{HttpSettingsEntry}
 use Rattle.wire.specs.Parsing.{IsParsed}
-use Rattle.wire.specs.Requests.{HttpRequestEntry, Asks, asked_by, console, denied, keying, order, reading, shown}
+use Rattle.wire.specs.Requests.{HttpRequestEntry, Asks, asked_by, console, denied, keying, order, public, reading, shown}
 use Rattle.wire.specs.Responses.{fault_response, order_response}
 use Rattle.wire.specs.Serving.{IsPut, IsServed}
 use Rattle.wire.specs.Told.{IsTold, IsWritten}
@@ -31,9 +31,9 @@ use Rattle.server.specs.declared.served_order.ServedOrder.TheVariants as asked
 use Rattle.server.proofs.AnswerLemmas.{noted_still, served_none}
 use Rattle.server.proofs.OrderLemmas.{follows_sent}
 
--- ---- what is asked
+-- ---- what is requested
 
--- an order is asked
+-- what is requested is an order
 abbrev pub is_order : HttpRequestEntry → Bool
 is_order (denied why) = false
 is_order (shown clerk show) = false
@@ -41,14 +41,15 @@ is_order (keying clerk batch entry) = false
 is_order (reading what) = false
 is_order (console show) = false
 is_order (order entry) = true
+is_order (public its what) = false
 
--- a request for anything else asks none
+-- a request for anything else isn't an order
 pub asks_no_order : (settings : HttpSettingsEntry) (got : List ℕ) (what : HttpRequestEntry) → Asks settings got what → is_order what ≡ false → AsksNoOrder settings got
 asks_no_order settings got what asks other entry its =
     let one : what ≡ order entry = AsksOneThing-all settings got what (order entry) asks its in
     true≢false (sym (ap is_order one) ∙ other)
 
--- what is asked is an order or not
+-- what is requested is an order, or it isn't
 asks_order_or_not : (settings : HttpSettingsEntry) (got : List ℕ) (what : HttpRequestEntry) → Asks settings got what
     → AsksNoOrder settings got ⊎ ((entry : ConsoleOrderEntry) × Asks settings got (order entry))
 asks_order_or_not settings got (denied why) asks = inl (asks_no_order settings got (denied why) asks refl)
@@ -57,16 +58,17 @@ asks_order_or_not settings got (keying clerk batch entry) asks = inl (asks_no_or
 asks_order_or_not settings got (reading what) asks = inl (asks_no_order settings got (reading what) asks refl)
 asks_order_or_not settings got (console show) asks = inl (asks_no_order settings got (console show) asks refl)
 asks_order_or_not settings got (order entry) asks = inr (entry, asks)
+asks_order_or_not settings got (public its what) asks = inl (asks_no_order settings got (public its what) asks refl)
 
--- whatever was parsed, something is asked
+-- something is requested, whatever was parsed
 asks_something : (settings : HttpSettingsEntry) (got : List ℕ) (head : Parsed) → IsParsed settings got head → (what : HttpRequestEntry) × Asks settings got what
 asks_something settings got (parsed.Head head) is = (asked_by settings is.found is.behind, inr (is.found, is.behind, is.begins, refl))
 asks_something settings got parsed.Partial is = (denied BadRequest, inl (is.none, refl))
 asks_something settings got parsed.Malformed is = (denied BadRequest, inl (none_came got is, refl))
 
--- ---- its two outputs
+-- ---- the two outputs of an order
 
--- both are UTF-8
+-- both outputs are UTF-8
 pub told_printed : (status : ℕ) (out err output errors : List ℕ) (response : Response) → output ≡ out → IsUtf8 out → errors ≡ err → IsUtf8 err
     → IsTold (order_response status output errors) response → IsTold (printed_response status out err) response
 told_printed status out err output errors response same text same_too text_too told =
@@ -74,7 +76,7 @@ told_printed status out err output errors response same text same_too text_too t
     (subst (λ (b : Bool). IsTold (if b then order_response status out err else fault_response 107) response) (sym (is_utf8-from_IsUtf8 err text_too))
     (subst (λ (o : List ℕ). IsTold (order_response status o err) response) same (subst (λ (e : List ℕ). IsTold (order_response status output e) response) same_too told)))
 
--- one of them isn't
+-- one of the outputs isn't UTF-8
 pub told_failed : (status : ℕ) (out err : List ℕ) (response : Response) → (IsUtf8 out → IsUtf8 err → ⊥) → IsWritten (fault_response 107) response → IsTold (printed_response status out err) response
 told_failed status out err response other told = by (is_utf8 out) (is_utf8 err) refl refl
   where
@@ -83,10 +85,10 @@ told_failed status out err response other told = by (is_utf8 out) (is_utf8 err) 
     by true false text text_too = inl told
     by false b text text_too = inl told
 
--- ---- it is followed
+-- ---- the order is carried out
 
 module _ {S : Type 0} (settings : ServerSettingsEntry) (state_of : Held S → State) where
-  -- and the response was written
+  -- the order was carried out, and the response was written
   pub console_followed : (old new : OfficeValue S) (got answer : List ℕ) (entry : ConsoleOrderEntry) (response : Response) → Asks settings.clients got (order entry)
       → FollowsEntry settings state_of old entry (λ cut page. HasPrinted cut page response) new → EndsIn answer (λ before after ending. IsPut before after response ending)
       → FollowsConsole settings state_of old got answer new
@@ -102,7 +104,7 @@ module _ {S : Type 0} (settings : ServerSettingsEntry) (state_of : Held S → St
     };
   }
 
-  -- memory ran out while it was read
+  -- an allocation failed while the order was read
   console_unread : (office : OfficeValue S) (got answer : List ℕ) (entry : ConsoleOrderEntry) → Asks settings.clients got (order entry) → EndsIn answer (IsServed (IsWritten (fault_response 101)))
       → FollowsConsole settings state_of office got answer office
   console_unread office got answer entry asks (served, it) =
@@ -134,7 +136,7 @@ module _ {S : Type 0} (settings : ServerSettingsEntry) (state_of : Held S → St
         };
       }
 
-  -- so it was for whatever was asked, and the cache is empty
+  -- an allocation failed while a request was read; the cache is empty afterwards
   pub unread_served : (office : OfficeValue S) (kept later : MemoryEntry) (number moment : ℕ) (got answer : List ℕ) (head : Parsed) → IsParsed settings.clients got head → later.reads ≡ []
       → EndsIn answer (IsServed (IsWritten (fault_response 101)))
       → ServesAsked settings state_of (served_office office kept) (record { listener = Clients; number = number; moment = moment; got = got; answer = answer }) (served_office office later)
@@ -145,7 +147,7 @@ module _ {S : Type 0} (settings : ServerSettingsEntry) (state_of : Held S → St
         | inr (entry, asks) ↦ inr (console_unread office got answer entry asks told, none)
       ]
 
-  -- and then a wrong code is noted
+  -- then a wrong code is counted
   pub noted_asked : (old : ServedOffice S) (exchange : Exchange) (new : OfficeValue S) (kept later : MemoryEntry) → later.reads ≡ kept.reads
       → ServesAsked settings state_of old exchange (served_office new kept) → ServesAsked settings state_of old exchange (served_office new later)
   noted_asked old exchange new kept later same (inl (free, it)) = inl (free, noted_still settings.clients state_of old exchange new kept later same it)

@@ -1,4 +1,4 @@
--- The output of an order, frame after frame.
+-- The output of an order, frame by frame.
 use Rattle.std.proofs.Common.{◌≡◌, ◌∙◌, ◌<◌, ◌^◌, ◌++◌, ◌⊎◌, Bool, false, true, ◌&&◌, cond, ℕ, List, [], None}
 use Rattle.std.proofs.Common.{Option, Some, ap, arith, drop, fold, inl, inr, length, length-append, refl, subst, sym, take}
 use Rattle.std.proofs.Common.{leb}
@@ -72,12 +72,12 @@ module _ {L : Type 0} (stream : Stream L) where
       (both quiet (within && has) ((bytes_eq-Decides (error_output_of o.answer.bytes.items) []).1 goes.quiet)
       (both within has (le-leb o.answer.sent (length o.answer.bytes.items) goes.told.within) (has_taken_by (stream.taken o.stream) (take o.answer.sent o.answer.bytes.items) goes.told.took)))
 
-  -- ---- what an outlet took
+  -- ---- what a sink accepted
 
   pub said_so : (o : FrameSink L) → IsGoingOut stream o.stream o.answer → said_through stream o ≡ Some (output_of o.answer.bytes.items)
   said_so o goes = ap (λ (b : Bool). cond b (Some (output_of o.answer.bytes.items)) None) (goes_by o goes)
 
-  -- it grows by what was said
+  -- what was accepted grows by what is written
   pub appends : (old new : FrameSink L) (bytes : List ℕ) → (IsGoingOut stream old.stream old.answer → IsGoingOut stream new.stream new.answer)
       → (IsGoingOut stream old.stream old.answer → output_of new.answer.bytes.items ≡ output_of old.answer.bytes.items ++ bytes) → Appends (said_through stream old) (said_through stream new) bytes
   appends old new bytes goes more = by (is_going_out stream old) refl
@@ -88,7 +88,7 @@ module _ {L : Type 0} (stream : Stream L) where
           let was = goes_from old is in
           subst (λ (t : Option (List ℕ)). Appends (Some (output_of old.answer.bytes.items)) t bytes) (sym (said_so new (goes was))) (more was)
 
-  -- it is as it was
+  -- what was accepted is unchanged
   pub keeps : (old new : FrameSink L) → (IsGoingOut stream old.stream old.answer → IsGoingOut stream new.stream new.answer) → new.answer.bytes.items ≡ old.answer.bytes.items
       → Keeps (said_through stream old) (said_through stream new)
   keeps old new goes same = by (is_going_out stream old) refl
@@ -97,7 +97,7 @@ module _ {L : Type 0} (stream : Stream L) where
       by false is = tt
       by true is = subst (λ (t : Option (List ℕ)). Keeps (Some (output_of old.answer.bytes.items)) t) (sym (said_so new (goes (goes_from old is)))) (ap output_of same)
 
-  -- what it took is all that was said, and that goes out so
+  -- the sink accepted everything that was written, and all of that is being sent
   pub said_from : (o : FrameSink L) (bytes : List ℕ) → said_through stream o ≡ Some bytes → IsGoingOut stream o.stream o.answer × (bytes ≡ output_of o.answer.bytes.items)
   said_from o bytes took = by (is_going_out stream o) refl took
     where
@@ -105,9 +105,9 @@ module _ {L : Type 0} (stream : Stream L) where
       by false is it = absurd (cc it)
       by true is it = (goes_from o is, cc it)
 
-  -- ---- one frame more
+  -- ---- another frame
 
-  -- the stream accepted more of it
+  -- the stream accepted more of the response
   pub out_more : (old new : L) (before after : PendingResponse) → Delivers stream old new before.bytes.items before.sent after.sent
       → after.bytes.items ≡ before.bytes.items → IsGoingOut stream old before
       → IsGoingOut stream new after
@@ -117,7 +117,7 @@ module _ {L : Type 0} (stream : Stream L) where
     told = subst (λ (bytes : List ℕ). IsSent stream new bytes after.sent) (sym same) (told_more stream old new before.bytes.items before.sent after.sent goes.told delivers);
   }
 
-  -- more was appended, of which the stream has accepted nothing yet
+  -- more was appended, none of which the stream has accepted yet
   told_still : (now : L) (before after : PendingResponse) (more : List ℕ) → after.bytes.items ≡ before.bytes.items ++ more → after.sent ≡ before.sent → IsSent stream now before.bytes.items before.sent
       → IsSent stream now after.bytes.items after.sent
   told_still now before after more put still told =
@@ -142,7 +142,7 @@ module _ {L : Type 0} (stream : Stream L) where
         says.output,
       )
 
-  -- more frames were appended, of which the stream has accepted nothing yet
+  -- more frames were appended, none of which the stream has accepted yet
   told_begun : (now : L) (before after : PendingResponse) → take (length before.bytes.items) after.bytes.items ≡ before.bytes.items → after.sent ≡ before.sent
       → IsSent stream now before.bytes.items before.sent
       → IsSent stream now after.bytes.items after.sent
@@ -150,7 +150,7 @@ module _ {L : Type 0} (stream : Stream L) where
       told_still now before after (drop (length before.bytes.items) after.bytes.items)
       (sym (take-append-drop (length before.bytes.items) after.bytes.items) ∙ ap (λ (front : List ℕ). front ++ drop (length before.bytes.items) after.bytes.items) begins) still told
 
-  -- frames for the error output were appended, and the last frame; or memory ran out before that
+  -- frames for the error output were appended, and then the last frame; or an allocation failed before that
   pub ended : (o : FrameSink L) (bytes : List ℕ) (status : ℕ) (err rest : List ℕ) (after : PendingResponse) → said_through stream o ≡ Some bytes → after.sent ≡ o.answer.sent
       → take (length o.answer.bytes.items) after.bytes.items ≡ o.answer.bytes.items → SaysMore o.answer.bytes.items after.bytes.items [] rest
       → ⊤ ⊎ ((rest ≡ err) × IsOver after.bytes.items status [])

@@ -1,4 +1,4 @@
--- What clients and orders that are processed one after the other leave of an office.
+-- What clients and orders, processed one after another, leave of an office.
 use Rattle.std.proofs.Common.{◌≡◌, ◌≤◌, ◌+◌, ◌∙◌, ◌⊎◌, ◌∷◌, ◌++◌, append_assoc, drop, true, ℕ, Bool, List, [], Some}
 use Rattle.std.proofs.Common.{arith, inl, inr, length, length-append, refl, sym, subst, suc, take, ap}
 use Rattle.std.specs.Prelude.{false}
@@ -17,7 +17,7 @@ use Rattle.store.specs.StateTables.{IsAt, LeavesState}
 use Rattle.office.specs.Answers.{IsMemoryOrStore, IsOpenAt, IsReadAt, told_of}
 use Rattle.office.specs.Values.{OfficeValue}
 use Rattle.office.proofs.RunLemmas.{beginning}
-use Rattle.wire.specs.Requests.{HttpRequestEntry, Asks, console, denied, keying, order, reading, shown}
+use Rattle.wire.specs.Requests.{HttpRequestEntry, Asks, console, denied, keying, order, public, reading, shown}
 use Rattle.wire.specs.Responses.{ResponseEntry, fault_response}
 use Rattle.wire.specs.Serving.{FaultLeaves, IsAnswered, IsServed, ReadiesFor, TellsAsked, TellsFault, TellsFor, told_response}
 use Rattle.wire.specs.Told.{IsTold, IsWritten}
@@ -29,31 +29,31 @@ use Rattle.desk.specs.Headline.{Course, IsDone}
 use Rattle.desk.specs.Pages.{Cut, Page}
 use Rattle.desk.proofs.KeptLemmas.{kept_done}
 use Rattle.desk.proofs.OpenLemmas.{after_next, open_done}
-use Rattle.server.specs.ServedOrders.{IsOrderOutcome, IsFramed, TellsOrder, TellsSo, folder_of}
-use Rattle.server.specs.ConsoleOrders.{IsInResponse, TellsConsole}
+use Rattle.server.specs.ServedOrders.{IsOrderOutcome, IsFramed, OrderPrints, PrintsAt, folder_of}
+use Rattle.server.specs.ConsoleOrders.{IsInResponse, ConsolePrints}
 use Rattle.wire.specs.Gates.{HttpSettingsEntry}
 use Rattle.server.specs.Reads.{AreReadAt, ServedOffice, IsRead, ReadEntry, with_none_kept}
 use Rattle.server.specs.Settings.{ServerSettingsEntry}
-use Rattle.server.specs.Exchanges.{AnswersInTurn, AreTurnedAway, AsksNoOrder, ChangesNothing, EndsSo, IsAnsweredAt, KeepsExchanges, IsKeptWaiting, IsLastFor, IsStoppedAt}
-use Rattle.server.specs.Exchanges.{IsToldClosed, IsSentAway, IsWithoutFile, KeepsReads, ServesAsked, ServesAt, ServesClient, ServesExchange, Exchange}
+use Rattle.server.specs.Exchanges.{AnswersInTurn, AreRefusedClosed, AsksNoOrder, ChangesNothing, EndsSo, IsAnsweredAt, KeepsExchanges, IsRateLimited, IsLastFor, IsStoppedAt}
+use Rattle.server.specs.Exchanges.{GetsClosedResponse, IsRejected, IsWithoutFile, KeepsReads, ServesAsked, ServesAt, ServesClient, ServesExchange, Exchange}
 use Rattle.desk.specs.declared.orders.Job.{Job}
 use Rattle.server.specs.declared.served_order.ServedOrder.{ServedOrder}
 use Rattle.server.specs.declared.served_order.ServedOrder.TheVariants as asked
 
--- after some of the requests: those that were answered, and at most one more
+-- the state after the first requests: those that were answered, and at most one other
 abbrev pub IsAfterSome : OfficeState → List Request → ℕ → OfficeState → Type 0
 IsAfterSome s rs n x = (k : ℕ) × (n ≤ k) × (k ≤ n + 1) × (k ≤ length rs) × (x ≡ after s (take k rs))
 
--- ---- one client in an open office
+-- ---- a client in an open office
 
 leaves_as : (st : State) (P Q : OfficeState → Type 0) → ((x : OfficeState) → P x → Q x) → LeavesState st P → LeavesState st Q
 leaves_as st P Q turns leaves trees may = let it = leaves trees may in (it.0, turns it.0 it.1, it.2)
 
--- a fault closed the office: a stop leaves the state before, or the one after the last request
+-- a fault closed the office: a stop leaves the state before, or the state after the last request
 abbrev ClosesAt : OfficeState → List Request → Bool → State → Type 0
 ClosesAt s last closed st = (closed ≡ true) × LeavesState st (IsAfterSome s last 0)
 
--- what an answer that is ready leaves: so much was handed on for it; or it tells a fault that closed the office
+-- what a request leaves once its response is ready: the given requests were sent to the office for it; or the response reports a fault that closed the office
 abbrev ReadyLeaves : HttpSettingsEntry → List ℕ → OfficeState → (List Request → Type 0) → Type 0 → Bool → State → Type 0
 ReadyLeaves settings bytes s Tells Fails closed st =
     ((sent : List Request) × Tells sent × IsOpenAt (after s sent) closed st) ⊎ ((last : List Request) × Fails × IsLastFor settings bytes last × ClosesAt s last closed st)
@@ -72,6 +72,8 @@ ready_answered settings bytes s (reading what) answer response closed st asks te
     inl ([], inl (reading what, asks, (subst (λ a. IsTold a response) it.is.1 tells, refl)), subst (λ x. IsOpenAt x closed st) it.is.0 it.open_at)
 ready_answered settings bytes s (console show) answer response closed st asks tells it =
     inl ([], inl (console show, asks, (subst (λ a. IsTold a response) it.is.1 tells, refl)), subst (λ x. IsOpenAt x closed st) it.is.0 it.open_at)
+ready_answered settings bytes s (public its what) answer response closed st asks tells it =
+    inl ([], inl (public its what, asks, (subst (λ a. IsTold a response) it.is.1 tells, refl)), subst (λ x. IsOpenAt x closed st) it.is.0 it.open_at)
 ready_answered settings bytes s (order entry) answer response closed st asks tells it =
     inl ([], inl (order entry, asks, (subst (λ a. IsTold a response) it.is.1 tells, refl)), subst (λ x. IsOpenAt x closed st) it.is.0 it.open_at)
 ready_answered settings bytes s (keying clerk batch entry) answer response closed st asks tells it =
@@ -83,7 +85,7 @@ ready_answered settings bytes s (keying clerk batch entry) answer response close
       subst (λ x. IsOpenAt x closed st) (next ∙ ap (state_after s) same) it.open_at,
     )
 
--- a failed allocation is reported as that
+-- a failed allocation is reported as such
 tells_memory : (fault : Fault) (response : _) → fault ≡ Memory → IsTold (fault_response (fault_number fault)) response → IsWritten (fault_response 101) response
 tells_memory fault response is tells = by (subst (λ (f : Fault). IsTold (fault_response (fault_number f)) response) is tells)
   where
@@ -91,7 +93,7 @@ tells_memory fault response is tells = by (subst (λ (f : Fault). IsTold (fault_
     by (inl written) = written
     by (inr written) = written
 
--- and one of the store, or of either, has its number
+-- and a failed allocation or a fault of the store is reported under its number
 tells_fault : (fault : Fault) (response : _) → IsMemoryOrStore fault → IsTold (fault_response (fault_number fault)) response → TellsFault response
 tells_fault fault response (inl memory) tells = inr (tells_memory fault response memory tells)
 tells_fault fault response (inr store) tells = subst (λ (f : Fault). IsTold (fault_response (fault_number f)) response) store tells
@@ -106,6 +108,13 @@ ready_failed settings bytes s (console show) fault response closed st asks tells
 ready_failed settings bytes s (order entry) fault response closed st asks tells leaves = absurd leaves
 ready_failed settings bytes s (reading what) fault response closed st asks tells (inl kept) = inl ([], inr (tells_memory fault response kept.memory tells, refl), kept.open_at)
 ready_failed settings bytes s (reading what) fault response closed st asks tells (inr shut) = inr (
+  [],
+  tells_fault fault response (inr shut.fault) tells,
+  inl refl,
+  (shut.is_closed, leaves_as st _ _ (before_last s []) shut.leaves),
+)
+ready_failed settings bytes s (public its what) fault response closed st asks tells (inl kept) = inl ([], inr (tells_memory fault response kept.memory tells, refl), kept.open_at)
+ready_failed settings bytes s (public its what) fault response closed st asks tells (inr shut) = inr (
   [],
   tells_fault fault response (inr shut.fault) tells,
   inl refl,
@@ -152,23 +161,23 @@ client_leaves settings s exchange closed st (served, it) = elim (ready_leaves se
   | inr (last, fails, is_last, closes) ↦ inr (last, (served, record { response = it.response; ready = fails; put = it.put }), is_last, closes)
 ]
 
--- ---- one order in an open office
+-- ---- an order in an open office
 
--- what an order that was followed leaves: the office is open at the state after what was answered; or it is closed, and a stop leaves that, or the state after
--- the next one
+-- what an order that was carried out leaves: the office is open in the state after what was answered; or it is closed, and a stop leaves that state or the state after
+-- the next request
 abbrev OrderLeaves : {S : Type 0} → (Held S → State) → Folder → OfficeState → ServedOrder → Cut → Page → Bool → State → Type 0
 OrderLeaves state_of folder s what cut page closed st =
-    ((sent : List Request) × (last : List Request) × TellsSo state_of folder s what cut page sent last × IsOpenAt (after s sent) closed st)
-    ⊎ ((sent : List Request) × (last : List Request) × TellsSo state_of folder s what cut page sent last × (closed ≡ true) × LeavesState st (IsAfterSome s (sent ++ last) (length sent)))
+    ((sent : List Request) × (last : List Request) × PrintsAt state_of folder s what cut page sent last × IsOpenAt (after s sent) closed st)
+    ⊎ ((sent : List Request) × (last : List Request) × PrintsAt state_of folder s what cut page sent last × (closed ≡ true) × LeavesState st (IsAfterSome s (sent ++ last) (length sent)))
 
 module _ {S : Type 0} (state_of : Held S → State) (folder : Folder) (s : OfficeState) where
-  -- nothing was sent, and the office is open at its state, or its store failed
-  none_sent : (what : ServedOrder) (cut : Cut) (page : Page) (closed : Bool) (st : State) → TellsSo state_of folder s what cut page [] [] → IsReadAt s closed st
+  -- nothing was sent, and the office is open in the same state, or its store failed
+  none_sent : (what : ServedOrder) (cut : Cut) (page : Page) (closed : Bool) (st : State) → PrintsAt state_of folder s what cut page [] [] → IsReadAt s closed st
       → OrderLeaves state_of folder s what cut page closed st
   none_sent what cut page closed st tells (inl open_at) = inl ([], [], tells, open_at)
   none_sent what cut page closed st tells (inr (is_closed, leaves)) = inr ([], [], tells, is_closed, leaves_as st _ _ (before_last s []) leaves)
 
-  -- a job was done
+  -- a job was carried out
   job_leaves : (old new : OfficeValue S) (job : Job) (cut : Cut) (page : Page) (requests : List Request) (answered : ℕ)
       → IsDone (state_of old.held) new.closed (state_of new.held) folder s job (record { requests = requests; answered = answered; page = page; cut = cut }) → (b : Bool) → new.closed ≡ b
       → OrderLeaves state_of folder s (asked.Do job) cut page new.closed (state_of new.held)
@@ -199,21 +208,21 @@ module _ {S : Type 0} (state_of : Held S → State) (folder : Folder) (s : Offic
   order_leaves old new (asked.Refused failure) cut page it = none_sent (asked.Refused failure) cut page new.closed (state_of new.held) (it.0, refl, refl) (inl it.1)
   order_leaves old new (asked.Misread fault) cut page it = none_sent (asked.Misread fault) cut page new.closed (state_of new.held) (it.0, refl, refl) (inl it.1)
 
--- ---- one after the other
+-- ---- one request after another
 
--- what a processed request leaves: its answer, the office, still open, and the cached answers, right at its state; or a fault closed it
+-- what a processed request leaves: its response, and the office, still open, with cached responses that are correct in its state; or a fault closed the office
 abbrev TurnLeaves : {S : Type 0} → Listener → (Held S → State) → ServerSettingsEntry → OfficeState → Exchange → List ReadEntry → Bool → State → Type 0
 TurnLeaves listener state_of settings s exchange reads closed st =
     ((sent : List Request) × IsAnsweredAt listener state_of settings s exchange sent × AreReadAt (after s sent) reads × IsOpenAt (after s sent) closed st)
     ⊎ ((answered : List Request) × (last : List Request) × IsStoppedAt listener state_of settings s exchange answered last × (closed ≡ true) × LeavesState st
     (IsAfterSome s (answered ++ last) (length answered)))
 
--- ---- what is kept of reads
+-- ---- cached reads
 
 none_read : (s : OfficeState) (reads : List ReadEntry) → reads ≡ [] → AreReadAt s reads
 none_read s reads none = subst (λ (rs : List ReadEntry). AreReadAt s rs) (sym none) (All-nil (λ (r : ReadEntry). IsRead s r.what r.answer))
 
--- for what changes nothing, nothing is handed on
+-- nothing is sent to the office for a request that changes nothing
 nothing_sent : (settings : HttpSettingsEntry) (s : OfficeState) (exchange : Exchange) (asked : HttpRequestEntry) (sent : List Request) → Asks settings exchange.got asked → ChangesNothing asked
     → EndsSo exchange (IsServed (TellsFor settings (Some exchange.got) s sent)) → sent ≡ []
 nothing_sent settings s exchange asked sent asks still (served, it) = by it.ready
@@ -224,6 +233,7 @@ nothing_sent settings s exchange asked sent asks still (served, it) = by it.read
     of (shown clerk show) is tells = tells.1
     of (keying clerk batch entry) is tells = absurd (subst ChangesNothing (sym is) still)
     of (console show) is tells = tells.1
+    of (public its what) is tells = tells.1
     of (order entry) is tells = absurd (subst ChangesNothing (sym is) still)
 
     by : TellsFor settings (Some exchange.got) s sent it.response → sent ≡ []
@@ -231,13 +241,13 @@ nothing_sent settings s exchange asked sent asks still (served, it) = by it.read
     by (inr (fault, none)) = none
 
 module _ {S : Type 0} (settings : ServerSettingsEntry) (state_of : Held S → State) where
-  -- a client that must wait leaves all unchanged
+  -- a client that must wait leaves everything unchanged
   stays_clean : (old new : ServedOffice S) → new ≡ old → HasCleanDisk (state_of new.office.held) → HasCleanDisk (state_of old.office.held)
   stays_clean old new stays clean = subst (λ (d : ServedOffice S). HasCleanDisk (state_of d.office.held)) stays clean
 
-  -- a client that is rejected gets that response, and all is unchanged
-  turned_back : (exchange : Exchange) (old new : ServedOffice S) → IsKeptWaiting settings.clients old exchange new ⊎ IsWithoutFile settings old exchange new
-      → IsSentAway settings exchange × (new ≡ old)
+  -- a client that is turned away gets a response saying so, and everything is unchanged
+  turned_back : (exchange : Exchange) (old new : ServedOffice S) → IsRateLimited settings.clients old exchange new ⊎ IsWithoutFile settings old exchange new
+      → IsRejected settings exchange × (new ≡ old)
   turned_back exchange old new (inl waits) = (inl waits.told, waits.stays)
   turned_back exchange old new (inr gone) = (inr (gone.told, gone.unknown), gone.stays)
 
@@ -246,9 +256,9 @@ module _ {S : Type 0} (settings : ServerSettingsEntry) (state_of : Held S → St
   asked_clean exchange old new (inl (free, it)) clean = it.clean clean
   asked_clean exchange old new (inr (it, emptied)) clean = it.follows.tells.clean clean
 
-  -- a client that is let in finds the office closed
+  -- a client that is admitted finds the office closed
   asked_away : (exchange : Exchange) (old new : ServedOffice S) → ServesAsked settings state_of old exchange new
-      → old.office.closed ≡ true → IsToldClosed Clients settings exchange × (new.office ≡ old.office)
+      → old.office.closed ≡ true → GetsClosedResponse Clients settings exchange × (new.office ≡ old.office)
   asked_away exchange old new (inl (free, it)) closed = let (told, stays) = it.turned_away closed in (inl (inr (free, told)), stays)
   asked_away exchange old new (inr (it, emptied)) closed =
       let had = it.follows.tells in
@@ -272,14 +282,14 @@ module _ {S : Type 0} (settings : ServerSettingsEntry) (state_of : Held S → St
   clean_at Orders exchange old new it clean = it.0.tells.clean clean
 
   away_at : (listener : Listener) (exchange : Exchange) (old new : ServedOffice S) → ServesAt listener settings state_of old exchange new
-      → old.office.closed ≡ true → IsToldClosed listener settings exchange × (new.office ≡ old.office)
+      → old.office.closed ≡ true → GetsClosedResponse listener settings exchange × (new.office ≡ old.office)
   away_at Clients exchange old new (inl it) closed = let back = turned_back exchange old new it in (inl (inl back.0), ap (λ (d : ServedOffice S). d.office) back.1)
   away_at Clients exchange old new (inr it) closed = asked_away exchange old new it.serves closed
   away_at Orders exchange old new (it, emptied, same) closed =
       let (page, stays) = it.tells.turned_away closed in
       (record { files = it.files; asked = it.asked; is = it.is; cut = it.tells.cut; told = subst (λ (p : Page). IsFramed it.tells.cut p exchange.answer) page it.tells.told }, stays)
 
-  -- what is cached after a served client is right at the state after it
+  -- what is cached after a client has been served is correct in the state that its request leaves
   kept_right : (s : OfficeState) (exchange : Exchange) (old new : ServedOffice S) → ServesClient settings.clients state_of old exchange new
       → HasCleanDisk (state_of new.office.held) → old.office.closed ≡ false
       → IsAt s (state_of old.office.held) → AreReadAt s old.kept.reads → (sent : List Request) → EndsSo exchange (IsServed (TellsFor settings.clients (Some exchange.got) s sent))
@@ -292,7 +302,7 @@ module _ {S : Type 0} (settings : ServerSettingsEntry) (state_of : Held S → St
           let still = keeps clean is_open s at right in
           subst (λ (rs : List Request). AreReadAt (after s rs) new.kept.reads) (sym (nothing_sent settings.clients s exchange asked sent asks nothing told)) still.0
 
-  -- a client that asks no order was served
+  -- a client that sends no order was served
   served_leaves : (s : OfficeState) (exchange : Exchange) (old new : ServedOffice S) → AsksNoOrder settings.clients exchange.got → ServesClient settings.clients state_of old exchange new
       → HasCleanDisk (state_of new.office.held) → old.office.closed ≡ false
       → IsAt s (state_of old.office.held) → AreReadAt s old.kept.reads → TurnLeaves Clients state_of settings s exchange new.kept.reads new.office.closed (state_of new.office.held)
@@ -302,7 +312,7 @@ module _ {S : Type 0} (settings : ServerSettingsEntry) (state_of : Held S → St
         | inr (last, ends, is_last, (is_closed, leaves)) ↦ inr ([], last, inl (record { no_order = free; told = ends; none = refl; is_last = is_last }), is_closed, leaves)
       ]
 
-  -- so it was, or its order was followed
+  -- such a client was served, or a client's order was carried out
   asked_leaves : (s : OfficeState) (exchange : Exchange) (old new : ServedOffice S) → ServesAsked settings state_of old exchange new
       → HasCleanDisk (state_of new.office.held) → old.office.closed ≡ false
       → IsAt s (state_of old.office.held) → AreReadAt s old.kept.reads → TurnLeaves Clients state_of settings s exchange new.kept.reads new.office.closed (state_of new.office.held)
@@ -310,8 +320,8 @@ module _ {S : Type 0} (settings : ServerSettingsEntry) (state_of : Held S → St
   asked_leaves s exchange old new (inr (it, emptied)) clean is_open at right =
       let had = it.follows in
       let told = had.tells in
-      let tells : (sent last : List Request) → TellsSo state_of (folder_of had.files) s had.asked told.cut told.page sent last
-      → TellsConsole state_of settings s exchange.got exchange.answer sent last =
+      let tells : (sent last : List Request) → PrintsAt state_of (folder_of had.files) s had.asked told.cut told.page sent last
+      → ConsolePrints state_of settings s exchange.got exchange.answer sent last =
       λ sent last so. record {
         entry = it.entry;
         asks = it.asks;
@@ -338,7 +348,7 @@ module _ {S : Type 0} (settings : ServerSettingsEntry) (state_of : Held S → St
   turn_leaves Clients s exchange old new (inr it) clean is_open at right = asked_leaves s exchange old new it.serves clean is_open at right
   turn_leaves Orders s exchange old new (it, emptied, same) clean is_open at right =
       let told = it.tells in
-      let tells : (sent last : List Request) → TellsSo state_of (folder_of it.files) s it.asked told.cut told.page sent last → TellsOrder state_of settings s exchange.got exchange.answer sent last =
+      let tells : (sent last : List Request) → PrintsAt state_of (folder_of it.files) s it.asked told.cut told.page sent last → OrderPrints state_of settings s exchange.got exchange.answer sent last =
       λ sent last so. record { files = it.files; asked = it.asked; is = it.is; cut = told.cut; page = told.page; told = told.told; tells = so } in
       elim (order_leaves state_of (folder_of it.files) s old.office new.office it.asked told.cut told.page (told.does clean is_open s at)) [
         | inl (sent, last, so, open_at) ↦ inl (sent, (last, tells sent last so), none_read (after s sent) new.kept.reads emptied, open_at)
@@ -351,14 +361,14 @@ module _ {S : Type 0} (settings : ServerSettingsEntry) (state_of : Held S → St
   cleans (exchange ∷ exchanges) old new (mid, step, rest) clean = clean_at exchange.listener exchange old mid step (cleans exchanges mid new rest clean)
 
   pub turned_away : (exchanges : List Exchange) (old new : ServedOffice S) → FoldsTo (ServesExchange settings state_of) old exchanges new
-      → old.office.closed ≡ true → AreTurnedAway settings exchanges × (new.office ≡ old.office)
+      → old.office.closed ≡ true → AreRefusedClosed settings exchanges × (new.office ≡ old.office)
   turned_away [] old new same closed = (tt, sym (ap (λ (o : ServedOffice S). o.office) same))
   turned_away (exchange ∷ exchanges) old new (mid, step, rest) closed =
       let (away, stays) = away_at exchange.listener exchange old mid step closed in
       let others = turned_away exchanges mid new rest (ap (λ (o : OfficeValue S). o.closed) stays ∙ closed) in
       ((away, others.0), others.1 ∙ stays)
 
-  -- what is cached of those that are processed from a state on
+  -- what is kept of exchanges that are processed from a given state on
   pub record Keeps (s : OfficeState) (exchanges : List Exchange) (closed : Bool) (st : State) : Type 0 where
     pub answered : List Request
     pub last : List Request
@@ -372,7 +382,7 @@ module _ {S : Type 0} (settings : ServerSettingsEntry) (state_of : Held S → St
       let more = behind (after_one s r) sent rest n x it in
       (suc more.0, omega (arith, more.1), omega (arith, more.2), omega (arith, more.3), more.4)
 
-  -- one was answered, and the others follow
+  -- one exchange was answered, and the others follow
   goes_on : (s : OfficeState) (sent : List Request) (exchange : Exchange) (exchanges : List Exchange) (closed : Bool) (st : State) → (others : Keeps (after s sent) exchanges closed st)
       → AnswersInTurn state_of settings s (exchange ∷ exchanges) (sent ++ others.answered) others.last → Keeps s (exchange ∷ exchanges) closed st
   goes_on s sent exchange exchanges closed st others in_turn = record {
@@ -387,7 +397,7 @@ module _ {S : Type 0} (settings : ServerSettingsEntry) (state_of : Held S → St
         others.leaves;
   }
 
-  -- the office is closed since then
+  -- the office has been closed since then
   shut : (s : OfficeState) (answered last : List Request) (exchanges : List Exchange) (closed : Bool) (st : State) → closed ≡ true → AnswersInTurn state_of settings s exchanges answered last
       → LeavesState st (IsAfterSome s (answered ++ last) (length answered)) → Keeps s exchanges closed st
   shut s answered last exchanges closed st is_closed in_turn leaves = record {
@@ -421,7 +431,7 @@ module _ {S : Type 0} (settings : ServerSettingsEntry) (state_of : Held S → St
             (shut s answered last (exchange ∷ exchanges) mid.office.closed (state_of mid.office.held) is_closed (inr (stopped, away.0)) leaves)
       ]
 
-  -- the same after earlier requests, where no answer is kept yet
+  -- the same after earlier requests, with an empty cache
   pub kept_of : (earlier : List Request) (exchanges : List Exchange) (old : OfficeValue S) (new : ServedOffice S)
       → FoldsTo (ServesExchange settings state_of) (with_none_kept old) exchanges new
       → HasCleanDisk (state_of new.office.held) → old.closed ≡ false → IsAt (after empty_office earlier) (state_of old.held)

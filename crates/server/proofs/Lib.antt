@@ -1,4 +1,4 @@
--- The lemmas, by subject.
+-- The lemmas, by topic.
 pub mod WordLemmas
 pub mod FrameSinkLemmas
 pub mod ReadLemmas

@@ -1,4 +1,4 @@
--- An order that has its turn, part by part.
+-- How an order is processed, step by step.
 use Rattle.std.proofs.Common.{◌≡◌, ◌∙◌, ◌⊎◌, ◌∷◌, true, false, true≢false, ℕ, List, [], None, Bor, Option, Some, ap, drop, inl, inr, map, refl, subst, sym}
 use Rattle.std.specs.Io.KnownBytes.{Appends}
 use Rattle.std.specs.List.{list_all}
@@ -19,7 +19,7 @@ use Rattle.order_protocol.specs.declared.order_message.MessagePart.{MessagePart}
 use Rattle.order_protocol.proofs.MessageParts.{handed_again}
 use Rattle.desk.specs.Pages.{Cut, IsShown, Outputs, Page, Shows, Tells, cut_behind, cut_error, uncut}
 use Rattle.desk.specs.declared.lines.Failure.TheVariants.{Office}
-use Rattle.server.specs.ServedOrders.{AsksSo, Follows, IsOrderOutcome, FollowsOrder, IsForFile, IsMessage, IsUnread, IsResponseToOrder, folder_of, shut_page, untold, words_in}
+use Rattle.server.specs.ServedOrders.{AsksSo, Follows, IsOrderOutcome, FollowsOrder, IsForFile, IsMessage, IsUnread, IsResponseToOrder, folder_of, closed_office_page, untold, words_in}
 use Rattle.server.specs.FrameSinks.{IsEnded}
 use Rattle.server.specs.Settings.{ServerSettingsEntry}
 use Rattle.server.specs.declared.served_order.ServedOrder.{ServedOrder}
@@ -28,7 +28,7 @@ use Rattle.server.specs.declared.server_settings.FileNumbers.{FileNumbers}
 
 -- ---- what is sent
 
--- two outputs that took nothing yet
+-- neither output has accepted anything yet
 pub none_told : (o : Outputs) → o.out ≡ Some [] → o.out_failed ≡ 0 → o.err ≡ Some [] → o.err_failed ≡ 0 → o ≡ untold
 none_told o out out_failed err err_failed =
     ap (λ (x : Option (List ℕ)). record { out = x; out_failed = o.out_failed; err = o.err; err_failed = o.err_failed }) out
@@ -40,17 +40,17 @@ taken_known : (new : Option (List ℕ)) (bytes : List ℕ) → Appends (Some [])
 taken_known None bytes it = absurd it
 taken_known (Some said) bytes it = (said, refl)
 
--- however far a page was printed, it is known what the output accepted
+-- what the output accepted is known, however much of a page was printed
 shown_said : (cut : Cut) (told : Outputs) (page : Page) (status : ℕ) → IsShown cut untold told page status → (said : List ℕ) × (told.out ≡ Some said)
 shown_said uncut told page status it = taken_known told.out page.out it.out
 shown_said (cut_behind took) told page status it = taken_known told.out took it.out
 shown_said cut_error told page status it = taken_known told.out page.out it.out
 
--- what is asked had its turn, and so much of its page was sent so
+-- the request was carried out, and this part of its page was sent this way
 pub follows_asked : {S : Type 0} (state_of : Held S → State) (old new : OfficeValue S) (files : List MessagePartEntry) (what : ServedOrder) (before after : Outputs) (status : ℕ)
     (IsSent : Cut → Page → Type 0) → before ≡ untold → ((cut : Cut) (page : Page) → IsShown cut untold after page status → IsSent cut page)
     → Tells before after status (λ cut page. WhenOpenAt state_of old new (λ s. IsOrderOutcome (state_of old.held) new.closed (state_of new.held) (folder_of files) s what cut page)
-    × (old.closed ≡ true → page ≡ shut_page what)) → (old.closed ≡ true → new ≡ old) → (HasCleanDisk (state_of new.held) → HasCleanDisk (state_of old.held))
+    × (old.closed ≡ true → page ≡ closed_office_page what)) → (old.closed ≡ true → new ≡ old) → (HasCleanDisk (state_of new.held) → HasCleanDisk (state_of old.held))
     → Follows state_of old files what IsSent new
 follows_asked {S} state_of old new files what before after status IsSent start sends it stays clean = record {
   cut = it.cut;
@@ -61,7 +61,7 @@ follows_asked {S} state_of old new files what before after status IsSent start s
   clean = clean;
 }
 
--- the same, sent in another way
+-- the request was carried out, and its page was sent another way
 pub follows_sent : {S : Type 0} (state_of : Held S → State) (old new : OfficeValue S) (files : List MessagePartEntry) (what : ServedOrder) (IsSent IsSentToo : Cut → Page → Type 0)
     → ((cut : Cut) (page : Page) → IsSent cut page → IsSentToo cut page) → Follows state_of old files what IsSent new → Follows state_of old files what IsSentToo new
 follows_sent {S} state_of old new files what IsSent IsSentToo turns it = record {
@@ -73,12 +73,12 @@ follows_sent {S} state_of old new files what IsSent IsSentToo turns it = record 
   clean = it.clean;
 }
 
--- what is asked was processed, and its page was sent in frames
+-- the request was processed, and its page was sent in frames
 pub tells_asked : {L S : Type 0} (stream : Stream L) (state_of : Held S → State) (old new : OfficeValue S) (files : List MessagePartEntry) (what : ServedOrder)
     (before after : Outputs) (status : ℕ) (err : List ℕ)
     (now : L) (answer : PendingResponse) → before ≡ untold → after.err ≡ Some err → ((said : List ℕ) → after.out ≡ Some said → IsEnded stream said status err now answer)
     → Tells before after status (λ cut page. WhenOpenAt state_of old new (λ s. IsOrderOutcome (state_of old.held) new.closed (state_of new.held) (folder_of files) s what cut page)
-    × (old.closed ≡ true → page ≡ shut_page what)) → (old.closed ≡ true → new ≡ old) → (HasCleanDisk (state_of new.held) → HasCleanDisk (state_of old.held))
+    × (old.closed ≡ true → page ≡ closed_office_page what)) → (old.closed ≡ true → new ≡ old) → (HasCleanDisk (state_of new.held) → HasCleanDisk (state_of old.held))
     → IsResponseToOrder state_of old files what answer.bytes.items new × IsSent stream now answer.bytes.items answer.sent
 tells_asked {L} {S} stream state_of old new files what before after status err now answer start is_err ends it stays clean =
     let shown : IsShown it.cut untold after it.page status = subst (λ (o : Outputs). IsShown it.cut o after it.page status) start it.shown in
@@ -97,27 +97,27 @@ tells_asked {L} {S} stream state_of old new files what before after status err n
 
 -- the page of a closed office
 pub tells_shut : {S : Type 0} (state_of : Held S → State) (office : OfficeValue S) (files : List MessagePartEntry) (what : ServedOrder) (before after : Outputs) (status : ℕ) → office.closed ≡ true
-    → Shows before after (shut_page what) status
+    → Shows before after (closed_office_page what) status
     → Tells before after status (λ cut page. WhenOpenAt state_of office office (λ s. IsOrderOutcome (state_of office.held) office.closed (state_of office.held) (folder_of files) s what cut page)
-    × (office.closed ≡ true → page ≡ shut_page what))
+    × (office.closed ≡ true → page ≡ closed_office_page what))
 tells_shut {S} state_of office files what before after status closed shows = record {
-  page = shut_page what;
+  page = closed_office_page what;
   cut = shows.0;
   shown = shows.1;
   is = (λ clean is_open s at. absurd (true≢false (sym closed ∙ is_open)), λ was. refl);
 }
 
--- the page of an open one
+-- the page of an open office
 pub tells_open : {S : Type 0} (state_of : Held S → State) (old new : OfficeValue S) (files : List MessagePartEntry) (what : ServedOrder) (before after : Outputs) (status : ℕ) → old.closed ≡ false
     → Tells before after status (λ cut page. WhenOpenAt state_of old new (λ s. IsOrderOutcome (state_of old.held) new.closed (state_of new.held) (folder_of files) s what cut page))
     → Tells before after status (λ cut page. WhenOpenAt state_of old new (λ s. IsOrderOutcome (state_of old.held) new.closed (state_of new.held) (folder_of files) s what cut page)
-    × (old.closed ≡ true → page ≡ shut_page what))
+    × (old.closed ≡ true → page ≡ closed_office_page what))
 tells_open {S} state_of old new files what before after status is_open it =
     record { page = it.page; cut = it.cut; shown = it.shown; is = (it.is, λ closed. absurd (true≢false (sym closed ∙ is_open))) }
 
--- ---- what is asked
+-- ---- what is requested
 
--- a message spells one order
+-- a message encodes only one order
 same_order : (got : List ℕ) (one other : OrderMessageEntry) → IsMessage got one → IsMessage got other → one ≡ other
 same_order got one other is too = let same = sym (handed_again one is.fits) ∙ ap order_message_in (sym is.is ∙ too.is) ∙ handed_again other too.fits in cc same
 
@@ -129,11 +129,11 @@ names (p ∷ ps) = ap (λ (ns : List (List ℕ)). p.name.now ∷ ns) (names ps)
 pub words_read : (h : OrderMessage) → words_in (order_message_entry h) ≡ map (λ (p : MessagePart). p.name.now) h.words.items
 words_read h = names h.words.items
 
--- it was handed over for another file, or by another version
+-- the order is for another file, or comes from another version
 pub other_file : (file : FileNumbers) (got : List ℕ) (h : OrderMessageEntry) → IsMessage got h → (IsForFile file h → ⊥) → IsUnread file got (asked.Refused (Office Store))
 other_file file got h message other = inr (refl, λ o is for_file text. other (subst (λ (x : OrderMessageEntry). IsForFile file x) (same_order got o h is message) for_file))
 
--- its words are no text
+-- the words of the order aren't valid UTF-8
 pub no_text : (file : FileNumbers) (got : List ℕ) (h : OrderMessage) → IsMessage got (order_message_entry h) → (list_all is_utf8 (map (λ (p : MessagePart). p.name.now) h.words.items) ≡ true → ⊥)
     → IsUnread file got (asked.Refused (Office Store))
 no_text file got h message bad = inr (
@@ -142,7 +142,7 @@ no_text file got h message bad = inr (
       bad (ap (list_all is_utf8) (sym (words_read h)) ∙ subst (λ (x : OrderMessageEntry). list_all is_utf8 (words_in x) ≡ true) (same_order got o (order_message_entry h) is message) text),
 )
 
--- its words weren't read: an allocation failed, or they are no text
+-- the words of the order weren't decoded: an allocation failed, or they aren't valid UTF-8
 pub words_unread : (file : FileNumbers) (got : List ℕ) (h : OrderMessage) (words : List MessagePart) (fault : Fault) → IsMessage got (order_message_entry h) → words ≡ h.words.items
     → (fault ≡ Memory) ⊎ ((fault ≡ Store) × (list_all is_utf8 (map (λ (p : MessagePart). p.name.now) words) ≡ true → ⊥)) → IsUnread file got (asked.Refused (Office fault))
 words_unread file got h words fault message same (inl wanting) = inl (ap (λ (f : Fault). asked.Refused (Office f)) wanting)
@@ -150,22 +150,22 @@ words_unread file got h words fault message same (inr (store, bad)) =
     subst (λ (f : Fault). IsUnread file got (asked.Refused (Office f))) (sym store)
     (no_text file got h message (subst (λ (ws : List MessagePart). list_all is_utf8 (map (λ (p : MessagePart). p.name.now) ws) ≡ true → ⊥) same bad))
 
--- its bytes spell no order
+-- the bytes of the message don't encode an order
 pub no_order : (file : FileNumbers) (got message : List ℕ) → message ≡ drop 8 got → ((h : OrderMessageEntry) → Fits h → message ≡ encoding_of h → ⊥) → IsUnread file got (asked.Refused (Office Store))
 no_order file got message is none = inr (refl, λ h it for_file text. none h it.fits (is ∙ it.is))
 
--- no order was read: an allocation failed, or its bytes aren't an order
+-- no order was decoded: an allocation failed, or the bytes aren't an order
 pub order_unread : (file : FileNumbers) (got message : List ℕ) (fault : Fault) → message ≡ drop 8 got
     → (fault ≡ Memory) ⊎ ((fault ≡ Store) × ((h : OrderMessageEntry) → Fits h → message ≡ encoding_of h → ⊥)) → IsUnread file got (asked.Refused (Office fault))
 order_unread file got message fault is (inl wanting) = inl (ap (λ (f : Fault). asked.Refused (Office f)) wanting)
 order_unread file got message fault is (inr (store, none)) = subst (λ (f : Fault). IsUnread file got (asked.Refused (Office f))) (sym store) (no_order file got message is none)
 
--- what isn't read is refused
+-- an order that wasn't decoded is refused
 pub follows_unread : {S : Type 0} (settings : ServerSettingsEntry) (state_of : Held S → State) (old new : OfficeValue S) (got frames : List ℕ) (files : List MessagePartEntry) (what : ServedOrder)
     → IsUnread settings.file got what → files ≡ [] → IsResponseToOrder state_of old files what frames new → FollowsOrder settings state_of old got frames new
 follows_unread {S} settings state_of old new got frames files what unread none tells = record { files = files; asked = what; is = inr (unread, none); tells = tells }
 
--- what is read is followed, by the words and with the files as they were read
+-- an order that was decoded is carried out, with the words and files that were decoded
 pub follows_read : {S : Type 0} (settings : ServerSettingsEntry) (state_of : Held S → State) (old new : OfficeValue S) (got frames : List ℕ) (h : OrderMessage)
     (files : List MessagePart) (what : ServedOrder)
     → IsMessage got (order_message_entry h) → IsForFile settings.file (order_message_entry h) → files ≡ h.files.items → AsksSo settings.whole (words_in (order_message_entry h)) what

@@ -1,4 +1,4 @@
--- What is kept of answers to reads.
+-- The cached responses to reads.
 use Rattle.std.proofs.Common.{◌≡◌, ◌<◌, ◌∙◌, ◌∷◌, ◌++◌, ℕ, List, [], ap, append_assoc, arith, get_or, length, map, remove, subst, sym}
 use Rattle.std.specs.List.{Contains}
 use Rattle.std.proofs.lemmas.List.{get_or-map, length-map}
@@ -6,7 +6,7 @@ use Rattle.server.specs.Reads.{ReadEntry, read_entry}
 use Rattle.wire.specs.declared.target.Resource.{Resource}
 use Rattle.server.specs.declared.read_cache.CachedRead.{CachedRead}
 
--- the oldest was removed
+-- the oldest response was removed
 pub gone_more : (first : List ReadEntry) (answers left : List CachedRead) (gone : List ReadEntry) → first ≡ gone ++ map read_entry answers → left ≡ remove answers 0
     → (more : List ReadEntry) × (first ≡ more ++ map read_entry left)
 gone_more first [] left gone is rest = (gone, is ∙ ap (λ (kept : List CachedRead). gone ++ map read_entry kept) (sym rest))
@@ -15,7 +15,7 @@ gone_more first (one ∷ answers) left gone is rest = (
   is ∙ sym (append_assoc gone (read_entry one ∷ []) (map read_entry answers)) ∙ ap (λ (kept : List CachedRead). (gone ++ read_entry one ∷ []) ++ map read_entry kept) (sym rest),
 )
 
--- one of those that are kept
+-- one of the cached responses
 pub kept_has : (answers seen : List CachedRead) (place : ℕ) (one : CachedRead) (what : Resource) (answer : List ℕ) → seen ≡ answers → place < length seen
     → one ≡ get_or seen place one → one.what ≡ what
     → answer ≡ one.answer.items → (entry : ReadEntry) × Contains (map read_entry answers) entry × (entry.what ≡ what) × (entry.answer ≡ answer)

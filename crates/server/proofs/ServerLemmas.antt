@@ -1,4 +1,4 @@
--- From one moment of a hall to another.
+-- The server, from one time to a later one.
 use Rattle.std.proofs.Common.{◌≡◌, ◌≤◌, ◌<◌, ◌+◌, ◌-◌, ◌^◌, ◌∙◌, ◌⊎◌, ◌∷◌, ◌++◌, ℕ, add-zero, true, List, [], None, Option, Some, ap}
 use Rattle.std.proofs.Common.{append-nil, append_assoc, arith, get_or, inl, inr, insert, length, length-set, map, option_map, refl, remove, set, subst, suc, sym, zero}
 use Rattle.std.specs.Prelude.{Bool, Err, IfOk, IfSome, Ok, OnOk, Result, is_some, unwrap_or}
@@ -28,9 +28,9 @@ use Rattle.connections.specs.declared.removed.CloseReason.{CloseReason}
 use Rattle.connections.specs.declared.removed.CloseReason.TheVariants.{Broken as broken_off, Closing, Done, Evicted, TimedOut, Unreadable}
 use Rattle.connections.specs.declared.connection_table.ConnectionTable.{ConnectionTable}
 use Rattle.connections.proofs.StreamLemmas.{heard_more}
-use Rattle.server.specs.ServedConnections.{AreIn, ServedConnection, HasExchangeFor, HasLeft, IsGathered, IsIn, IsSound, IsOpenConnection, HadExchange, exchanges_of}
+use Rattle.server.specs.ServedConnections.{AreOpen, ServedConnection, HasExchangeFor, WasClosed, IsGathered, IsOpenUnder, IsSound, IsOpenConnection, HadExchange, exchanges_of}
 use Rattle.connections.specs.Closing.{AreClosedByRule, EndsFor, IsClosed, IsClosedByRule, IsClosedForBytes, MayBeClosed, timeout_rule, timeout}
-use Rattle.server.specs.Servers.{GoesOn, GoesOnServing, RemovesMore, IsCalled, IsNumbered, IsSettled, IsUnfailed, AcceptsMore, ServesConnections, ServesOn}
+use Rattle.server.specs.Servers.{GoesOn, GoesOnServing, RemovesMore, IsCalled, IsNumbered, IsSettled, IsUnfailed, AcceptsMore, ServesConnections, ServesFrom}
 use Rattle.server.specs.declared.serve_error.ServeError.{ServeError}
 use Rattle.server.specs.declared.serve_error.ServeError.TheVariants as ended
 use Rattle.server.specs.Reads.{ServedOffice, MemoryEntry, served_office, with_none_kept}
@@ -43,9 +43,9 @@ use Rattle.connections.proofs.ClosingLemmas.{Outs, bytes_outs, closed_outs, fold
 use Rattle.connections.proofs.TraceLemmas.{bytes_due, course_closes, course_fails, course_leaves, course_look, course_misses, trace_none, course_stays, course_stops, trace_then}
 use Rattle.server.proofs.ServicingLemmas.{is_heard}
 
--- ---- a place
+-- ---- a place in the table
 
--- a connection was taken out of its place, and is there again, changed
+-- a connection was taken out of its place, changed, and put back
 set_again : {X : Type 0} (xs : List X) (place : ℕ) (x : X) → place < length xs → insert (remove xs place) place x ≡ set xs place x
 set_again [] place x within = absurd (omega (arith, within))
 set_again (y ∷ ys) zero x within = refl
@@ -56,14 +56,14 @@ remove_set [] place x within = absurd (omega (arith, within))
 remove_set (y ∷ ys) zero x within = refl
 remove_set {X} (y ∷ ys) (suc place) x within = ap (λ (zs : List X). y ∷ zs) (remove_set ys place x (omega (arith, within)))
 
--- a connection is in its place again, for which there was room
+-- a connection was put back in its place, and there was room for it
 pub few_again : {L : Type 0} (old new : List (Client L)) (place : ℕ) (client : Client L) → place ≤ length old → length old < most_clients → new ≡ insert old place client → length new ≤ most_clients
 few_again {L} old new place client within few is =
     let more = length-insert old place client within in
     let long = ap (λ (cs : List (Client L)). length cs) is in
     omega (arith, few, more, long)
 
--- ---- connections that were accepted, and those that were closed
+-- ---- connections that were accepted, and connections that were closed
 
 grows_none : {X : Type 0} (count : Option (List X)) → count ≡ option_map (λ (xs : List X). xs ++ []) count
 grows_none None = refl
@@ -76,7 +76,7 @@ grows_then : {X : Type 0} (old mid new : Option (List X)) (first next : List X) 
     → new ≡ option_map (λ (xs : List X). xs ++ (first ++ next)) old
 grows_then {X} old mid new first next a b = b ∙ ap (option_map (λ (xs : List X). xs ++ next)) a ∙ more_then old first next
 
--- how many of them count
+-- how many of the accepted connections are clients
 clients_append : {L : Type 0} (first next : List (Accepted L)) → clients_among (first ++ next) ≡ clients_among first + clients_among next
 clients_append first next = sum_by-append (λ accepted. count_at accepted.listener) first next
 
@@ -88,7 +88,7 @@ pub still_look : {L : Type 0} (result : Result ℕ Broken) (before later : Netwo
 still_look (Ok value) before later is = (ap (λ (d : NetworkEntry _). d.came) is, ap (λ (d : NetworkEntry _). d.left) is)
 still_look (Err broken) before later is = (ap (λ (d : NetworkEntry _). d.came) is, ap (λ (d : NetworkEntry _). d.left) is)
 
--- the clock may have shown a moment at the gate
+-- the clock may have been read at the gate
 gate_still : {L : Type 0} (gate : Option ℕ) (before : NetworkEntry L)
     → ((with_gate gate before).came ≡ before.came) × ((with_gate gate before).left ≡ before.left) × ((with_gate gate before).failed ≡ before.failed) × ((with_gate gate before).waits ≡ before.waits)
 gate_still None before = (refl, refl, refl, refl)
@@ -98,7 +98,7 @@ pub still_wait : {L : Type 0} (result : Result (Unit {0}) Broken) (before later 
 still_wait (Ok value) before later is = (ap (λ (d : NetworkEntry _). d.came) is, ap (λ (d : NetworkEntry _). d.left) is)
 still_wait (Err broken) before later is = (ap (λ (d : NetworkEntry _). d.came) is, ap (λ (d : NetworkEntry _). d.left) is)
 
--- nobody was named
+-- no connection was reported as ready
 pub known_still : {L : Type 0} (result : Option ℕ) (before later : NetworkEntry L) → later ≡ after_ready result before → ((number : ℕ) → result ≡ Some number → ⊥) → later ≡ before
 known_still None before later is none = is
 known_still (Some number) before later is none = absurd (none number refl)
@@ -118,7 +118,7 @@ still_comes {L} stream turns old new (Err broken) gate before later (since, is) 
 pub still_known : {L : Type 0} (before later : NetworkEntry L) → later ≡ before → IsStill before later
 still_known {L} before later is = (ap (λ (d : NetworkEntry L). d.came) is, ap (λ (d : NetworkEntry L). d.left) is)
 
--- which connections may be closed for this outcome
+-- which connections may be closed after a given outcome
 may_leave : {L : Type 0} (stream : Stream L) (why : CloseReason) (client : Client L) → EndsFor stream why client → MayBeClosed stream why client
 may_leave stream Done client ends = ends
 may_leave stream broken_off client ends = ends
@@ -127,14 +127,14 @@ may_leave stream TimedOut client ends = absurd ends
 may_leave stream Evicted client ends = absurd ends
 may_leave stream Closing client ends = absurd ends
 
--- the system had no descriptor for one more
+-- the system had no descriptor for another connection
 pub still_full : {L : Type 0} (before later : NetworkEntry L) → later ≡ after_accept Full before → IsStill before later
 still_full {L} before later is = (ap (λ (d : NetworkEntry L). d.came) is, ap (λ (d : NetworkEntry L). d.left) is)
 
 -- ---- the steps of a round
 
 module _ {L : Type 0} (gated : Bool) (stream : Stream L) where
-  -- late ones were closed, and more were accepted
+  -- connections that timed out were closed, and more were accepted
   pub course_round : (from : Option ℕ) (before now gone later : NetworkEntry L) (old left new : ConnectionTable L) (moment : ℕ) → now ≡ with_moment before moment
       → AreClosedByRule (IsClosedByRule (timeout_rule moment)) now gone old left → All (λ (c : Client L). moment - c.since < timeout) left.clients.items
       → Trace gated stream [] (Some moment) (Some moment) gone later left.clients.items new.clients.items → Trace gated stream [] from (Some moment) before later old.clients.items new.clients.items
@@ -142,7 +142,7 @@ module _ {L : Type 0} (gated : Bool) (stream : Stream L) where
       trace_then gated stream [] [] from (Some moment) (Some moment) before gone later old.clients.items left.clients.items new.clients.items
       (course_look gated stream from moment before now gone old left shown late none) trace
 
-  -- then a wait, which may fail
+  -- then there was a wait, which may have failed
   pub course_wait : (result : Result (Unit {0}) Broken) (from to : Option ℕ) (before mid later : NetworkEntry L) (old new : List (Client L))
       → later ≡ after_wait result mid → Trace gated stream [] from to before mid old new
       → Trace gated stream [] from to before later old new
@@ -156,8 +156,8 @@ module _ {L : Type 0} (settings : ServerSettingsEntry) (stream : Stream L) where
   -- no connection was accepted, and each open one is unchanged, or was closed
   pub goes_with : (before later : NetworkEntry L) (old new : ConnectionTable L) (gone : List (Removed L)) → later.came ≡ before.came
       → RemovesMore before.left later.left gone → new.counted ≡ old.counted + 0
-      → ((all_connections : List (ServedConnection L)) (exchanges : List Exchange) (left : List (Removed L)) → AreIn settings stream all_connections exchanges left old.came old.clients.items
-      → AreIn settings stream all_connections exchanges (left ++ gone) new.came new.clients.items)
+      → ((all_connections : List (ServedConnection L)) (exchanges : List Exchange) (left : List (Removed L)) → AreOpen settings stream all_connections exchanges left old.came old.clients.items
+      → AreOpen settings stream all_connections exchanges (left ++ gone) new.came new.clients.items)
       → GoesOn settings stream [] before later old new
   goes_with before later old new gone same back counted stay = record {
     all_accepted = [];
@@ -168,13 +168,13 @@ module _ {L : Type 0} (settings : ServerSettingsEntry) (stream : Stream L) where
     own = λ all_connections earlier left are. (
       all_connections,
       sym (append-nil (map (λ (g : ServedConnection L). g.came) all_connections)),
-      subst (λ (vs : List Exchange). AreIn settings stream all_connections vs (left ++ gone) new.came new.clients.items) (sym (append-nil earlier)) (stay all_connections earlier left are),
+      subst (λ (vs : List Exchange). AreOpen settings stream all_connections vs (left ++ gone) new.came new.clients.items) (sym (append-nil earlier)) (stay all_connections earlier left are),
     );
   }
 
   pub goes_none : (before later : NetworkEntry L) (table : ConnectionTable L) → IsStill before later → GoesOn settings stream [] before later table table
   goes_none before later table (same, still) = goes_with before later table table [] same (grows_same before.left later.left still) (omega arith) (λ all_connections exchanges left are.
-      subst (λ (ls : List (Removed L)). AreIn settings stream all_connections exchanges ls table.came table.clients.items) (sym (append-nil left)) are)
+      subst (λ (ls : List (Removed L)). AreOpen settings stream all_connections exchanges ls table.came table.clients.items) (sym (append-nil left)) are)
 
   pub goes_then : (first next : List Exchange) (before mid later : NetworkEntry L) (old went new : ConnectionTable L) → GoesOn settings stream first before mid old went
       → GoesOn settings stream next mid later went new → GoesOn settings stream (first ++ next) before later old new
@@ -189,31 +189,31 @@ module _ {L : Type 0} (settings : ServerSettingsEntry) (stream : Stream L) where
         let (all, all_came, all_are) = b.own some (earlier ++ first) (left ++ a.gone) some_are in (
           all,
           all_came ∙ ap (λ (cs : List (Accepted L)). cs ++ b.all_accepted) some_came ∙ append_assoc (map (λ (g : ServedConnection L). g.came) all_connections) a.all_accepted b.all_accepted,
-          subst (λ (ls : List (Removed L)). AreIn settings stream all (earlier ++ (first ++ next)) ls new.came new.clients.items) (append_assoc left a.gone b.gone)
-              (subst (λ (vs : List Exchange). AreIn settings stream all vs (left ++ a.gone ++ b.gone) new.came new.clients.items) (append_assoc earlier first next) all_are),
+          subst (λ (ls : List (Removed L)). AreOpen settings stream all (earlier ++ (first ++ next)) ls new.came new.clients.items) (append_assoc left a.gone b.gone)
+              (subst (λ (vs : List Exchange). AreOpen settings stream all vs (left ++ a.gone ++ b.gone) new.came new.clients.items) (append_assoc earlier first next) all_are),
         );
   }
 
-  -- some were closed
+  -- connections were closed
   module _ (Goes : List (Client L) → Removed L → List (Client L) → Type 0) (outs : Outs Goes) where
     stay : (gone : List (Removed L)) (all_connections : List (ServedConnection L)) (exchanges : List Exchange) (left : List (Removed L)) (came : ℕ) (old new : List (Client L))
         → FoldsTo Goes old gone new
-        → AreIn settings stream all_connections exchanges left came old → AreIn settings stream all_connections exchanges (left ++ gone) came new
+        → AreOpen settings stream all_connections exchanges left came old → AreOpen settings stream all_connections exchanges (left ++ gone) came new
     stay [] all_connections exchanges left came old new same are =
-        subst (λ (ls : List (Removed L)). AreIn settings stream all_connections exchanges ls came new) (sym (append-nil left))
-        (subst (λ (cs : List (Client L)). AreIn settings stream all_connections exchanges left came cs) same are)
+        subst (λ (ls : List (Removed L)). AreOpen settings stream all_connections exchanges ls came new) (sym (append-nil left))
+        (subst (λ (cs : List (Client L)). AreOpen settings stream all_connections exchanges left came cs) same are)
     stay (removed ∷ gone) all_connections exchanges left came old new (mid, goes, others) are =
-        subst (λ (ls : List (Removed L)). AreIn settings stream all_connections exchanges ls came new) (append_assoc left (removed ∷ []) gone)
+        subst (λ (ls : List (Removed L)). AreOpen settings stream all_connections exchanges ls came new) (append_assoc left (removed ∷ []) gone)
         (stay gone all_connections exchanges (left ++ removed ∷ []) came mid new others (step old mid goes are))
       where
-        step : (clients rest : List (Client L)) → Goes clients removed rest → AreIn settings stream all_connections exchanges left came clients
-            → AreIn settings stream all_connections exchanges (left ++ removed ∷ []) came rest
+        step : (clients rest : List (Client L)) → Goes clients removed rest → AreOpen settings stream all_connections exchanges left came clients
+            → AreOpen settings stream all_connections exchanges (left ++ removed ∷ []) came rest
         step [] rest it is_in = let out = outs [] removed rest it in absurd (omega (arith, out.out.within))
         step (c ∷ cs) rest it is_in =
             let out = outs (c ∷ cs) removed rest it in
             let client = get_or (c ∷ cs) out.place c in
-            subst (λ (rs : List (Client L)). AreIn settings stream all_connections exchanges (left ++ removed ∷ []) came rs) (sym out.out.left)
-            (subst (λ (l : Removed L). AreIn settings stream all_connections exchanges (left ++ l ∷ []) came (remove (c ∷ cs) out.place)) (sym (out.out.is c))
+            subst (λ (rs : List (Client L)). AreOpen settings stream all_connections exchanges (left ++ removed ∷ []) came rs) (sym out.out.left)
+            (subst (λ (l : Removed L). AreOpen settings stream all_connections exchanges (left ++ l ∷ []) came (remove (c ∷ cs) out.place)) (sym (out.out.is c))
             (one_left settings stream all_connections exchanges left came (c ∷ cs) out.place client out.why is_in out.out.within (λ d. get_or_default (c ∷ cs) out.place c d out.out.within)
             (out.may stream client)))
 
@@ -222,9 +222,9 @@ module _ {L : Type 0} (settings : ServerSettingsEntry) (stream : Stream L) where
         goes_with before later old new it.gone (ap (λ (d : NetworkEntry L). d.came) it.back) (ap (λ (d : NetworkEntry L). d.left) it.back)
         (omega (arith, it.counted)) (λ all_connections exchanges left are.
         stay it.gone all_connections exchanges left new.came old.clients.items new.clients.items it.each
-        (subst (λ (n : ℕ). AreIn settings stream all_connections exchanges left n old.clients.items) (sym it.came) are))
+        (subst (λ (n : ℕ). AreOpen settings stream all_connections exchanges left n old.clients.items) (sym it.came) are))
 
-  -- late ones were closed, and more were accepted
+  -- connections that timed out were closed, and more were accepted
   pub goes_round : (before now gone later : NetworkEntry L) (old left new : ConnectionTable L) (moment : ℕ) → now ≡ with_moment before moment
       → AreClosedByRule (IsClosedByRule (timeout_rule moment)) now gone old left
       → GoesOn settings stream [] gone later left new → GoesOn settings stream [] before later old new
@@ -232,7 +232,7 @@ module _ {L : Type 0} (settings : ServerSettingsEntry) (stream : Stream L) where
       goes_then [] [] before now later old old new (goes_none before now old (ap (λ (d : NetworkEntry L). d.came) shown, ap (λ (d : NetworkEntry L). d.left) shown))
       (goes_then [] [] now gone later old left new (goes_without (IsClosedByRule (timeout_rule moment)) (late_outs moment) now gone old left late) more)
 
-  -- then a wait, which may fail
+  -- then there was a wait, which may have failed
   pub goes_wait : (result : Result (Unit {0}) Broken) (before mid later : NetworkEntry L) (old new : ConnectionTable L) → later ≡ after_wait result mid → GoesOn settings stream [] before mid old new
       → GoesOn settings stream [] before later old new
   goes_wait result before mid later old new is more = goes_then [] [] before mid later old new new more (goes_none mid later new (still_wait result mid later is))
@@ -241,7 +241,7 @@ module _ {L : Type 0} (settings : ServerSettingsEntry) (stream : Stream L) where
   pub goes_failure : (before later : NetworkEntry L) (table : ConnectionTable L) → later ≡ with_failure before → GoesOn settings stream [] before later table table
   goes_failure before later table is = goes_none before later table (ap (λ (d : NetworkEntry L). d.came) is, ap (λ (d : NetworkEntry L). d.left) is)
 
-  -- one left that may, for its reason
+  -- a connection was closed, for a permitted reason
   pub goes_less : (before later : NetworkEntry L) (old new : ConnectionTable L) (place : ℕ) (client : Client L) (why : CloseReason)
       → later ≡ with_removed before (removed_of client why) → place < length old.clients.items
       → ((d : Client L) → client ≡ get_or old.clients.items place d) → MayBeClosed stream why client → new.clients.items ≡ remove old.clients.items place
@@ -253,7 +253,7 @@ module _ {L : Type 0} (settings : ServerSettingsEntry) (stream : Stream L) where
       are_same settings stream all_connections exchanges (left ++ removed_of client why ∷ []) old.came new.came (remove old.clients.items place) new.clients.items same_came items
       (one_left settings stream all_connections exchanges left old.came old.clients.items place client why are within here may))
 
-  -- one was accepted
+  -- a connection was accepted
   pub goes_more : (before later : NetworkEntry L) (old new : ConnectionTable L) (start : Accepted L) (now : ℕ) → later ≡ after_accept (One start) before → HasTaken (stream.taken start.stream) []
       → new.came ≡ old.came + 1 → new.counted ≡ old.counted + count_at start.listener
       → (client : Client L) × (new.clients.items ≡ old.clients.items ++ client ∷ []) × IsNew start old.came now client × IsOf stream start.stream client
@@ -267,16 +267,16 @@ module _ {L : Type 0} (settings : ServerSettingsEntry) (stream : Stream L) where
     own = λ all_connections earlier left are. (
       with_one settings stream all_connections start,
       map_push (λ (g : ServedConnection L). g.came) all_connections (record { came = start; last = start.stream }),
-      subst (λ (vs : List Exchange). AreIn settings stream (with_one settings stream all_connections start) vs (left ++ []) new.came new.clients.items) (sym (append-nil earlier))
-          (subst (λ (ls : List (Removed L)). AreIn settings stream (with_one settings stream all_connections start) earlier ls new.came new.clients.items) (sym (append-nil left))
+      subst (λ (vs : List Exchange). AreOpen settings stream (with_one settings stream all_connections start) vs (left ++ []) new.came new.clients.items) (sym (append-nil earlier))
+          (subst (λ (ls : List (Removed L)). AreOpen settings stream (with_one settings stream all_connections start) earlier ls new.came new.clients.items) (sym (append-nil left))
           (are_same settings stream (with_one settings stream all_connections start) earlier left (old.came + 1) new.came (old.clients.items ++ client ∷ []) new.clients.items one is
           (one_entered settings stream all_connections earlier left old.came old.clients.items start client are fresh is_new.at is_new.over is_new.numbered is_new.unanswered own))),
     );
   }
 
-  -- ---- one is serviced
+  -- ---- a connection is serviced
 
-  -- it has the answer that it had, or none as before
+  -- the connection has the same response as before, or still has none
   had_still : (connection : ServedConnection L) (exchanges : List Exchange) (old new : Client L) → answer_of new ≡ answer_of old
       → ((start : L) → IsOf stream start old → IsOf stream start new) → IsOpenConnection stream exchanges connection old
       → HadExchange settings stream connection (exchanges_of old.number exchanges)
@@ -289,7 +289,7 @@ module _ {L : Type 0} (settings : ServerSettingsEntry) (stream : Stream L) where
         λ exchange one. gathered_for settings stream connection (exchanges_of old.number exchanges) exchange went (sym under ∙ one),
       )
 
-  -- its request was processed, which is complete
+  -- the connection's request, which is complete, was processed
   had_turn : {S : Type 0} (state_of : Held S → State) (connection : ServedConnection L) (exchanges : List Exchange) (now : ℕ) (old new : Client L) (before later : ServedOffice S)
       → (turn : HasResponded settings stream state_of now old new before later)
       → ((start : L) → IsOf stream start old → IsOf stream start new) → IsOpenConnection stream exchanges connection old
@@ -310,15 +310,15 @@ module _ {L : Type 0} (settings : ServerSettingsEntry) (stream : Stream L) where
         λ exchange one. let same : turn.exchange ≡ exchange = cc (first, one) in subst (λ (v : Exchange). IsGathered settings stream connection.came v) same gathered,
       )
 
-  -- a table in which one is changed
+  -- a table in which one connection is changed
   abbrev pub room_with : ConnectionTable L → ℕ → Client L → ConnectionTable L
   room_with table place client = record table { clients = with_item table.clients place client }
 
-  -- one was serviced, with these exchanges
+  -- a connection was serviced, with the given exchanges
   abbrev pub ServesJust : {S : Type 0} → (Held S → State) → List Exchange → NetworkEntry L → NetworkEntry L → ConnectionTable L → ConnectionTable L → ServedOffice S → ServedOffice S → Type 0
   ServesJust state_of exchanges before later old new at behind = (it : GoesOnServing settings stream state_of before later old new at behind) × (it.exchanges ≡ exchanges)
 
-  -- it was serviced, and is in its place again
+  -- a connection was serviced, and is back in its place
   pub goes_on_at : {S : Type 0} (state_of : Held S → State) (before later : NetworkEntry L) (table after : ConnectionTable L) (place : ℕ) (old new : Client L)
       (at behind : ServedOffice S) (now : ℕ) (exchanges : List Exchange) → IsStill before later
       → place < length table.clients.items → old ≡ get_or table.clients.items place old → new.listener ≡ old.listener → new.number ≡ old.number
@@ -341,7 +341,7 @@ module _ {L : Type 0} (settings : ServerSettingsEntry) (stream : Stream L) where
             (λ connection stood went. had_turn state_of connection earlier now old new at behind turn is stood) in (
               all,
               all_came ∙ sym (append-nil (map (λ (g : ServedConnection L). g.came) all_connections)),
-              subst (λ (ls : List (Removed L)). AreIn settings stream all (earlier ++ turn.exchange ∷ []) ls after.came after.clients.items) (sym (append-nil left))
+              subst (λ (ls : List (Removed L)). AreOpen settings stream all (earlier ++ turn.exchange ∷ []) ls after.came after.clients.items) (sym (append-nil left))
                   (are_same settings stream all (earlier ++ turn.exchange ∷ []) left table.came after.came (set table.clients.items place new) after.clients.items came items all_are),
             );
       };
@@ -364,7 +364,7 @@ module _ {L : Type 0} (settings : ServerSettingsEntry) (stream : Stream L) where
             (λ connection stood went. had_still connection earlier old new answer is stood went) in (
               all,
               all_came ∙ sym (append-nil (map (λ (g : ServedConnection L). g.came) all_connections)),
-              subst (λ (ls : List (Removed L)). AreIn settings stream all (earlier ++ []) ls after.came after.clients.items) (sym (append-nil left))
+              subst (λ (ls : List (Removed L)). AreOpen settings stream all (earlier ++ []) ls after.came after.clients.items) (sym (append-nil left))
                   (are_same settings stream all (earlier ++ []) left table.came after.came (set table.clients.items place new) after.clients.items came items all_are),
             );
       };
@@ -373,25 +373,25 @@ module _ {L : Type 0} (settings : ServerSettingsEntry) (stream : Stream L) where
   )
   goes_on_at state_of before later table after place old new at behind now (exchange ∷ other ∷ more) still within here listener number is never items came counted = absurd never
 
-  -- ---- an office that serves them
+  -- ---- an office that serves the connections
 
   module _ {S : Type 0} (state_of : Held S → State) where
     abbrev gated : Bool
     gated = is_some settings.clients.gate
 
-    -- those that are in change so, whatever moment the clock showed last
+    -- the open connections change this way, whatever time the clock most recently returned
     abbrev pub CourseBy : List Exchange → NetworkEntry L → NetworkEntry L → List (Client L) → List (Client L) → Type 0
     CourseBy exchanges before later old new = (from : Option ℕ) → (to : Option ℕ) × Trace gated stream (map response_at exchanges) from to before later old new
 
-    -- nobody had a turn
+    -- no request was processed
     pub serves_none : (before later : NetworkEntry L) (old new : ConnectionTable L) (office : ServedOffice S) → GoesOn settings stream [] before later old new
         → CourseBy [] before later old.clients.items new.clients.items
-        → ServesOn settings stream state_of before later old new office office
+        → ServesFrom settings stream state_of before later old new office office
     serves_none before later old new office goes trace = λ from. let (to, it) = trace from in (to, record { exchanges = []; each = refl; goes_on = goes }, it)
 
     pub serves_then : (before mid later : NetworkEntry L) (old went new : ConnectionTable L) (at between behind : ServedOffice S)
-        → ServesOn settings stream state_of before mid old went at between → ServesOn settings stream state_of mid later went new between behind
-        → ServesOn settings stream state_of before later old new at behind
+        → ServesFrom settings stream state_of before mid old went at between → ServesFrom settings stream state_of mid later went new between behind
+        → ServesFrom settings stream state_of before later old new at behind
     serves_then before mid later old went new at between behind first next = λ from.
         let (between_shown, a, first_course) = first from in
         let (to, b, next_course) = next between_shown in (
@@ -406,36 +406,37 @@ module _ {L : Type 0} (settings : ServerSettingsEntry) (stream : Stream L) where
               went.clients.items new.clients.items first_course next_course),
         )
 
-    -- one had these visits
+    -- a connection had the given exchanges
     serves_just : (exchanges : List Exchange) (before later : NetworkEntry L) (old new : ConnectionTable L) (at behind : ServedOffice S) → ServesJust state_of exchanges before later old new at behind
-        → CourseBy exchanges before later old.clients.items new.clients.items → ServesOn settings stream state_of before later old new at behind
+        → CourseBy exchanges before later old.clients.items new.clients.items → ServesFrom settings stream state_of before later old new at behind
     serves_just exchanges before later old new at behind (it, just) trace = λ from.
         let (to, so) = trace from in
         (to, it, subst (λ (vs : List Exchange). Trace gated stream (map response_at vs) from to before later old.clients.items new.clients.items) (sym just) so)
 
-    -- nothing is known of the doors but what was
-    pub serves_still : (before later : NetworkEntry L) (table : ConnectionTable L) (office : ServedOffice S) → later ≡ before → ServesOn settings stream state_of before later table table office office
+    -- what is known about the network is unchanged
+    pub serves_still : (before later : NetworkEntry L) (table : ConnectionTable L) (office : ServedOffice S) → later ≡ before
+        → ServesFrom settings stream state_of before later table table office office
     serves_still before later table office is =
         serves_none before later table table office (goes_none before later table (still_known before later is))
         (λ from. (from, trace_none gated stream from before later table.clients.items (ap (λ (d : NetworkEntry L). d.events) is)))
 
-    -- one was named that isn't in
+    -- a connection that isn't open was reported
     pub serves_nobody : (number : ℕ) (before later : NetworkEntry L) (table : ConnectionTable L) (office : ServedOffice S) → later ≡ after_ready (Some number) before
-        → ServesOn settings stream state_of before later table table office office
+        → ServesFrom settings stream state_of before later table table office office
     serves_nobody number before later table office is =
         serves_none before later table table office (goes_none before later table (ap (λ (d : NetworkEntry L). d.came) is, ap (λ (d : NetworkEntry L). d.left) is))
         (λ from. (from, course_misses gated stream from number before later table.clients.items is))
 
-    -- some were closed until no more bytes were held than may be
+    -- connections were closed until the bytes in memory were within the limit
     pub serves_within : (before later : NetworkEntry L) (old new : ConnectionTable L) (office : ServedOffice S) → AreClosedByRule IsClosedForBytes before later old new
-        → ServesOn settings stream state_of before later old new office office
+        → ServesFrom settings stream state_of before later old new office office
     serves_within before later old new office gone =
         serves_none before later old new office (goes_without IsClosedForBytes bytes_outs before later old new gone)
         (λ from. (from, course_closes gated stream IsClosedForBytes from (bytes_due gated stream from) before later old new gone))
 
-    -- ---- one that was reported was serviced
+    -- ---- a connection that was reported was serviced
 
-    -- the visits that it had are its turns
+    -- the connection's exchanges match the responses listed
     had_turns : (gate : Option ℕ) (exchanges : List Exchange) (old new : Client L) (at behind : ServedOffice S)
         → HasExchanges settings stream state_of (moment_of gate) exchanges old new at behind → IsAtGate gated gate exchanges
         → HadResponses gated gate (map response_at exchanges) old new
@@ -458,7 +459,7 @@ module _ {L : Type 0} (settings : ServerSettingsEntry) (stream : Stream L) where
           → (went : WasServiced gated settings stream state_of result ready later old new at behind)
           → CourseBy went.exchanges before later table.clients.items (set table.clients.items place new)
           → taken.clients.items ≡ remove table.clients.items place → back.clients.items ≡ insert taken.clients.items place new → back.came ≡ table.came → back.counted ≡ table.counted
-          → ServesOn settings stream state_of before later table back at behind
+          → ServesFrom settings stream state_of before later table back at behind
       serves_back result later taken back went trace out items came counted =
           let again : back.clients.items ≡ set table.clients.items place new =
           items ∙ ap (λ (cs : List (Client L)). insert cs place new) out ∙ set_again table.clients.items place new within in
@@ -467,28 +468,28 @@ module _ {L : Type 0} (settings : ServerSettingsEntry) (stream : Stream L) where
           (named_still later (still_comes stream (map response_at went.exchanges) old new result went.gate ready later went.comes)) within here listener same is went.had again came counted)
           (subst (λ (cs : List (Client L)). CourseBy went.exchanges before later table.clients.items cs) (sym again) trace)
 
-      -- it is in its place again
+      -- it is back in its place
       pub serves_stays : (later : NetworkEntry L) (taken back : ConnectionTable L) → WasServiced gated settings stream state_of (Ok None) ready later old new at behind
           → taken.clients.items ≡ remove table.clients.items place → back.clients.items ≡ insert taken.clients.items place new → back.came ≡ table.came → back.counted ≡ table.counted
-          → ServesOn settings stream state_of before later table back at behind
+          → ServesFrom settings stream state_of before later table back at behind
       serves_stays later taken back went out items came counted =
           serves_back (Ok None) later taken back went
           (λ from. course_stays gated stream from table.clients.items place number old new went.gate (map response_at went.exchanges) within here his_number (listener, same) is
           (had_turns went.gate went.exchanges old new at behind went.had went.at_gate) before ready later named went.comes) out items came counted
 
-      -- so it is where the clock failed
+      -- the connection is back in its place, and the clock failed
       pub serves_stops : (broken : Broken) (later : NetworkEntry L) (taken back : ConnectionTable L) → WasServiced gated settings stream state_of (Err broken) ready later old new at behind
           → taken.clients.items ≡ remove table.clients.items place → back.clients.items ≡ insert taken.clients.items place new → back.came ≡ table.came → back.counted ≡ table.counted
-          → ServesOn settings stream state_of before later table back at behind
+          → ServesFrom settings stream state_of before later table back at behind
       serves_stops broken later taken back went out items came counted =
           serves_back (Err broken) later taken back went
           (λ from. course_stops gated stream from table.clients.items place number old new went.gate (map response_at went.exchanges) within here his_number (listener, same) is
           (had_turns went.gate went.exchanges old new at behind went.had went.at_gate) broken before ready later named went.comes) out items came counted
 
-      -- it left
+      -- it was closed
       pub serves_leaves : (why : CloseReason) (mid later : NetworkEntry L) (left : ConnectionTable L) → WasServiced gated settings stream state_of (Ok (Some why)) ready mid old new at behind
           → later ≡ with_removed mid (removed_of new why)
-          → left.clients.items ≡ remove table.clients.items place → left.came ≡ table.came → left.counted ≡ table.counted → ServesOn settings stream state_of before later table left at behind
+          → left.clients.items ≡ remove table.clients.items place → left.came ≡ table.came → left.counted ≡ table.counted → ServesFrom settings stream state_of before later table left at behind
       serves_leaves why mid later left went back items came counted =
           let stands = room_with table place new in
           let (it, just) = goes_on_at state_of before mid table stands place old new at behind (moment_of went.gate) went.exchanges
@@ -509,11 +510,11 @@ module _ {L : Type 0} (settings : ServerSettingsEntry) (stream : Stream L) where
           (λ from. course_leaves gated stream from table.clients.items place number old new went.gate (map response_at went.exchanges) within here his_number (listener, same) is
           (had_turns went.gate went.exchanges old new at behind went.had went.at_gate) why before ready mid later named went.comes back))
 
-      -- it left, or is in its place again
+      -- it was closed, or is back in its place
       pub serves_settled : (reason : Option CloseReason) (mid later : NetworkEntry L) (taken left : ConnectionTable L)
           → WasServiced gated settings stream state_of (Ok reason) ready mid old new at behind
           → taken.clients.items ≡ remove table.clients.items place → taken.came ≡ table.came → taken.counted ≡ table.counted → IsSettled reason place new mid later taken left
-          → ServesOn settings stream state_of before later table left at behind
+          → ServesFrom settings stream state_of before later table left at behind
       serves_settled (Some why) mid later taken left went out came counted (closed, still) =
           serves_leaves why mid later left went closed (ap (λ (t : ConnectionTable L). t.clients.items) still ∙ out) (ap (λ (t : ConnectionTable L). t.came) still ∙ came)
           (ap (λ (t : ConnectionTable L). t.counted) still ∙ counted)
@@ -523,12 +524,12 @@ module _ {L : Type 0} (settings : ServerSettingsEntry) (stream : Stream L) where
 
     -- ---- a round
 
-    -- nobody more had a turn
-    pub serves_more : (before mid later : NetworkEntry L) (old went new : ConnectionTable L) (at behind : ServedOffice S) → ServesOn settings stream state_of before mid old went at behind
-        → GoesOn settings stream [] mid later went new → CourseBy [] mid later went.clients.items new.clients.items → ServesOn settings stream state_of before later old new at behind
+    -- no further request was processed
+    pub serves_more : (before mid later : NetworkEntry L) (old went new : ConnectionTable L) (at behind : ServedOffice S) → ServesFrom settings stream state_of before mid old went at behind
+        → GoesOn settings stream [] mid later went new → CourseBy [] mid later went.clients.items new.clients.items → ServesFrom settings stream state_of before later old new at behind
     serves_more before mid later old went new at behind on more trace = serves_then before mid later old went new at behind behind on (serves_none mid later went new behind more trace)
 
-    -- there was no room, so none was accepted
+    -- there was no room, so no connection was accepted
     pub nobody_served : (before : NetworkEntry L) (most : Option ℕ) (at : OfficeValue S) → ServesConnections settings stream state_of before before most at at (Err ended.Memory)
     nobody_served before most at = record {
       all_connections = [];
@@ -562,30 +563,30 @@ module _ {L : Type 0} (settings : ServerSettingsEntry) (stream : Stream L) where
 
     -- a closed office stays as it is
     pub serving_closed : (before later : NetworkEntry L) (old new : ConnectionTable L) (at : OfficeValue S) (kept : MemoryEntry) (behind : ServedOffice S)
-        → ServesOn settings stream state_of before later old new (served_office at kept) behind
+        → ServesFrom settings stream state_of before later old new (served_office at kept) behind
         → at.closed ≡ true → behind.office ≡ at
     serving_closed before later old new at kept behind on closed = let (to, it, trace) = on None in let away = turned_away settings state_of it.exchanges
         (served_office at kept) behind it.each closed in away.1
 
     pub serving_clean : (before later : NetworkEntry L) (old new : ConnectionTable L) (at : OfficeValue S) (kept : MemoryEntry) (behind : ServedOffice S)
-        → ServesOn settings stream state_of before later old new (served_office at kept) behind
+        → ServesFrom settings stream state_of before later old new (served_office at kept) behind
         → HasCleanDisk (state_of behind.office.held) → HasCleanDisk (state_of at.held)
     serving_clean before later old new at kept behind on clean = let (to, it, trace) = on None in cleans settings state_of it.exchanges (served_office at kept) behind it.each clean
 
-    -- if it is sound with a table, it is so later
-    pub sound_later : (before later : NetworkEntry L) (old new : ConnectionTable L) (at behind : ServedOffice S) → ServesOn settings stream state_of before later old new at behind
+    -- if the table was sound, it is still sound later
+    pub sound_later : (before later : NetworkEntry L) (old new : ConnectionTable L) (at behind : ServedOffice S) → ServesFrom settings stream state_of before later old new at behind
         → IsSound settings stream old → IsSound settings stream new
     sound_later before later old new at behind on (all_connections, exchanges, left, are) =
         let (to, it, trace) = on None in let (all, came, now) = it.goes_on.own all_connections exchanges left are in (all, exchanges ++ it.exchanges, left ++ it.goes_on.gone, now)
 
-    -- nobody is in any more, so each was handed back
-    none_is_in : (k : ℕ) (clients : List (Client L)) → clients ≡ [] → IsIn clients k → ⊥
+    -- no connection is still open, so each was handed back
+    none_is_in : (k : ℕ) (clients : List (Client L)) → clients ≡ [] → IsOpenUnder clients k → ⊥
     none_is_in k clients none it = let some = it.within in let zero : length clients ≡ 0 = ap (λ (cs : List (Client L)). length cs) none in omega (arith, some, zero)
 
-    -- all that were accepted since the network was opened, if none was open before, and those open at the end were closed
+    -- what happened to all accepted connections, if none was open at first and those open at the end were closed
     pub hall_serves : (before end later : NetworkEntry L) (most : Option ℕ) (old went new : ConnectionTable L) (at : OfficeValue S) (kept : MemoryEntry)
         (behind : ServedOffice S) (result : Result (Unit {0}) ServeError)
-        → kept ≡ (with_none_kept at).kept → ServesOn settings stream state_of before end old went (served_office at kept) behind → AreClosedByRule IsClosed end later went new
+        → kept ≡ (with_none_kept at).kept → ServesFrom settings stream state_of before end old went (served_office at kept) behind → AreClosedByRule IsClosed end later went new
         → old.clients.items ≡ [] → old.came ≡ 0 → old.counted ≡ 0 → new.clients.items ≡ [] → OnOk result (went.clients.items ≡ []) → IfSome most (λ n. new.counted ≤ n)
         → OnOk result (IfSome most (λ n. new.counted ≡ n))
         → ServesConnections settings stream state_of before later most at behind.office result
@@ -594,7 +595,7 @@ module _ {L : Type 0} (settings : ServerSettingsEntry) (stream : Stream L) where
         let goes = goes_then it.exchanges [] before end later old went new it.goes_on (goes_without IsClosed closed_outs end later went new closing) in
         let each = subst (λ (k : MemoryEntry). FoldsTo (ServesExchange settings state_of) (served_office at k) it.exchanges behind) unkept it.each in
         let (all_connections, came, are_so) = goes.own [] [] [] (are_same settings stream [] [] [] 0 old.came [] old.clients.items first none (none_in settings stream)) in
-        let are = subst (λ (vs : List Exchange). AreIn settings stream all_connections vs goes.gone new.came new.clients.items) (append-nil it.exchanges) are_so in
+        let are = subst (λ (vs : List Exchange). AreOpen settings stream all_connections vs goes.gone new.came new.clients.items) (append-nil it.exchanges) are_so in
         let sum = goes.counted in
         let counted : new.counted ≡ clients_among (map (λ (g : ServedConnection L). g.came) all_connections) =
         subst (λ (cs : List (Accepted L)). new.counted ≡ clients_among cs) (sym came) (omega (arith, sum, uncounted)) in
@@ -624,8 +625,8 @@ module _ {L : Type 0} (settings : ServerSettingsEntry) (stream : Stream L) where
           keeps = λ clean is_open earlier rests. kept_of settings state_of earlier it.exchanges at behind each clean is_open rests;
         }
       where
-        out : (gone : List (Removed L)) (exchanges : List Exchange) (k : ℕ) (connection : ServedConnection L) → IsIn new.clients.items k ⊎ HasLeft stream gone exchanges k connection
-            → HasLeft stream gone exchanges k connection
+        out : (gone : List (Removed L)) (exchanges : List Exchange) (k : ℕ) (connection : ServedConnection L) → IsOpenUnder new.clients.items k ⊎ WasClosed stream gone exchanges k connection
+            → WasClosed stream gone exchanges k connection
         out gone exchanges k connection (inl is_in) = absurd (none_is_in k new.clients.items empty is_in)
         out gone exchanges k connection (inr left) = left
 
@@ -635,7 +636,7 @@ module _ {L : Type 0} (settings : ServerSettingsEntry) (stream : Stream L) where
 pub sound_empty : {L : Type 0} (settings : ServerSettingsEntry) (stream : Stream L) (table : ConnectionTable L) → table.clients.items ≡ [] → table.came ≡ 0 → IsSound settings stream table
 sound_empty {L} settings stream table none first = ([], [], [], are_same settings stream [] [] [] 0 table.came [] table.clients.items first none (none_in settings stream))
 
--- in a sound table nothing was sent to a connection that has no answer
+-- in a sound table, nothing has been sent to a connection without a response
 pub untold_at : {L : Type 0} (settings : ServerSettingsEntry) (stream : Stream L) (table : ConnectionTable L) (place : ℕ) (client : Client L)
     → IsSound settings stream table → place < length table.clients.items
     → client ≡ get_or table.clients.items place client → HasSentNothing stream client
@@ -647,7 +648,7 @@ untold_at {L} settings stream table place client (all_connections, exchanges, le
     let received = is_heard stream (get_or all_connections client.number some_guest).came.stream client none own in
     received.untold
 
--- ---- how many were to come
+-- ---- how many clients should be accepted
 
 pub most_few : (connections : Option ℕ) (most came : ℕ) → most ≡ unwrap_or connections (2 ^ 64 - 1) → came ≤ most → IfSome connections (λ n. came ≤ n)
 most_few None most came is few = tt
@@ -657,12 +658,12 @@ pub most_all : (connections : Option ℕ) (most came : ℕ) → most ≡ unwrap_
 most_all None most came is few all = tt
 most_all (Some n) most came is few all = omega (arith, is, few, all)
 
--- no more were accepted than were to be, if some were closed after that
+-- no more clients were accepted than requested, even if connections were closed after that
 pub few_closed : (connections : Option ℕ) (most none came closed : ℕ) → most ≡ unwrap_or connections (2 ^ 64 - 1) → none ≡ 0 → (none ≤ most → came ≤ most)
     → closed ≡ came → IfSome connections (λ n. closed ≤ n)
 few_closed connections most none came closed is first few same = let all = few (omega (arith, first)) in most_few connections most closed is (omega (arith, all, same))
 
--- and all were accepted, if nothing failed
+-- all requested clients were accepted, if nothing failed
 pub all_closed : {E : Type 0} (result : Result (Unit {0}) E) (connections : Option ℕ) (most none came closed : ℕ) → most ≡ unwrap_or connections (2 ^ 64 - 1)
     → none ≡ 0 → (none ≤ most → came ≤ most) → closed ≡ came → OnOk result (most ≤ came)
     → OnOk result (IfSome connections (λ n. closed ≡ n))
@@ -670,10 +671,10 @@ all_closed (Ok value) connections most none came closed is first few same all = 
     (omega (arith, at_most, same)) (omega (arith, all, same))
 all_closed (Err why) connections most none came closed is first few same all = tt
 
--- ---- calls of the doors
+-- ---- calls to the network
 
 module _ {L : Type 0} where
-  -- one of the open connections was serviced: no call failed, or the clock did
+  -- an open connection was serviced: either no call failed, or only the clock did
   pub called_well : (stream : Stream L) (turns : List ResponseAt) (old new : Client L) (next : Option CloseReason) (gate : Option ℕ) (before later : NetworkEntry L)
       → IsServiceOutcome stream turns old new (Ok next) (with_gate gate before) later → IsUnfailed before later
   called_well stream turns old new None gate before later (inl (none, since, is)) =
@@ -689,7 +690,7 @@ module _ {L : Type 0} where
   called_in_vain stream turns old new broken gate before later (since, is) =
       let still = gate_still gate before in (ap (λ (d : NetworkEntry L). d.failed) is ∙ ap one_more still.2, ap (λ (d : NetworkEntry L). d.waits) is ∙ still.3)
 
-  -- one was named
+  -- a connection was reported as ready
   pub unfailed_ready : (result : Option ℕ) (before mid later : NetworkEntry L) → IsUnfailed before mid → later ≡ after_ready result mid → IsUnfailed before later
   unfailed_ready None before mid later (failed, waits) is = (ap (λ (d : NetworkEntry L). d.failed) is ∙ failed, ap (λ (d : NetworkEntry L). d.waits) is ∙ waits)
   unfailed_ready (Some number) before mid later (failed, waits) is = (ap (λ (d : NetworkEntry L). d.failed) is ∙ failed, ap (λ (d : NetworkEntry L). d.waits) is ∙ waits)
@@ -701,7 +702,7 @@ module _ {L : Type 0} where
       → AreClosedByRule Goes before later old new → IsUnfailed before later
   unfailed_leavers before later old new Goes it = (ap (λ (d : NetworkEntry L). d.failed) it.back, ap (λ (d : NetworkEntry L). d.waits) it.back)
 
-  -- one that was serviced was settled
+  -- a connection that was serviced was settled
   pub settled_still : (reason : Option CloseReason) (place : ℕ) (client : Client L) (before later : NetworkEntry L) (old new : ConnectionTable L) → IsSettled reason place client before later old new
       → IsUnfailed before later × (new.came ≡ old.came) × (new.counted ≡ old.counted)
   settled_still (Some why) place client before later old new (is, still) =

@@ -6,7 +6,7 @@ use Rattle.std.proofs.lemmas.List.{get_or-map, length-map}
 use Rattle.std.proofs.lemmas.List.Folds.{list_all_at}
 use Rattle.order_protocol.specs.declared.order_message.MessagePart.{MessagePart}
 
--- a word that isn't text
+-- a word that isn't valid UTF-8
 pub word_bad : (words : List MessagePart) (place : ℕ) (d : MessagePart) → place < length words → (is_utf8 (get_or words place d).name.now ≡ true → ⊥)
     → list_all is_utf8 (map (λ (p : MessagePart). p.name.now) words) ≡ true → ⊥
 word_bad words place d within bad all = by (is_utf8 (get_or words place d).name.now) refl

@@ -1,4 +1,4 @@
--- What a clerk is sent depends on what that clerk may see alone. Exceptions are a fault, and the responses to wait (429) and that the file is gone (113).
+-- What a clerk is sent depends only on what that clerk may see, apart from faults and from the responses saying that the client must wait (429) or that the file is gone (113).
 use Rattle.std.specs.Prelude.{◌≡◌, ◌⊎◌, ⊤, Bool, false, true, List, [], ◌∷◌, Option, Result, Some, map, ℕ}
 use Rattle.sqlite.specs.Held.{Held}
 use Rattle.sqlite.specs.State.{HasCleanDisk, State}
@@ -20,83 +20,87 @@ use Rattle.wire.specs.Responses.{ResponseEntry}
 use Rattle.wire.specs.Serving.{IsServed, TellsFault}
 use Rattle.wire.specs.Told.{IsTold}
 use Rattle.wire.specs.declared.request_error.RequestError.{RequestError}
-use Rattle.server.specs.ServedOrders.{TellsOrder}
-use Rattle.server.specs.ConsoleOrders.{TellsConsole}
+use Rattle.server.specs.ServedOrders.{OrderPrints}
+use Rattle.server.specs.ConsoleOrders.{ConsolePrints}
 use Rattle.server.specs.Servers.{ServesConnections}
 use Rattle.server.specs.Settings.{ServerSettingsEntry}
-use Rattle.server.specs.Exchanges.{AnswersInTurn, AreTurnedAway, AsksNoOrder, EndsSo, IsClientAnsweredAt, KeepsExchanges, IsToldClosed, Exchange}
+use Rattle.server.specs.Exchanges.{AnswersInTurn, AreRefusedClosed, AsksNoOrder, EndsSo, IsClientAnsweredAt, KeepsExchanges, GetsClosedResponse, Exchange}
 use Rattle.server.specs.declared.serve_error.ServeError.{ServeError}
 
--- ---- one request, next to a clerk's view of the office
+-- ---- one request, along with a clerk's view of the office
 
--- These bytes ask for something under a clerk's number: to keep a keying, for the clerk's work, for the candidates of a batch, for the clerk's page, or to sign out.
+-- The given bytes ask for something under a clerk's number: to record a keying, to show the clerk's work, the candidates of a batch, what the clerk keyed for the batch
+-- earlier or the clerk's page, or to sign out.
 pub record IsUnder (settings : HttpSettingsEntry) (clerk : ℕ) (bytes : List ℕ) : Type 0 where
   pub asked : HttpRequestEntry
   pub asks : Asks settings bytes asked
   pub its : clerk_asked asked ≡ Some clerk
 
--- The law: a request for something under a clerk's number asks no order.
+-- The law: a request for something under a clerk's number isn't an order.
 abbrev pub ClerksAskNoOrder : Type 0
 ClerksAskNoOrder = (settings : HttpSettingsEntry) (clerk : ℕ) (bytes : List ℕ) → IsUnder settings clerk bytes → AsksNoOrder settings bytes
 
--- A client that asks no order was served, next to a clerk's view of the office. If it asked under the clerk's number, the view alone determines the response, as the office's
--- machine and its reads answer there, and the client's own request makes the next view. A request that is rejected is answered by its own bytes. A client that didn't ask under
--- the clerk's number leaves the view as it was. This says nothing of the responses to other clerks and to public reads.
+-- A client that sends no order was served, along with a clerk's view of the office. If it asked for something under the clerk's number, the view alone determines the
+-- response: the response is what the office's state machine and its reads answer in the view, and the client's own request leads to the next view. The response to a
+-- rejected request depends only on its own bytes. A client that didn't ask for anything under the clerk's number leaves the view unchanged. This says nothing about the
+-- responses to other clerks and to public reads.
 pub record IsAnsweredBySeen (settings : ServerSettingsEntry) (clerk : ℕ) (view : OfficeState) (exchange : Exchange) (next : OfficeState) : Type 0 where
   pub own : IsUnder settings.clients clerk exchange.got → (sent : List Request) × IsClientAnsweredAt settings view exchange sent × (next ≡ after view sent)
   pub denied : (why : RequestError) → Asks settings.clients exchange.got (denied why) → IsClientAnsweredAt settings view exchange []
   pub other : (IsUnder settings.clients clerk exchange.got → ⊥) → next ≡ view
 
--- An order that was handed over was followed at a state of which the clerk has this view, and the next view is that of the state after the order's requests.
+-- An order that was handed over was carried out in a state that the clerk sees as the given view; the next view is what the clerk sees after the order's requests.
 pub record IsFollowedBySeen {S : Type 0} (state_of : Held S → State) (settings : ServerSettingsEntry) (clerk : ℕ) (view : OfficeState) (exchange : Exchange) (next : OfficeState) : Type 0 where
   pub s : OfficeState
   pub seen : seen_by clerk s ≡ view
   pub sent : List Request
   pub last : List Request
-  pub tells : TellsOrder state_of settings s exchange.got exchange.answer sent last
+  pub tells : OrderPrints state_of settings s exchange.got exchange.answer sent last
   pub made : next ≡ seen_by clerk (after s sent)
 
--- the same of an order that a client asks, which is an order of the console
+-- an order from the console, which a client sends, was carried out in the same sense
 pub record IsConsoleBySeen {S : Type 0} (state_of : Held S → State) (settings : ServerSettingsEntry) (clerk : ℕ) (view : OfficeState) (exchange : Exchange) (next : OfficeState) : Type 0 where
   pub s : OfficeState
   pub seen : seen_by clerk s ≡ view
   pub sent : List Request
   pub last : List Request
-  pub tells : TellsConsole state_of settings s exchange.got exchange.answer sent last
+  pub tells : ConsolePrints state_of settings s exchange.got exchange.answer sent last
   pub made : next ≡ seen_by clerk (after s sent)
 
--- the request of a client, or of an order, was processed between one view and the next
+-- the request of a client, or an order, was processed, and led from one view to the next
 abbrev pub RespondsBySeen : {S : Type 0} → Listener → (Held S → State) → ServerSettingsEntry → ℕ → OfficeState → Exchange → OfficeState → Type 0
 RespondsBySeen Clients state_of settings clerk view exchange next = IsAnsweredBySeen settings clerk view exchange next ⊎ IsConsoleBySeen state_of settings clerk view exchange next
 RespondsBySeen Orders state_of settings clerk view exchange next = IsFollowedBySeen state_of settings clerk view exchange next
 
--- A fault closed the office. The response to a client that asks no order is the fault, and an order's output is that of a state of which the clerk has this view.
+-- A fault closed the office. The response to a client that sends no order is the fault, and the output of an order is its output in some state that the clerk sees as
+-- the given view.
 abbrev pub IsStoppedBySeen : {S : Type 0} → Listener → (Held S → State) → ServerSettingsEntry → ℕ → OfficeState → Exchange → Type 0
 IsStoppedBySeen Clients state_of settings clerk view exchange =
     (AsksNoOrder settings.clients exchange.got × EndsSo exchange (IsServed TellsFault)) ⊎ ((next : OfficeState) × IsConsoleBySeen state_of settings clerk view exchange next)
 IsStoppedBySeen Orders state_of settings clerk view exchange = (next : OfficeState) × IsFollowedBySeen state_of settings clerk view exchange next
 
--- All requests are processed in turn, and the clerk's view determines the responses to the clerk. The view changes by the clerk's own requests and by orders, and by
--- nothing that another clerk sends. Or a fault closed the office in one of them, and every later one gets the response that the office is closed.
+-- All requests are processed in turn, and the clerk's view determines the responses to the clerk. The view is changed by the clerk's own requests and by orders, but by
+-- nothing that another clerk sends. Or a fault closed the office during one of the requests, and every later request gets the response saying that the office is
+-- closed.
 abbrev pub AnswersAsSeen : {S : Type 0} → (Held S → State) → ServerSettingsEntry → ℕ → OfficeState → List Exchange → Type 0
 AnswersAsSeen state_of settings clerk view [] = ⊤
 AnswersAsSeen state_of settings clerk view (exchange ∷ exchanges) =
     ((next : OfficeState) × RespondsBySeen exchange.listener state_of settings clerk view exchange next × AnswersAsSeen state_of settings clerk next exchanges)
-    ⊎ (IsStoppedBySeen exchange.listener state_of settings clerk view exchange × AreTurnedAway settings exchanges)
+    ⊎ (IsStoppedBySeen exchange.listener state_of settings clerk view exchange × AreRefusedClosed settings exchanges)
 
--- The law: for any requests that are processed in turn from a state on, what each clerk sees of that state determines the responses to that clerk.
+-- The law: for any sequence of requests processed from a given state on, what each clerk sees of that state determines the responses to that clerk.
 abbrev pub ClerksAreAnsweredAsSeen : {S : Type 0} → (Held S → State) → Type 0
 ClerksAreAnsweredAsSeen state_of =
     (settings : ServerSettingsEntry) (s : OfficeState) (exchanges : List Exchange) (answered last : List Request) → IsState s → AnswersInTurn state_of settings s exchanges answered last
     → (clerk : ℕ) → is_clerk clerk ≡ true → AnswersAsSeen state_of settings clerk (seen_by clerk s) exchanges
 
--- The same of requests to an office that earlier requests led to, by what is kept of them.
+-- The same law for requests to an office that has already processed others, given what is kept of those.
 abbrev pub KeptAreAnsweredAsSeen : {S : Type 0} → (Held S → State) → Type 0
 KeptAreAnsweredAsSeen {S} state_of =
     (settings : ServerSettingsEntry) (earlier : List Request) (exchanges : List Exchange) (closed : Bool) (held : Held S) → KeepsExchanges state_of settings earlier exchanges closed (state_of held)
     → (clerk : ℕ) → is_clerk clerk ≡ true → AnswersAsSeen state_of settings clerk (seen_by clerk (after empty_office earlier)) exchanges
 
--- The same of a server, for any requests that it processed as it promises.
+-- The same law for a server, for any requests that it has processed as promised.
 abbrev pub ServersAnswerAsSeen : {L S : Type 0} → Stream L → (Held S → State) → Type 0
 ServersAnswerAsSeen {L} {S} stream state_of =
     (settings : ServerSettingsEntry) (before later : NetworkEntry L) (most : Option ℕ) (old new : OfficeValue S) (result : Result (Unit {0}) ServeError)
@@ -106,36 +110,36 @@ ServersAnswerAsSeen {L} {S} stream state_of =
 
 -- ---- two services that look alike to a clerk
 
--- of some exchanges those under a clerk's number, in their order
+-- those exchanges from a list that are under a clerk's number, in order
 abbrev pub AreOwn : HttpSettingsEntry → ℕ → List Exchange → List Exchange → Type 0
 AreOwn settings clerk [] own = own ≡ []
 AreOwn settings clerk (exchange ∷ exchanges) own =
     (IsUnder settings clerk exchange.got × ((later : List Exchange) × (own ≡ exchange ∷ later) × AreOwn settings clerk exchanges later))
     ⊎ ((IsUnder settings clerk exchange.got → ⊥) × AreOwn settings clerk exchanges own)
 
--- each of some exchanges is that of a client that asks no order
+-- each exchange is with a client that sends no order
 abbrev pub AreClients : HttpSettingsEntry → List Exchange → Type 0
 AreClients settings [] = ⊤
 AreClients settings (exchange ∷ exchanges) = (exchange.listener ≡ Clients) × AsksNoOrder settings exchange.got × AreClients settings exchanges
 
--- a client got no answer: there was a fault, the office was closed or its file gone, or the client has to wait
+-- a client got no answer: there was a fault, the office was closed, its file was gone, or the client had to wait
 abbrev pub IsUnanswered : ServerSettingsEntry → Exchange → Type 0
-IsUnanswered settings exchange = EndsSo exchange (IsServed TellsFault) ⊎ IsToldClosed Clients settings exchange
+IsUnanswered settings exchange = EndsSo exchange (IsServed TellsFault) ⊎ GetsClosedResponse Clients settings exchange
 
--- the same response was sent in two exchanges, as far as it could be allocated
+-- two exchanges have the same response, unless its allocation failed in one of them
 pub record AreSentTheSame (one two : Exchange) : Type 0 where
   pub answer : ResponseEntry
   pub first : EndsSo one (IsServed (IsTold answer))
   pub second : EndsSo two (IsServed (IsTold answer))
 
--- the same was sent in the first exchanges of two lists, in the second ones, and so on, until one got no answer
+-- the first exchanges of two lists have the same response, and so do the second ones, and so on, until one of them gets no answer
 abbrev pub AreAnsweredAlike : ServerSettingsEntry → List Exchange → List Exchange → Type 0
 AreAnsweredAlike settings [] others = others ≡ []
 AreAnsweredAlike settings (one ∷ ones) [] = ⊥
 AreAnsweredAlike settings (one ∷ ones) (two ∷ twos) = (AreSentTheSame one two × AreAnsweredAlike settings ones twos) ⊎ (IsUnanswered settings one ⊎ IsUnanswered settings two)
 
--- The law: two offices look alike to a clerk, and both serve only clients that ask no orders. Under the clerk's number both receive the same bytes, in the same order. Then
--- both send the clerk the same, whatever other clerks send.
+-- The law: suppose that two offices look alike to a clerk, that both serve only clients that send no orders, and that both receive the same bytes under the clerk's
+-- number, in the same order. Then both send the clerk the same responses, whatever other clerks send.
 abbrev pub ClerksCannotTell : {S : Type 0} → (Held S → State) → Type 0
 ClerksCannotTell state_of =
     (settings : ServerSettingsEntry) (clerk : ℕ) (s t : OfficeState) (exchanges others own same : List Exchange) (answered last told next : List Request)

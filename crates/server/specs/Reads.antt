@@ -1,4 +1,4 @@
--- The server's memory: the cache of reads, and the wrong codes that were sent.
+-- What the server keeps in memory: the cache of reads, and the wrong codes that were sent.
 use Rattle.std.specs.Prelude.{◌≡◌, ◌&&◌, Bool, false, List, [], None, Option, Some, if◌then◌else◌, map, ℕ}
 use Rattle.std.specs.List.{All}
 use Rattle.register.specs.Offices.{OfficeState}
@@ -12,7 +12,7 @@ use Rattle.wire.specs.declared.serving.Served.TheVariants.{Answered, ReadFailed,
 use Rattle.wire.specs.declared.target.Resource.{Resource}
 use Rattle.server.specs.declared.read_cache.ReadCache.{ReadCache}
 use Rattle.server.specs.declared.read_cache.CachedRead.{CachedRead}
-use Rattle.server.specs.declared.server_memory.ServerMemory.{ServerMemory}
+use Rattle.server.specs.declared.server_state.ServerState.{ServerState}
 
 -- a resource that was read, and the bytes of the response
 pub record ReadEntry : Type 0 where
@@ -25,18 +25,18 @@ read_entry k = record { what = k.what; answer = k.answer.items }
 abbrev pub reads_in : ReadCache → List ReadEntry
 reads_in kept = map read_entry kept.answers.items
 
--- This is the response to a read at a state, byte for byte.
+-- The given bytes are exactly the response to a read in a given state.
 pub record IsRead (s : OfficeState) (what : Resource) (answer : List ℕ) : Type 0 where
   pub status : ℕ
   pub told : IsServed (λ response. IsTold (reading_response s what) response) (Some []) (Some answer) (Answered status)
 
--- a response was written whole, and it is no fault (503)
-abbrev pub TellsNoFault : Served → Type 0
-TellsNoFault (Answered status) = status ≡ 503 → ⊥
-TellsNoFault ReadFailed = ⊥
-TellsNoFault WriteFailed = ⊥
+-- a response was written completely, and isn't a fault (503)
+abbrev pub IsNoFault : Served → Type 0
+IsNoFault (Answered status) = status ≡ 503 → ⊥
+IsNoFault ReadFailed = ⊥
+IsNoFault WriteFailed = ⊥
 
--- each cached response is the one at this state
+-- each cached response is correct in the given state
 abbrev pub AreReadAt : OfficeState → List ReadEntry → Type 0
 AreReadAt s reads = All (λ r. IsRead s r.what r.answer) reads
 
@@ -47,22 +47,22 @@ abbrev pub must_wait : Option AuthenticationEntry → ℕ → LimitEntry → Boo
 must_wait None now limit = false
 must_wait (Some authentication) now limit = authentication.is_wrong && is_reached limit now
 
--- the wrong codes that were sent, including this client's
+-- the wrong codes sent so far, including this client's
 abbrev pub limit_after : Option AuthenticationEntry → ℕ → LimitEntry → LimitEntry
 limit_after None now limit = limit
 limit_after (Some authentication) now limit = if authentication.is_wrong then counted now limit else limit
 
--- ---- both
+-- ---- what is kept in memory
 
--- the cached responses, and the wrong codes that were sent
+-- the cached responses, and the wrong codes sent so far
 pub record MemoryEntry : Type 0 where
   pub reads : List ReadEntry
   pub limit : LimitEntry
 
-abbrev pub memory_entry : ServerMemory → MemoryEntry
+abbrev pub memory_entry : ServerState → MemoryEntry
 memory_entry kept = record { reads = reads_in kept.reads; limit = limit_entry kept.limit }
 
--- an office that is served, and the server's memory
+-- an office that is served, together with the server's memory
 pub record ServedOffice (S : Type 0) : Type 0 where
   pub office : OfficeValue S
   pub kept : MemoryEntry
@@ -70,6 +70,6 @@ pub record ServedOffice (S : Type 0) : Type 0 where
 abbrev pub served_office : {S : Type 0} → OfficeValue S → MemoryEntry → ServedOffice S
 served_office office kept = record { office = office; kept = kept }
 
--- an office with an empty cache, and without wrong codes
+-- an office with an empty cache and no wrong codes
 abbrev pub with_none_kept : {S : Type 0} → OfficeValue S → ServedOffice S
 with_none_kept office = served_office office (record { reads = []; limit = none_wrong })

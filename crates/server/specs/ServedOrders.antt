@@ -1,5 +1,5 @@
--- An order that is handed over to the server: what its message asks, the outcome, and its output in frames. An order of the console shares what its words ask, and how
--- that is followed.
+-- An order that is handed over to the server: what its message asks for, the outcome, and its output in frames. The words of an order from the console have the same
+-- meaning, and it is carried out the same way.
 use Rattle.std.specs.Prelude.{◌≡◌, ◌⊎◌, ⊤, Bool, true, List, [], ◌∷◌, None, Some, bytes_eq, drop, if◌then◌else◌, length, map, option_map, take, ◌≤◌, ◌<◌, ◌+◌, Option, ℕ}
 use Rattle.std.specs.Int.{from_be_bytes, w64}
 use Rattle.std.specs.List.{Contains, list_all}
@@ -37,13 +37,13 @@ use Rattle.server.specs.declared.server_settings.FileNumbers.{FileNumbers}
 
 -- ---- the message
 
--- eight bytes, which say how many follow, and after them the encoding of an order
+-- eight bytes, which say how many follow, and then the encoding of an order
 pub record IsMessage (bytes : List ℕ) (h : OrderMessageEntry) : Type 0 where
   pub fits : Fits h
   pub is : drop 8 bytes ≡ encoding_of h
 
--- a message is complete: it has at least as many bytes as its first eight say
-pub record HasCameWhole (bytes : List ℕ) : Type 0 where
+-- a message is complete: at least as many bytes follow as its first eight bytes say
+pub record IsWholeMessage (bytes : List ℕ) : Type 0 where
   pub front : 8 ≤ length bytes
   pub whole : 8 + from_be_bytes w64 (take 8 bytes) ≤ length bytes
 
@@ -51,26 +51,26 @@ pub record HasCameWhole (bytes : List ℕ) : Type 0 where
 abbrev pub words_in : OrderMessageEntry → List Text
 words_in h = map (λ piece. piece.name) h.words
 
--- these words mean this order
+-- the given words mean the given order
 abbrev pub MeansOrder : List Text → Order → Type 0
 MeansOrder words o = meaning (subcommand_of office_words words) ≡ Some (told o)
 
--- the order comes from this version of the program, and is for the file that is served
+-- the order comes from this version of the program, and is for the file being served
 pub record IsForFile (file : FileNumbers) (h : OrderMessageEntry) : Type 0 where
   pub version : h.version ≡ VERSION.now
   pub device : h.device ≡ file.device
   pub inode : h.inode ≡ file.inode
 
--- an order that can't be done while the office is served
+-- an order that can't be carried out while the office is served
 abbrev pub IsForNone : Order → Type 0
 IsForNone (order.Perform task.Init) = ⊤
 IsForNone (order.Perform task.Migrate) = ⊤
-IsForNone (order.Serve port connections origin codes) = ⊤
+IsForNone (order.Serve port connections origin codes public) = ⊤
 IsForNone (order.Codes path clerks with_office) = ⊤
 IsForNone other = ⊥
 
--- What the words of an order ask that is for this file: a job, a copy, the journal. Or why it isn't followed: they are no order; or the file is gone, which isn't known to be
--- whole.
+-- What the words of an order for the served file ask for: a job, a copy, or the journal. Or why it isn't carried out: the words aren't an order; or the file is gone
+-- (and isn't known to be whole).
 abbrev pub AsksSo : Option Bool → List Text → ServedOrder → Type 0
 AsksSo whole words (asked.Do job) = MeansOrder words (order.Perform (task.InOffice job))
 AsksSo whole words (asked.Copy path) = MeansOrder words (order.Copy path)
@@ -80,35 +80,35 @@ AsksSo whole words (asked.Refused failure) =
     ⊎ ((failure ≡ FileGone) × ((job : Job) × MeansOrder words (order.Perform (task.InOffice job))) × (whole ≡ Some true → ⊥))
 AsksSo whole words (asked.Misread fault) = IsNoneMeant (meaning (subcommand_of office_words words)) fault
 
--- No order is decoded: an allocation failed; or the bytes are no message of text, or that of another version of the program, or for another file.
+-- No order is decoded: an allocation failed; or the bytes aren't a message of text, or the message is from another version of the program or for another file.
 abbrev pub IsUnread : FileNumbers → List ℕ → ServedOrder → Type 0
 IsUnread file got what =
     (what ≡ asked.Refused (Office Memory))
     ⊎ ((what ≡ asked.Refused (Office Store)) × ((h : OrderMessageEntry) → IsMessage got h → IsForFile file h → list_all is_utf8 (words_in h) ≡ true → ⊥))
 
--- these bytes ask this, with the files that came with it
+-- what the given bytes ask for, given the files sent with the order
 abbrev pub AsksOrder : ServerSettingsEntry → List ℕ → List MessagePartEntry → ServedOrder → Type 0
 AsksOrder settings got files what =
     ((h : OrderMessageEntry) × IsMessage got h × IsForFile settings.file h × (files ≡ h.files) × AsksSo settings.whole (words_in h) what) ⊎ (IsUnread settings.file got what × (files ≡ []))
 
--- ---- its files
+-- ---- the files
 
--- the file that came at a path: `None` if none came, or if it couldn't be read
+-- the file sent for a path; `None` if none was sent, or if it couldn't be read
 abbrev pub attached_at : List MessagePartEntry → Text → File
 attached_at [] path = None
 attached_at (p ∷ ps) path = if bytes_eq p.name path then option_map Some p.bytes else attached_at ps path
 
--- the files that came with an order, as a folder
+-- the files sent with an order, as a folder
 abbrev pub folder_of : List MessagePartEntry → Folder
 folder_of files path = Some (attached_at files path)
 
--- ---- its output
+-- ---- the output
 
--- two outputs to which nothing was written yet
+-- two outputs that nothing has been written to yet
 abbrev pub untold : Outputs
 untold = record { out = Some []; out_failed = 0; err = Some []; err_failed = 0 }
 
--- What the outputs of an order accepted is sent in frames: all of the output, and all of the error output. The last frame has the status. Or an allocation failed, and that
+-- What an order's outputs accepted is sent in frames: all of the output, and all of the error output. The last frame has the status; or an allocation failed, and that
 -- frame is missing.
 pub record IsToldInFrames (told : Outputs) (status : ℕ) (frames : List ℕ) : Type 0 where
   pub err : List ℕ
@@ -116,21 +116,21 @@ pub record IsToldInFrames (told : Outputs) (status : ℕ) (frames : List ℕ) : 
   pub out : told.out ≡ Some (output_of frames)
   pub end : (IsOver frames status [] × (error_output_of frames ≡ err)) ⊎ AreWhole frames
 
--- so much of a page is sent in frames
+-- the given part of a page is sent in frames
 pub record IsFramed (cut : Cut) (page : Page) (frames : List ℕ) : Type 0 where
   pub told : Outputs
   pub status : ℕ
   pub shown : IsShown cut untold told page status
   pub framed : IsToldInFrames told status frames
 
--- The page of a copy of the office of a state: how much the copy has, and perhaps that its log couldn't be merged into it; or why none is made.
+-- The page for a copy of the office in a given state: how much the copy contains, and possibly that its log couldn't be merged into it; or why no copy is made.
 abbrev pub IsCopyTold : OfficeState → Page → Type 0
 IsCopyTold s page =
     (page ≡ replied (copied_text (holdings_of s)))
     ⊎ ((page ≡ below (replied (copied_text (holdings_of s))) (failed CopyFailed)) ⊎ ((failure : Failure) × (page ≡ failed failure)))
 
--- The outcome of what is asked at a state, and what that leaves of the office, whose connection was at `old`. A job is done in it. For a copy and for the journal it is
--- only read. What isn't followed leaves it as it was.
+-- The outcome of what is requested in a given state, and what it leaves of the office, whose connection was in the state `old`. A job is carried out in the office. For
+-- a copy or the journal, the office is only read. An order that isn't carried out leaves it unchanged.
 abbrev pub IsOrderOutcome : State → Bool → State → Folder → OfficeState → ServedOrder → Cut → Page → Type 0
 IsOrderOutcome old closed st folder s (asked.Do job) cut page = ComesTo cut page (IsDone old closed st folder s job)
 IsOrderOutcome old closed st folder s (asked.Copy path) cut page = IsCopyTold s page × IsReadAt s closed st
@@ -138,71 +138,71 @@ IsOrderOutcome old closed st folder s asked.Journal cut page = IsJournalTold s p
 IsOrderOutcome old closed st folder s (asked.Refused failure) cut page = (page ≡ failed failure) × IsOpenAt s closed st
 IsOrderOutcome old closed st folder s (asked.Misread fault) cut page = (page ≡ words_page fault) × IsOpenAt s closed st
 
--- a path is a name alone, without a folder
+-- a path is a bare name, without a folder
 abbrev pub IsBareName : Text → Type 0
 IsBareName path = (0 < length path) × (Contains path 47 → ⊥)
 
--- the page of a closed office: that it is closed, of anything it would do; and otherwise why the order isn't followed
-abbrev pub shut_page : ServedOrder → Page
-shut_page (asked.Do job) = closed_page
-shut_page (asked.Copy path) = closed_page
-shut_page asked.Journal = closed_page
-shut_page (asked.Refused failure) = failed failure
-shut_page (asked.Misread fault) = words_page fault
+-- the page that a closed office prints: it says that the office is closed, if the order would be carried out otherwise; or else why the order isn't carried out
+abbrev pub closed_office_page : ServedOrder → Page
+closed_office_page (asked.Do job) = closed_page
+closed_office_page (asked.Copy path) = closed_page
+closed_office_page asked.Journal = closed_page
+closed_office_page (asked.Refused failure) = failed failure
+closed_office_page (asked.Misread fault) = words_page fault
 
--- What is asked with these files was done, and so much of its page was sent so. If the office was open, the page has the outcome as far as its outputs accepted it, with what
--- it left. If the office was closed, the page says so.
+-- The request, with the given files, was carried out, and the given part of its page was sent in the given way. If the office was open, the page is the outcome, as far
+-- as the outputs accepted it, together with the state that the request left. If the office was closed, the page says so.
 pub record Follows {S : Type 0} (state_of : Held S → State) (old : OfficeValue S) (files : List MessagePartEntry) (asked : ServedOrder) (IsSent : Cut → Page → Type 0) (new : OfficeValue S)
     : Type 0 where
   pub cut : Cut
   pub page : Page
   pub told : IsSent cut page
   pub does : WhenOpenAt state_of old new (λ s. IsOrderOutcome (state_of old.held) new.closed (state_of new.held) (folder_of files) s asked cut page)
-  pub turned_away : old.closed ≡ true → (page ≡ shut_page asked) × (new ≡ old)
+  pub turned_away : old.closed ≡ true → (page ≡ closed_office_page asked) × (new ≡ old)
   pub clean : HasCleanDisk (state_of new.held) → HasCleanDisk (state_of old.held)
 
--- what is asked was done, and these frames are the response
+-- the request was carried out, and the given frames are the response
 abbrev pub IsResponseToOrder : {S : Type 0} → (Held S → State) → OfficeValue S → List MessagePartEntry → ServedOrder → List ℕ → OfficeValue S → Type 0
 IsResponseToOrder state_of old files asked frames new = Follows state_of old files asked (λ cut page. IsFramed cut page frames) new
 
--- the order that these bytes ask was processed, and these frames are the response
+-- the order that the given bytes contain was processed, and the given frames are the response
 pub record FollowsOrder {S : Type 0} (settings : ServerSettingsEntry) (state_of : Held S → State) (old : OfficeValue S) (got frames : List ℕ) (new : OfficeValue S) : Type 0 where
   pub files : List MessagePartEntry
   pub asked : ServedOrder
   pub is : AsksOrder settings got files asked
   pub tells : IsResponseToOrder state_of old files asked frames new
 
--- ---- its output at a state
+-- ---- the output in a given state
 
--- of requests that were sent, the first so many were answered, and the next one, if there is one, was the last that was sent
+-- the first n requests that were sent were answered, and the next one, if any, was the last one sent
 abbrev pub AreAnswered : List Request → ℕ → List Request → List Request → Type 0
 AreAnswered requests answered sent last = (sent ≡ take answered requests) × (last ≡ take 1 (drop answered requests))
 
--- The page of what is asked at a state, for which these requests were answered, and this one more was sent, if any. A job prints it in an office that was open at that
--- state, over some connection, whose failure may be the cause of a fault on it.
-abbrev pub TellsSo : {S : Type 0} → (Held S → State) → Folder → OfficeState → ServedOrder → Cut → Page → List Request → List Request → Type 0
-TellsSo {S} state_of folder s (asked.Do job) cut page sent last =
+-- The page of what is requested in a given state, where the given requests were answered, and possibly another one was sent. A job prints it in an office that was open
+-- in that state, over some connection, whose failure may be the cause of a reported fault.
+abbrev pub PrintsAt : {S : Type 0} → (Held S → State) → Folder → OfficeState → ServedOrder → Cut → Page → List Request → List Request → Type 0
+PrintsAt {S} state_of folder s (asked.Do job) cut page sent last =
     (old new : OfficeValue S)
     × ComesTo cut page (λ course. IsDone (state_of old.held) new.closed (state_of new.held) folder s job course × AreAnswered course.requests course.answered sent last)
-TellsSo state_of folder s (asked.Copy path) cut page sent last = IsCopyTold s page × (sent ≡ []) × (last ≡ [])
-TellsSo state_of folder s asked.Journal cut page sent last = IsJournalTold s page × (sent ≡ []) × (last ≡ [])
-TellsSo state_of folder s (asked.Refused failure) cut page sent last = (page ≡ failed failure) × (sent ≡ []) × (last ≡ [])
-TellsSo state_of folder s (asked.Misread fault) cut page sent last = (page ≡ words_page fault) × (sent ≡ []) × (last ≡ [])
+PrintsAt state_of folder s (asked.Copy path) cut page sent last = IsCopyTold s page × (sent ≡ []) × (last ≡ [])
+PrintsAt state_of folder s asked.Journal cut page sent last = IsJournalTold s page × (sent ≡ []) × (last ≡ [])
+PrintsAt state_of folder s (asked.Refused failure) cut page sent last = (page ≡ failed failure) × (sent ≡ []) × (last ≡ [])
+PrintsAt state_of folder s (asked.Misread fault) cut page sent last = (page ≡ words_page fault) × (sent ≡ []) × (last ≡ [])
 
--- an order that these bytes ask printed its page at a state, in these frames
-pub record TellsOrder {S : Type 0} (state_of : Held S → State) (settings : ServerSettingsEntry) (s : OfficeState) (got frames : List ℕ) (sent last : List Request) : Type 0 where
+-- the order that the given bytes contain printed its page in a given state, in the given frames
+pub record OrderPrints {S : Type 0} (state_of : Held S → State) (settings : ServerSettingsEntry) (s : OfficeState) (got frames : List ℕ) (sent last : List Request) : Type 0 where
   pub files : List MessagePartEntry
   pub asked : ServedOrder
   pub is : AsksOrder settings got files asked
   pub cut : Cut
   pub page : Page
   pub told : IsFramed cut page frames
-  pub tells : TellsSo state_of (folder_of files) s asked cut page sent last
+  pub tells : PrintsAt state_of (folder_of files) s asked cut page sent last
 
--- an order that these bytes ask found the office closed, and these frames say so
-pub record IsTurnedAway (settings : ServerSettingsEntry) (got frames : List ℕ) : Type 0 where
+-- the order that the given bytes contain found the office closed, and the frames say so
+pub record IsRefusedClosed (settings : ServerSettingsEntry) (got frames : List ℕ) : Type 0 where
   pub files : List MessagePartEntry
   pub asked : ServedOrder
   pub is : AsksOrder settings got files asked
   pub cut : Cut
-  pub told : IsFramed cut (shut_page asked) frames
+  pub told : IsFramed cut (closed_office_page asked) frames

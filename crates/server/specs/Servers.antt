@@ -1,4 +1,4 @@
--- A server: which connections it accepts and closes, and what is promised of all of them.
+-- A server: which connections it accepts and closes, and what is promised about all of them.
 use Rattle.std.specs.Prelude.{◌≡◌, ◌≤◌, ◌<◌, ◌+◌, ◌-◌, ◌^◌, Bool, true, false, List, [], ◌++◌, IfSome, None, OnOk, Option, Result, Ok, Err, Some, is_some, length, map, option_map, slice_index_or, ℕ}
 use Rattle.std.specs.List.{FoldsTo, insert}
 use Rattle.sqlite.specs.Held.{Held}
@@ -19,7 +19,7 @@ use Rattle.connections.specs.declared.client.Accepted.{Accepted}
 use Rattle.connections.specs.declared.removed.Removed.{Removed}
 use Rattle.connections.specs.declared.removed.CloseReason.{CloseReason}
 use Rattle.connections.specs.declared.connection_table.ConnectionTable.{ConnectionTable}
-use Rattle.server.specs.ServedConnections.{AreIn, ServedConnection, HasLeft, AllHadExchanges}
+use Rattle.server.specs.ServedConnections.{AreOpen, ServedConnection, WasClosed, AllHadExchanges}
 use Rattle.server.specs.declared.serve_error.ServeError.{ServeError}
 use Rattle.server.specs.declared.serve_error.ServeError.TheVariants as ended
 use Rattle.server.specs.Reads.{ServedOffice, MemoryEntry, served_office, with_none_kept}
@@ -27,58 +27,58 @@ use Rattle.server.specs.Settings.{ServerSettingsEntry}
 use Rattle.server.specs.Servicing.{response_at}
 use Rattle.server.specs.Exchanges.{KeepsExchanges, ServesExchange, Exchange}
 
--- these connections were accepted
+-- the given connections were accepted
 abbrev pub AcceptsMore : {L : Type 0} → Option (List (Accepted L)) → Option (List (Accepted L)) → List (Accepted L) → Type 0
 AcceptsMore old new all_accepted = new ≡ option_map (λ before. before ++ all_accepted) old
 
--- and these were handed back
+-- the given connections were handed back
 abbrev pub RemovesMore : {L : Type 0} → Option (List (Removed L)) → Option (List (Removed L)) → List (Removed L) → Type 0
 RemovesMore old new gone = new ≡ option_map (λ before. before ++ gone) old
 
--- From one moment to a later one. More connections were accepted, each with the next number, and clients were counted. These exchanges took place. Each open connection is
--- still open, or was handed back.
+-- From one time to a later one: more connections were accepted, each with the next number, and clients were counted; the given exchanges took place; and each open
+-- connection is still open, or was handed back.
 pub record GoesOn {L : Type 0} (settings : ServerSettingsEntry) (stream : Stream L) (exchanges : List Exchange) (before later : NetworkEntry L) (old new : ConnectionTable L) : Type 0 where
   pub all_accepted : List (Accepted L)
   pub told : AcceptsMore before.came later.came all_accepted
   pub counted : new.counted ≡ old.counted + clients_among all_accepted
   pub gone : List (Removed L)
   pub back : RemovesMore before.left later.left gone
-  pub own : (all_connections : List (ServedConnection L)) (earlier : List Exchange) (left : List (Removed L)) → AreIn settings stream all_connections earlier left old.came old.clients.items
+  pub own : (all_connections : List (ServedConnection L)) (earlier : List Exchange) (left : List (Removed L)) → AreOpen settings stream all_connections earlier left old.came old.clients.items
       → (all : List (ServedConnection L)) × (map (λ connection. connection.came) all ≡ map (λ connection. connection.came) all_connections ++ all_accepted)
-      × AreIn settings stream all (earlier ++ exchanges) (left ++ gone) new.came new.clients.items
+      × AreOpen settings stream all (earlier ++ exchanges) (left ++ gone) new.came new.clients.items
 
--- the same while an office serves the exchanges
+-- the same, along with the office that serves the exchanges
 pub record GoesOnServing {L S : Type 0} (settings : ServerSettingsEntry) (stream : Stream L) (state_of : Held S → State) (before later : NetworkEntry L) (old new : ConnectionTable L)
     (at behind : ServedOffice S) : Type 0 where
   pub exchanges : List Exchange
   pub each : FoldsTo (ServesExchange settings state_of) at exchanges behind
   pub goes_on : GoesOn settings stream exchanges before later old new
 
--- The same from any moment that the clock showed last. Step by step, these responses were made, and these connections were accepted and closed.
-abbrev pub ServesOn : {L S : Type 0} → ServerSettingsEntry → Stream L → (Held S → State) → NetworkEntry L → NetworkEntry L → ConnectionTable L → ConnectionTable L → ServedOffice S
+-- The same, starting from any last reading of the clock. Step by step, the given responses were produced, and connections were accepted and closed.
+abbrev pub ServesFrom : {L S : Type 0} → ServerSettingsEntry → Stream L → (Held S → State) → NetworkEntry L → NetworkEntry L → ConnectionTable L → ConnectionTable L → ServedOffice S
     → ServedOffice S → Type 0
-ServesOn settings stream state_of before later old new at behind =
+ServesFrom settings stream state_of before later old new at behind =
     (from : Option ℕ) → (to : Option ℕ) × (it : GoesOnServing settings stream state_of before later old new at behind)
     × Trace (is_some settings.clients.gate) stream (map response_at it.exchanges) from to before later old.clients.items new.clients.items
 
--- the connection at a place has this number
+-- the connection at a place has the given number
 abbrev pub IsNumbered : {L : Type 0} → List (Client L) → ℕ → ℕ → Type 0
 IsNumbered {L} clients place number = (client : Client L) → (slice_index_or clients place client).number ≡ number
 
--- a connection is at its place of the table again
-pub record StandsAgain {L : Type 0} (place : ℕ) (client : Client L) (old new : ConnectionTable L) : Type 0 where
+-- a connection is back in its place in the table
+pub record IsBackInTable {L : Type 0} (place : ℕ) (client : Client L) (old new : ConnectionTable L) : Type 0 where
   pub clients : new.clients.items ≡ insert old.clients.items place client
   pub came : new.came ≡ old.came
   pub counted : new.counted ≡ old.counted
 
--- The outcome of servicing a connection, which was taken out of the table for that. It was closed for its reason. Or it is at its place again, and then connections
--- were closed while too many bytes were in memory.
+-- The outcome of servicing a connection that was taken out of the table for this. Either it was closed, for the given reason; or it is back in its place, and then
+-- connections were closed while too many bytes were in memory.
 abbrev pub IsSettled : {L : Type 0} → Option CloseReason → ℕ → Client L → NetworkEntry L → NetworkEntry L → ConnectionTable L → ConnectionTable L → Type 0
 IsSettled (Some why) place client before later old new = (later ≡ with_removed before (removed_of client why)) × (new ≡ old)
-IsSettled {L} None place client before later old new = (back : ConnectionTable L) × StandsAgain place client old back × AreClosedByRule IsClosedForBytes before later back new
+IsSettled {L} None place client before later old new = (back : ConnectionTable L) × IsBackInTable place client old back × AreClosedByRule IsClosedForBytes before later back new
 
--- How all of them were accepted, serviced and closed, step by step. At first no connection is open, and the clock hasn't shown a moment yet. The connections that are open
--- as serving ends are closed then, one after the other. After an end without a failure there are none.
+-- How all connections were accepted, serviced and closed, step by step. At first no connection is open, and the clock hasn't been read yet. The connections that are
+-- still open when serving ends are then closed, one by one. If serving ends without a failure, there are none.
 pub record ClosesConnections {L : Type 0} (gated : Bool) (stream : Stream L) (turns : List ResponseAt) (before later : NetworkEntry L) (result : Result (Unit {0}) ServeError) : Type 0 where
   pub end : NetworkEntry L
   pub shown : Option ℕ
@@ -89,11 +89,11 @@ pub record ClosesConnections {L : Type 0} (gated : Bool) (stream : Stream L) (tu
   pub each : FoldsTo IsClosed rest closed []
   pub none : OnOk result (rest ≡ [])
 
--- calls of the network, of which none failed, or only the last one; and no wait succeeded
+-- calls to the network, of which at most the last one failed; and no wait succeeded
 abbrev pub IsCalled : {A L : Type 0} → Result A Broken → NetworkEntry L → NetworkEntry L → Type 0
 IsCalled result before later = (later.failed ≡ failed_after result before.failed) × (later.waits ≡ before.waits)
 
--- the same, and none failed
+-- calls to the network, none of which failed; and no wait succeeded
 abbrev pub IsUnfailed : {L : Type 0} → NetworkEntry L → NetworkEntry L → Type 0
 IsUnfailed before later = (later.failed ≡ before.failed) × (later.waits ≡ before.waits)
 
@@ -103,17 +103,17 @@ IsRound (Ok true) before later = (later.failed ≡ before.failed) × (later.wait
 IsRound (Ok false) before later = (later.failed ≡ before.failed) × (later.waits ≡ one_more before.waits)
 IsRound (Err broken) before later = (later.failed ≡ one_more before.failed) × (later.waits ≡ before.waits)
 
--- Why serving ended early: a call of the network failed, and it was the only one; or the table couldn't be allocated; or the number of rounds reached its limit. Otherwise no
--- call failed.
+-- Why serving ended early: a single call to the network failed; or the table couldn't be allocated; or the number of rounds reached its limit. Otherwise no call
+-- failed.
 abbrev pub IsEndedBy : {L : Type 0} → NetworkEntry L → NetworkEntry L → Result (Unit {0}) ServeError → Type 0
 IsEndedBy before later (Ok end) = later.failed ≡ before.failed
 IsEndedBy before later (Err ended.Network) = later.failed ≡ one_more before.failed
 IsEndedBy before later (Err ended.Memory) = (later.failed ≡ before.failed) × (later.came ≡ before.came)
 IsEndedBy before later (Err ended.Rounds) = (later.failed ≡ before.failed) × (later.waits ≡ option_map (λ n. n + (2 ^ 64 - 1)) before.waits)
 
--- Connections of clients and orders were accepted: no more clients than were asked for, and after an end without a failure exactly so many. What happened to each is as it
--- should be, and each was handed back, once, with its stream at the end. Their requests were processed one after the other, each in the office that those before it left.
--- The cache was empty at first, and no wrong code had come. And this is kept of the requests.
+-- Connections from clients and for orders were accepted: no more clients than requested, and exactly as many if serving ended without a failure. What happened to each
+-- connection is as specified, and each was handed back, exactly once, with its stream in its final state. Their requests were processed one at a time, each in the
+-- office that the previous ones left. At first the cache was empty, and no wrong code had been sent. What is kept of the requests is as specified, too.
 pub record ServesConnections {L S : Type 0} (settings : ServerSettingsEntry) (stream : Stream L) (state_of : Held S → State) (before later : NetworkEntry L) (most : Option ℕ)
     (old new : OfficeValue S) (result : Result (Unit {0}) ServeError) : Type 0 where
   pub all_connections : List (ServedConnection L)
@@ -124,7 +124,7 @@ pub record ServesConnections {L S : Type 0} (settings : ServerSettingsEntry) (st
   pub few : IfSome most (λ n. clients_among (map (λ connection. connection.came) all_connections) ≤ n)
   pub all : OnOk result (IfSome most (λ n. clients_among (map (λ connection. connection.came) all_connections) ≡ n))
   pub went : AllHadExchanges settings stream all_connections exchanges
-  pub left : (number : ℕ) (connection : ServedConnection L) → number < length all_connections → HasLeft stream gone exchanges number (slice_index_or all_connections number connection)
+  pub left : (number : ℕ) (connection : ServedConnection L) → number < length all_connections → WasClosed stream gone exchanges number (slice_index_or all_connections number connection)
   pub once : length gone ≡ length all_connections
   pub closes : ClosesConnections (is_some settings.clients.gate) stream (map response_at exchanges) before later result
   pub kept : MemoryEntry

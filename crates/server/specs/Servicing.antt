@@ -1,4 +1,4 @@
--- How a connection is serviced, and its request is processed.
+-- How a connection is serviced, and how its request is processed.
 use Rattle.std.specs.Prelude.{◌≡◌, ◌≢◌, ◌⊎◌, ⊤, Bool, true, false, List, [], ◌∷◌, None, Option, Some, Result, Ok, Err, map, option_map, ℕ}
 use Rattle.std.specs.Io.KnownBytes.{IsAtEnd}
 use Rattle.sqlite.specs.Held.{Held}
@@ -18,25 +18,25 @@ use Rattle.wire.specs.Parsing.{IsParsed}
 use Rattle.wire.specs.declared.parsed.Parsed.{Parsed}
 use Rattle.server.specs.declared.servicing.Serviced.{Serviced}
 use Rattle.server.specs.declared.servicing.Serviced.TheVariants.{Waits, Served, Leaves}
-use Rattle.server.specs.ServedOrders.{HasCameWhole}
+use Rattle.server.specs.ServedOrders.{IsWholeMessage}
 use Rattle.server.specs.Reads.{ServedOffice}
 use Rattle.server.specs.Settings.{ServerSettingsEntry}
 use Rattle.server.specs.Exchanges.{ServesExchange, Exchange}
 
--- a client's request is complete: the bytes ask the same whatever follows them, or the connection sends no more
-abbrev pub HasCome : HttpSettingsEntry → Option (List ℕ) → List ℕ → Type 0
-HasCome settings held got = IsWhole settings got ⊎ IsAtEnd held
+-- a client's request is complete: what the bytes ask for doesn't depend on what follows them, or the connection sends no more
+abbrev pub IsComplete : HttpSettingsEntry → Option (List ℕ) → List ℕ → Type 0
+IsComplete settings held got = IsWhole settings got ⊎ IsAtEnd held
 
--- the same for a client whose head was parsed
-abbrev pub IsCome : HttpSettingsEntry → Option (List ℕ) → List ℕ → Parsed → Type 0
-IsCome settings held got parsed = HasCome settings held got × IsParsed settings got parsed
+-- a client's request is complete, given the client's parsed head
+abbrev pub IsCompleteFor : HttpSettingsEntry → Option (List ℕ) → List ℕ → Parsed → Type 0
+IsCompleteFor settings held got parsed = IsComplete settings held got × IsParsed settings got parsed
 
--- the same for a connection of either listener; an order is complete once its whole message arrived
+-- the request on a connection from either listener is complete; an order is complete once its whole message has arrived
 abbrev pub HasComeAt : Listener → ServerSettingsEntry → Option (List ℕ) → List ℕ → Type 0
-HasComeAt Clients settings held got = HasCome settings.clients held got
-HasComeAt Orders settings held got = HasCameWhole got
+HasComeAt Clients settings held got = IsComplete settings.clients held got
+HasComeAt Orders settings held got = IsWholeMessage got
 
--- nothing was sent yet on a connection without a response, as far as its stream says what it accepted
+-- nothing has been sent yet on a connection without a response, as far as it is known what its stream has accepted
 abbrev pub HasSentNothing : {L : Type 0} → Stream L → Client L → Type 0
 HasSentNothing stream client = client.answer ≡ None → HasTaken (stream.taken client.stream) []
 
@@ -44,12 +44,12 @@ HasSentNothing stream client = client.answer ≡ None → HasTaken (stream.taken
 abbrev pub answer_of : {L : Type 0} → Client L → Option (List ℕ)
 answer_of client = option_map (λ answer. answer.bytes.items) client.answer
 
--- It is the same connection, with the same time limit.
+-- Two values represent the same connection, with the same time limit.
 abbrev pub IsSameClient : {L : Type 0} → Client L → Client L → Type 0
 IsSameClient old new = (new.listener ≡ old.listener) × (new.number ≡ old.number) × (new.since ≡ old.since)
 
--- The request of a connection was processed while it was serviced at a moment: its own bytes were received until the request was complete, exactly these were served, and
--- the connection has that response.
+-- The request of a connection was processed while the connection was serviced at a given time. Its own bytes were received until the request was complete, the request
+-- in exactly those bytes was processed, and the connection has the resulting response.
 pub record HasResponded {L S : Type 0} (settings : ServerSettingsEntry) (stream : Stream L) (state_of : Held S → State) (now : ℕ) (old new : Client L) (before later : ServedOffice S) : Type 0 where
   pub exchange : Exchange
   pub listener : exchange.listener ≡ old.listener
@@ -62,48 +62,50 @@ pub record HasResponded {L S : Type 0} (settings : ServerSettingsEntry) (stream 
   pub served : ServesExchange settings state_of before exchange later
   pub belongs : answer_of new ≡ Some exchange.answer
 
--- the exchanges of a connection while it was serviced at a moment: one if its request was processed, and otherwise none
+-- the exchanges of a connection while it was serviced at a given time: one if its request was processed, otherwise none
 abbrev pub HasExchanges : {L S : Type 0} → ServerSettingsEntry → Stream L → (Held S → State) → ℕ → List Exchange → Client L → Client L → ServedOffice S → ServedOffice S → Type 0
 HasExchanges settings stream state_of now [] old new before later = (later ≡ before) × (answer_of new ≡ answer_of old)
 HasExchanges settings stream state_of now (exchange ∷ []) old new before later = (turn : HasResponded settings stream state_of now old new before later) × (turn.exchange ≡ exchange)
 HasExchanges settings stream state_of now (exchange ∷ other ∷ more) old new before later = ⊥
 
--- its request was processed; or the office and the server's memory are as before, and so is the response
+-- the connection's request was processed; or the office, the server's memory and the response are unchanged
 abbrev pub MayHaveResponded : {L S : Type 0} → ServerSettingsEntry → Stream L → (Held S → State) → ℕ → Client L → Client L → ServedOffice S → ServedOffice S → Type 0
 MayHaveResponded settings stream state_of now old new before later = HasResponded settings stream state_of now old new before later ⊎ ((later ≡ before) × (answer_of new ≡ answer_of old))
 
--- The outcome of servicing a connection. It waits, and its request wasn't processed; or it was processed just now; or the connection is to be closed, in either case.
+-- The outcome of servicing a connection. It waits, and its request hasn't been processed; or its request has just been processed; or, in either case, the connection
+-- should be closed.
 abbrev pub Services : {L S : Type 0} → ServerSettingsEntry → Stream L → (Held S → State) → ℕ → Serviced → Client L → Client L → ServedOffice S → ServedOffice S → Type 0
 Services settings stream state_of now Waits old new before later = (later ≡ before) × (answer_of new ≡ answer_of old)
 Services settings stream state_of now Served old new before later = HasResponded settings stream state_of now old new before later
 Services settings stream state_of now (Leaves why) old new before later = MayHaveResponded settings stream state_of now old new before later
 
--- a connection of which nothing more can be received is broken or unreadable
-abbrev pub IsLostOnly : {A : Type 0} → Result A CloseReason → Type 0
-IsLostOnly result = (result ≢ Err Done) × (result ≢ Err TimedOut) × (result ≢ Err Evicted) × (result ≢ Err Closing)
+-- a connection from which nothing more can be received is broken or unreadable
+abbrev pub FailsOnlyAsLost : {A : Type 0} → Result A CloseReason → Type 0
+FailsOnlyAsLost result = (result ≢ Err Done) × (result ≢ Err TimedOut) × (result ≢ Err Evicted) × (result ≢ Err Closing)
 
 -- ---- the clock
 
--- an exchange as it counts among the responses
+-- an exchange, as an entry in the list of responses
 abbrev pub response_at : Exchange → ResponseAt
 response_at exchange = record { number = exchange.number; moment = exchange.moment; answer = exchange.answer }
 
--- the moment when a request is processed: the one that the clock showed, and 0 if the clock wasn't read
+-- the time at which a request is processed: the clock's reading, or 0 if the clock wasn't read
 abbrev pub moment_of : Option ℕ → ℕ
 moment_of None = 0
 moment_of (Some now) = now
 
--- the clock was read for the moment of a request exactly if wrong codes count
+-- the clock was read for a request if and only if wrong codes are counted
 abbrev pub IsAtGate : Bool → Option ℕ → List Exchange → Type 0
 IsAtGate gated gate [] = ⊤
 IsAtGate gated gate (exchange ∷ exchanges) = IsMomentOf gated gate exchange.moment
 
--- the clock is read if wrong codes count, and otherwise not
+-- the clock is read if and only if wrong codes are counted
 abbrev pub LooksAtGate : {L : Type 0} → Bool → Result ℕ Broken → NetworkEntry L → NetworkEntry L → Type 0
 LooksAtGate true result before later = later ≡ after_look result before
 LooksAtGate false result before later = (result ≡ Ok 0) × (later ≡ before)
 
--- An open connection was serviced that the network reported as ready. Its request was processed at the moment of the clock, or it wasn't, with this outcome.
+-- An open connection that the network reported as ready was serviced, with the given outcome. Either its request was processed, at the time read from the clock, or it
+-- wasn't processed.
 pub record WasServiced {L S : Type 0} (gated : Bool) (settings : ServerSettingsEntry) (stream : Stream L) (state_of : Held S → State) (result : Result (Option CloseReason) Broken)
     (before later : NetworkEntry L)
     (old new : Client L) (at behind : ServedOffice S) : Type 0 where

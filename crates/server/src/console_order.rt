@@ -1,5 +1,5 @@
-//! The response to an order of the console: it is processed in the open office, as an order that is handed over, and its output is
-//! one response.
+//! The response to an order from the console. The order is processed in the open office, just like an order that is handed
+//! over, and its output is returned in one response.
 
 ghost use Rattle.std.specs.Prelude.{◌≡◌, [], IfOk, map, string_bytes};
 ghost use Rattle.sqlite.specs.Held.{state};
@@ -23,14 +23,14 @@ use std::alloc::{AllocError, Global};
 use store::Fault;
 use wire::{ConsoleFile, ConsoleOrder, Response};
 
-/// The words of an order as they are typed, and the files that came with it.
+/// The words of an order, as typed, and the files sent with it.
 #[derive(Drop)]
 struct ReadOrder<'a> {
     words: Vec<&'a str>,
     files: Vec<MessagePart<'a>>,
 }
 
-/// Returns the words of an order as they are typed, the first of which is DB. The only error is a failed allocation.
+/// Returns the words of an order, as typed; the first one is DB. The only error is a failed allocation.
 fn typed_words<'a>(alloc: Global, words: &'a [String]) -> Result<Vec<&'a str>, AllocError>
     ensures { IfOk result (λ texts. map (λ text. text.now) texts.items ≡ typed_words (map string_bytes words.now)) }
 {
@@ -41,7 +41,7 @@ fn typed_words<'a>(alloc: Global, words: &'a [String]) -> Result<Vec<&'a str>, A
     Ok(texts)
 }
 
-/// Returns the files of an order, as those of a message. The only error is a failed allocation.
+/// Returns the files of an order, in the form that a message's files have. The only error is a failed allocation.
 fn files_of<'a>(alloc: Global, files: &'a [ConsoleFile]) -> Result<Vec<MessagePart<'a>>, AllocError>
     ensures { IfOk result (λ parts. message_part_entries parts.items ≡ map sent_file (map console_file_entry files.now)) }
 {
@@ -55,7 +55,7 @@ fn files_of<'a>(alloc: Global, files: &'a [ConsoleFile]) -> Result<Vec<MessagePa
     Ok(parts)
 }
 
-/// Returns the words of an order as they are typed, and its files. The only error is a failed allocation.
+/// Returns the words of an order, as typed, and its files. The only error is a failed allocation.
 fn read_order<'a>(alloc: Global, order: &'a ConsoleOrder) -> Result<ReadOrder<'a>, AllocError>
     ensures words { IfOk result (λ read. map (λ text. text.now) read.words.items ≡ typed_words (map string_bytes order.now.words.items)) }
     ensures files { IfOk result (λ read. message_part_entries read.files.items ≡ map sent_file (map console_file_entry order.now.files.items)) }
@@ -65,8 +65,8 @@ fn read_order<'a>(alloc: Global, order: &'a ConsoleOrder) -> Result<ReadOrder<'a
     Ok(ReadOrder { words, files })
 }
 
-/// Returns the response with what an order printed on its two outputs, and with its status; or that the output failed (107), if
-/// what it printed on one of them isn't UTF-8.
+/// Returns the response with what an order printed to its two outputs, and with its status. If either output isn't UTF-8,
+/// returns the response saying that the output failed (107).
 fn printed_response(alloc: Global, status: u8, out: &[u8], err: &[u8]) -> Response
     ensures { IsTold (printed_response status out.now err.now) result }
 {
@@ -79,7 +79,7 @@ fn printed_response(alloc: Global, status: u8, out: &[u8], err: &[u8]) -> Respon
     }
 }
 
-/// Does what an order asks, and returns the response with what it printed.
+/// Carries out an order, and returns the response with its output.
 fn follow_asked<A: ServedFile, S: Alter>(
     order: &OrderContext<'_, A>,
     office: &mut Office<S>,
@@ -94,8 +94,8 @@ fn follow_asked<A: ServedFile, S: Alter>(
     printed_response(order.alloc, status, output.as_slice(), errors.as_slice())
 }
 
-/// Returns the response to an order that isn't followed because an allocation failed.
-fn follow_none<A: ServedFile, S: Alter>(
+/// Returns the response to an order that isn't carried out because an allocation failed.
+fn reject_out_of_memory<A: ServedFile, S: Alter>(
     alloc: Global,
     served_file: &A,
     office: &mut Office<S>,
@@ -114,11 +114,11 @@ fn follow_none<A: ServedFile, S: Alter>(
     follow_asked(&order, office)
 }
 
-/// Processes an order of the console in the office, and returns the response with what it printed, both output and errors. A closed
-/// office stays as it is.
+/// Processes an order from the console in the office, and returns the response with both its output and its error output. A
+/// closed office stays as it is.
 ///
-/// The files that the order names are those that came with it, and no others. A copy is made to a name without a folder. For
-/// `init`, `migrate`, `serve` and `codes` the order isn't followed, because the office is being served (111).
+/// The files that the order names are those sent with it, and no others. A copy is made only to a bare name, without a folder.
+/// The orders `init`, `migrate`, `serve` and `codes` aren't carried out, because the office is being served (111).
 pub fn answer_console<A: ServedFile, S: Alter>(
     alloc: Global,
     server_settings: ServerSettings<'_, A>,
@@ -129,7 +129,7 @@ pub fn answer_console<A: ServedFile, S: Alter>(
 {
     let read = match read_order(alloc, order) {
         Ok(read) => read,
-        Err(AllocError) => return follow_none(alloc, server_settings.served_file, office),
+        Err(AllocError) => return reject_out_of_memory(alloc, server_settings.served_file, office),
     };
     let asked = unless_gone(
         served_order_by(alloc, &read.words),

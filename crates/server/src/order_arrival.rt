@@ -1,18 +1,18 @@
-//! The message of an order, as it arrives on its connection.
+//! The message of an order, received piece by piece from its connection.
 
 ghost use Rattle.std.specs.Prelude.{◌≡◌, ◌+◌, None, Err, IfOk, IfSome, Ok, length, take, true};
 ghost use Rattle.std.specs.Int.{from_be_bytes, w64};
 ghost use Rattle.connections.specs.Streams.{Receives, HasFailed, stream_of};
-ghost use Rattle.server.specs.ServedOrders.{HasCameWhole};
-ghost use Rattle.server.specs.Servicing.{IsLostOnly, IsSameClient};
+ghost use Rattle.server.specs.ServedOrders.{IsWholeMessage};
+ghost use Rattle.server.specs.Servicing.{FailsOnlyAsLost, IsSameClient};
 
 use connections::{Client, CloseReason, ReadProgress, Stream};
 use order_protocol::read_message_head;
 
-/// The length of the field with the length of a message, before the message itself.
+/// The size of the length field that precedes a message, in bytes.
 pub const LENGTH: usize = 8;
 
-/// Returns how many bytes a message has in all, by its first eight; `None` if it is too long.
+/// Returns the total size of a message in bytes, given its first eight bytes; `None` if the message is too long.
 fn message_len(front: [u8; LENGTH]) -> Option<usize>
     ensures { IfSome result (λ n. n ≡ 8 + from_be_bytes w64 front) }
 {
@@ -22,14 +22,15 @@ fn message_len(front: [u8; LENGTH]) -> Option<usize>
     }
 }
 
-/// Reads the length of a message; `None` while it hasn't arrived. A connection that ends before it is closed.
+/// Reads the length of a message; returns `None` if it hasn't arrived yet. A connection that ends before the length has arrived
+/// is closed.
 fn receive_length<L: Stream>(client: &mut Client<L>) -> Result<Option<[u8; LENGTH]>, CloseReason>
     requires { client.old.answer ≡ None }
     ensures receives { Receives (stream_of L.held L.taken L.failed) client.old.stream client.new.stream client.old.got.items client.new.got.items }
     ensures same { IsSameClient client.old client.new × (client.new.answer ≡ None) }
     ensures front { IfOk result (λ found. IfSome found (λ front. front ≡ take 8 client.new.got.items)) }
     ensures broken { result ≡ Err CloseReason.Broken → HasFailed (L.failed client.new.stream) }
-    ensures lost { IsLostOnly result }
+    ensures lost { FailsOnlyAsLost result }
 {
     match client.receive(LENGTH)? {
         ReadProgress::Enough => Ok(client.got.as_slice().first_chunk().copied()),
@@ -38,15 +39,15 @@ fn receive_length<L: Stream>(client: &mut Client<L>) -> Result<Option<[u8; LENGT
     }
 }
 
-/// Reads the message of an order; returns whether it is complete. A connection is closed if it ends too early, or if the message
-/// is too long.
+/// Reads the message of an order, and returns whether the message is complete. Closes the connection if it ends too early or if
+/// the message is too long.
 pub fn receive_message<L: Stream>(client: &mut Client<L>) -> Result<bool, CloseReason>
     requires { client.old.answer ≡ None }
     ensures receives { Receives (stream_of L.held L.taken L.failed) client.old.stream client.new.stream client.old.got.items client.new.got.items }
     ensures same { IsSameClient client.old client.new × (client.new.answer ≡ None) }
-    ensures come { result ≡ Ok true → HasCameWhole client.new.got.items }
+    ensures come { result ≡ Ok true → IsWholeMessage client.new.got.items }
     ensures broken { result ≡ Err CloseReason.Broken → HasFailed (L.failed client.new.stream) }
-    ensures lost { IsLostOnly result }
+    ensures lost { FailsOnlyAsLost result }
 {
     let Some(front) = receive_length(client)? else {
         return Ok(false);

@@ -1,5 +1,5 @@
-//! The response to an order that is handed over: it is processed in the open office, and its output is sent in frames.
-//! `console_order` shares how an order is processed.
+//! The response to an order that is handed over. The order is processed in the open office, and its output is sent in frames.
+//! `console_order` uses the same code to process an order.
 
 ghost use Rattle.std.specs.Prelude.{◌≡◌, ⊤, ◌-◌, ◌^◌, ◌<◌, ℕ, IfSome, List, [], None, true};
 ghost use Rattle.clap.specs.Words.{Text};
@@ -11,7 +11,7 @@ ghost use Rattle.connections.specs.Clients.{IsSent};
 ghost use Rattle.order_protocol.specs.Messages.{order_message_entry, message_part_entries};
 ghost use Rattle.desk.specs.Pages.{Shows, Tells, outputs_of};
 ghost use Rattle.server.specs.Settings.{settings_in};
-ghost use Rattle.server.specs.ServedOrders.{AsksSo, IsBareName, IsOrderOutcome, FollowsOrder, HasCameWhole, IsCopyTold, IsMessage, IsResponseToOrder, folder_of, shut_page};
+ghost use Rattle.server.specs.ServedOrders.{AsksSo, IsBareName, IsOrderOutcome, FollowsOrder, IsWholeMessage, IsCopyTold, IsMessage, IsResponseToOrder, folder_of, closed_office_page};
 
 use crate::frame_sink::FrameSink;
 use crate::order_arrival::LENGTH;
@@ -27,8 +27,8 @@ use std::alloc::{AllocError, Global};
 use store::Fault;
 use streams::Sink;
 
-/// The files that came with an order, and the folder in which it was typed: `None` for an order of the console. At any other path
-/// there is no file.
+/// The files sent with an order, and the folder in which the order was typed; `None` for an order from the console. There is no
+/// file at any other path.
 #[derive(Clone, Copy)]
 pub struct AttachedFiles<'b> {
     pub folder: Option<&'b [u8]>,
@@ -50,7 +50,7 @@ impl<'b> Folder for AttachedFiles<'b> {
     }
 }
 
-/// An order that is processed: what it asks, the files that came with it, and what it needs besides the office.
+/// An order being processed: what it asks for, the files sent with it, and what it needs besides the office.
 pub struct OrderContext<'t, A> {
     pub alloc: Global,
     pub served_file: &'t A,
@@ -70,11 +70,12 @@ impl<A> Clone for OrderContext<'_, A> {
 
 impl<A> Copy for OrderContext<'_, A> {}
 
-/// Prints what a closed office says of an order: that it is closed, of what is followed; and why anything else isn't.
+/// Prints the response of a closed office. It says that the office is closed if the order would otherwise be carried out; if not,
+/// it says why the order isn't carried out.
 fn print_closed<O: Sink, E: Sink>(asked: &ServedOrder<'_>, out: &mut O, err: &mut E) -> u8
     requires out { O.failed out.old < 2 ^ 64 - 1 }
     requires err { E.failed err.old < 2 ^ 64 - 1 }
-    ensures { let outputs = outputs_of O.taken O.failed E.taken E.failed in Shows (outputs out.old err.old) (outputs out.new err.new) (shut_page asked.now) result }
+    ensures { let outputs = outputs_of O.taken O.failed E.taken E.failed in Shows (outputs out.old err.old) (outputs out.new err.new) (closed_office_page asked.now) result }
 {
     match asked {
         ServedOrder::Refused(failure) => tell_failure(*failure, err),
@@ -85,7 +86,7 @@ fn print_closed<O: Sink, E: Sink>(asked: &ServedOrder<'_>, out: &mut O, err: &mu
     }
 }
 
-/// Returns whether a path is a name alone: it isn't empty, and has no `/`.
+/// Returns whether a path is a bare name: not empty, and without a `/`.
 fn is_bare_name(path: &str) -> bool
     ensures { result ≡ true → IsBareName path.now }
 {
@@ -95,8 +96,9 @@ fn is_bare_name(path: &str) -> bool
     !path.as_bytes().contains(&b'/')
 }
 
-/// Returns the destination of a copy: a path, as seen from the folder in which the order was typed. From the console that folder
-/// is empty, and the path is a name alone. `None` if it is none, or if the folder's name isn't UTF-8.
+/// Returns the destination of a copy: a path relative to the folder in which the order was typed. For an order from the
+/// console, that folder is empty, and the path must be a bare name. Returns `None` if it isn't, or if the folder's name isn't
+/// UTF-8.
 fn destination_of<'t>(folder: Option<&'t [u8]>, path: &'t str) -> Option<Destination<'t>>
     ensures { folder.entry ≡ None → IfSome result (λ to. (to.folder.now ≡ []) × IsBareName to.path.now) }
 {
@@ -115,7 +117,7 @@ fn destination_of<'t>(folder: Option<&'t [u8]>, path: &'t str) -> Option<Destina
     }
 }
 
-/// Copies the office for an order, to a path as seen from the order's folder, if there is such a path.
+/// Copies the office for an order, to a path relative to the order's folder, if the path is a valid destination.
 fn copy_for_order<A: ServedFile, S: Alter, O: Sink, E: Sink>(
     order: &OrderContext<'_, A>,
     path: &str,
@@ -135,7 +137,7 @@ fn copy_for_order<A: ServedFile, S: Alter, O: Sink, E: Sink>(
     }
 }
 
-/// Does what an order asks in an office that is open, and returns the status.
+/// Carries out an order in an open office, and returns the status.
 fn do_open<A: ServedFile, S: Alter, O: Sink, E: Sink>(
     order: &OrderContext<'_, A>,
     office: &mut Office<S>,
@@ -159,8 +161,7 @@ fn do_open<A: ServedFile, S: Alter, O: Sink, E: Sink>(
     }
 }
 
-/// Does what an order asks in the office, which is open or closed, and returns the status. A closed office reports that it is
-/// closed, for anything it would do otherwise.
+/// Carries out an order in the office, open or closed, and returns the status. A closed office only reports that it is closed.
 pub fn do_asked<A: ServedFile, S: Alter, O: Sink, E: Sink>(
     order: &OrderContext<'_, A>,
     office: &mut Office<S>,
@@ -173,7 +174,7 @@ pub fn do_asked<A: ServedFile, S: Alter, O: Sink, E: Sink>(
         (λ cut page. WhenOpenAt (state S.Store) office.old office.new
         (λ s. IsOrderOutcome (state S.Store office.old.held) office.new.closed (state S.Store office.new.held) (folder_of
         (message_part_entries order.now.attached.files.now)) s order.now.asked.now cut page)
-        × (office.old.closed ≡ true → page ≡ shut_page order.now.asked.now)) }
+        × (office.old.closed ≡ true → page ≡ closed_office_page order.now.asked.now)) }
     ensures closed { office.old.closed ≡ true → office.new ≡ office.old }
     ensures clean { HasCleanDisk (state S.Store office.new.held) → HasCleanDisk (state S.Store office.old.held) }
 {
@@ -183,8 +184,8 @@ pub fn do_asked<A: ServedFile, S: Alter, O: Sink, E: Sink>(
     do_open(order, office, out, err)
 }
 
-/// Does what an order asks, and sends its output in frames on its stream, which is returned. What the stream doesn't accept now
-/// stays in the response, which is sent side by side with others. If the allocation for the last frame fails, the response ends
+/// Carries out an order, sends its output in frames on its stream, and returns the stream. What the stream doesn't accept now
+/// stays in the response, to be sent concurrently with others. If the allocation for the last frame fails, the response ends
 /// without it.
 fn respond_to_asked<L: Stream, A: ServedFile, S: Alter>(
     order: &OrderContext<'_, A>,
@@ -201,7 +202,8 @@ fn respond_to_asked<L: Stream, A: ServedFile, S: Alter>(
     out.end(status, err.into_bytes().as_slice())
 }
 
-/// Returns what an order asks; or that it isn't followed, if it asks for a job and the office's file is gone or replaced.
+/// Returns what an order asks for. If it asks for a job and the office's file is gone or replaced, returns the reason for
+/// refusing it instead.
 pub fn unless_gone<'w, A: ServedFile>(asked: ServedOrder<'w>, served_file: &A) -> ServedOrder<'w>
     ensures { (words : List Text) → AsksSo (A.whole served_file.now) words asked.entry → AsksSo (A.whole served_file.now) words result }
 {
@@ -217,7 +219,7 @@ pub fn unless_gone<'w, A: ServedFile>(asked: ServedOrder<'w>, served_file: &A) -
     }
 }
 
-/// Responds to an order that isn't followed, with this fault.
+/// Responds with the given fault to an order that isn't carried out.
 fn tell_refused<L: Stream, A: ServedFile, S: Alter>(
     alloc: Global,
     served_file: &A,
@@ -241,7 +243,7 @@ fn tell_refused<L: Stream, A: ServedFile, S: Alter>(
     respond_to_asked(&order, stream, office)
 }
 
-/// Responds to an order whose message was decoded: prints what it asks, or why it isn't followed.
+/// Responds to an order whose message has been decoded: carries out the order, or prints why it isn't carried out.
 fn respond_to_message<L: Stream, A: ServedFile, S: Alter>(
     alloc: Global,
     server_settings: ServerSettings<'_, A>,
@@ -286,12 +288,12 @@ fn respond_to_message<L: Stream, A: ServedFile, S: Alter>(
     respond_to_asked(&order, stream, office)
 }
 
-/// Responds to an order whose message was received: it is processed in the office, and its output is sent in frames on its
-/// stream, which is returned.
+/// Responds to an order whose message has been received: processes it in the office, sends its output in frames on its stream,
+/// and returns the stream.
 ///
-/// The response is fault 102, as for a file that another program holds, if the bytes are no message, or if the order is from
-/// another version of the program or for another file. For `init`, `migrate` and `serve` it is that the office is being served
-/// (111).
+/// The response is fault 102, as for a file locked by another program, if the bytes aren't a message, or if the order comes
+/// from another version of the program or is for another file. For `init`, `migrate` and `serve`, the response says that the
+/// office is being served (111).
 pub fn answer_order<L: Stream, A: ServedFile, S: Alter>(
     alloc: Global,
     server_settings: ServerSettings<'_, A>,
@@ -300,7 +302,7 @@ pub fn answer_order<L: Stream, A: ServedFile, S: Alter>(
     office: &mut Office<S>,
 ) -> (L, PendingResponse)
     requires fresh { HasTaken (L.taken stream) [] }
-    requires whole { HasCameWhole got.now }
+    requires whole { IsWholeMessage got.now }
     ensures told { IsSent (stream_of L.held L.taken L.failed) result.0 result.1.bytes.items result.1.sent }
     ensures followed { FollowsOrder (settings_in A.whole server_settings.entry) (state S.Store) office.old got.now result.1.bytes.items office.new }
 {

@@ -1,6 +1,7 @@
-//! The cache of reads: responses that are sent again while nothing changes.
+//! The cache of reads: responses that are reused as long as nothing changes.
 //!
-//! Its key is what is read, whatever the bytes of the request are. It is emptied before a keying or an order is processed.
+//! The key is the resource that is read, regardless of the bytes of the request. The cache is emptied before a keying or an
+//! order is processed.
 
 ghost use Rattle.std.specs.Prelude.{◌≡◌, ◌⊎◌, ◌++◌, ◌∷◌, [], IfSome, List, true};
 ghost use Rattle.std.specs.List.{Contains};
@@ -9,27 +10,27 @@ ghost use Rattle.server.specs.Reads.{ReadEntry, reads_in};
 use std::alloc::Global;
 use wire::{OfficeRead, Resource};
 
-/// The most bytes of cached responses.
+/// The maximum total size of the cached responses, in bytes.
 const MAX_KEPT: usize = 16 << 20;
 
-/// The most cached responses.
+/// The maximum number of cached responses.
 const MAX_ANSWERS: usize = 512;
 
-/// A resource that was read, and the response.
+/// A resource that was read, with the response.
 #[derive(Drop)]
 pub struct CachedRead {
     pub what: Resource,
     pub answer: Vec<u8>,
 }
 
-/// The cached responses, all sent since anything may have changed, the oldest first.
+/// The cached responses, oldest first. All of them were produced after the last possible change.
 #[derive(Drop)]
 pub struct ReadCache {
     pub answers: Vec<CachedRead>,
     pub bytes: usize,
 }
 
-/// Returns whether the console reads the same.
+/// Returns whether two reads of the console are the same.
 fn is_same_office_read(one: OfficeRead, other: OfficeRead) -> bool
     ensures { result ≡ true → one ≡ other }
 {
@@ -51,7 +52,7 @@ fn is_same_office_read(one: OfficeRead, other: OfficeRead) -> bool
     }
 }
 
-/// Returns whether the same is read.
+/// Returns whether two reads request the same resource.
 fn is_same(one: Resource, other: Resource) -> bool
     ensures { result ≡ true → one ≡ other }
 {
@@ -60,6 +61,13 @@ fn is_same(one: Resource, other: Resource) -> bool
         (
             Resource::Candidates { clerk, batch },
             Resource::Candidates {
+                clerk: theirs,
+                batch: too,
+            },
+        ) => clerk == theirs && batch == too,
+        (
+            Resource::Keyed { clerk, batch },
+            Resource::Keyed {
                 clerk: theirs,
                 batch: too,
             },
@@ -90,7 +98,7 @@ impl ReadCache {
         self.bytes = 0;
     }
 
-    /// Returns the cached response to a read, if there is one, and a copy of it can be allocated.
+    /// Returns a copy of the cached response to a read; `None` if there is no such response, or if the copy can't be allocated.
     pub fn get(&self, alloc: Global, what: Resource) -> Option<Vec<u8>>
         ensures { IfSome result (λ answer. (entry : ReadEntry) × Contains (reads_in self.now) entry × (entry.what ≡ what) × (entry.answer ≡ answer.items)) }
     {
@@ -106,7 +114,7 @@ impl ReadCache {
     }
 
     /// Removes the oldest responses until `more` bytes fit.
-    fn make_room(&mut self, more: usize)
+    fn evict_oldest(&mut self, more: usize)
         ensures { (gone : List ReadEntry) × (reads_in self.old ≡ gone ++ reads_in self.new) }
     {
         for _ in 0..MAX_ANSWERS {
@@ -122,8 +130,8 @@ impl ReadCache {
         }
     }
 
-    /// Adds the response to a read, and removes the oldest responses if the cache is full. Adds nothing if the response is too
-    /// long, or an allocation fails.
+    /// Adds the response to a read, removing the oldest responses if the cache is full. Adds nothing if the response is too
+    /// long or an allocation fails.
     pub fn keep(&mut self, alloc: Global, what: Resource, answer: &[u8])
         ensures { (gone kept : List ReadEntry) × (reads_in self.old ≡ gone ++ kept)
             × ((reads_in self.new ≡ kept) ⊎ (reads_in self.new ≡ kept ++ record { what = what; answer = answer.now } ∷ [])) }
@@ -131,7 +139,7 @@ impl ReadCache {
         if answer.len() > MAX_KEPT {
             return;
         }
-        self.make_room(answer.len());
+        self.evict_oldest(answer.len());
         let Ok(answer) = Vec::from_slice(alloc, answer) else {
             return;
         };

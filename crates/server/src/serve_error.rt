@@ -3,10 +3,10 @@
 /// Why serving ended early.
 #[derive(Clone, Copy, Debug, PartialEq, Eq, Drop)]
 pub enum ServeError {
-    /// The network failed, or its clock.
+    /// The network or its clock failed.
     Network,
     /// The table of connections couldn't be allocated.
     Memory,
-    /// As many rounds were served as a number of 64 bits can count.
+    /// The number of rounds reached the maximum of a 64-bit counter.
     Rounds,
 }

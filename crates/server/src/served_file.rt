@@ -1,5 +1,5 @@
-//! The file of the office that is served, and what an order needs next to it: a new file for a copy, and an empty database for the
-//! trial of a journal.
+//! The file of the office that is served, and what else an order needs: a new file for a copy, and an empty database for a
+//! trial run of a journal.
 
 ghost use Rattle.std.specs.Prelude.{◌≡◌, ◌-◌, ◌^◌, ◌<◌, Bool, IfSome, Option, true};
 ghost use Rattle.sqlite.specs.Held.{state};
@@ -13,25 +13,26 @@ use office::Office;
 use sqlite::Alter;
 use streams::Sink;
 
-/// The destination of a copy: a path, as seen from a folder.
+/// The destination of a copy: a path relative to a folder.
 #[derive(Clone, Copy)]
 pub struct Destination<'a> {
     pub folder: &'a str,
     pub path: &'a str,
 }
 
-/// The file of the office that is served. It copies the open office to a new file, and prints its journal. The office stays open and
-/// is only read. The program that implements this chooses the files.
+/// The file of the office that is served. It copies the open office to a new file, and prints its journal. The office stays
+/// open and is only read. The implementing program chooses the files.
 pub trait ServedFile {
-    /// Whether the file of the office is known to be whole for good, or known not to be. Of a file of this machine nothing is.
+    /// Whether the file of the office is permanently known to be whole, or permanently known not to be. Nothing is known about
+    /// a real file on this machine.
     ghost whole: { Self → Option Bool };
 
-    /// Returns whether the file of the office is still there, whole, and no other is in its place. If this is known for good, it
-    /// is what is known.
+    /// Returns whether the file of the office is still there, whole, and not replaced by another. If the answer is permanently
+    /// known, returns that answer.
     fn is_whole(&self) -> bool
         ensures { IfSome (whole self.now) (λ known. result ≡ known) };
 
-    /// Copies the office to a new file, and prints how much the copy has.
+    /// Copies the office to a new file, and prints how much the copy contains.
     fn copy<S: Alter, O: Sink, E: Sink>(
         &self,
         office: &mut Office<S>,

@@ -1,4 +1,4 @@
-//! What an order asks of the server.
+//! What an order asks the server to do.
 
 ghost use Rattle.std.specs.Prelude.{◌≡◌, ◌⊎◌, ◌↔◌, Bool, IfErr, IfOk, Option, map, true};
 ghost use Rattle.std.specs.List.{list_all};
@@ -13,22 +13,22 @@ use order_protocol::{DecodeError, MessagePart, OrderMessage, decode_message};
 use std::alloc::Global;
 use store::Fault;
 
-/// What an order asks of the server.
+/// What an order asks the server to do.
 #[derive(Drop)]
 pub enum ServedOrder<'a> {
     /// To do this job in the office.
     Do(Job<'a>),
-    /// A copy of the office to a new file at this path.
+    /// To copy the office to a new file at this path.
     Copy(&'a str),
-    /// The journal of the office.
+    /// To print the journal of the office.
     Journal,
-    /// Nothing: the order isn't followed, for this reason.
+    /// Nothing: the order isn't carried out, for the given reason.
     Refused(Failure),
     /// Nothing: its words aren't an order.
     Misread(WordsFault),
 }
 
-/// Decodes the order of a message. The errors are that an allocation failed, and that the bytes aren't a message.
+/// Decodes the order in a message. Fails if an allocation fails, or if the bytes aren't a message.
 pub fn read_message<'b>(alloc: Global, message: &'b [u8]) -> Result<OrderMessage<'b>, Fault>
     ensures ok { IfOk result (λ h. Fits (order_message_entry h) × (message.now ≡ encoding_of (order_message_entry h))) }
     ensures err { IfErr result (λ fault. (fault ≡ Fault.Memory) ⊎ ((fault ≡ Fault.Store) × ((h : OrderMessageEntry) → Fits h → message.now ≡ encoding_of h → ⊥))) }
@@ -40,7 +40,7 @@ pub fn read_message<'b>(alloc: Global, message: &'b [u8]) -> Result<OrderMessage
     }
 }
 
-/// Returns the words of an order. The errors are that an allocation failed, and that a word isn't UTF-8.
+/// Returns the words of an order. Fails if an allocation fails, or if a word isn't UTF-8.
 pub fn words_of<'b>(alloc: Global, words: &[MessagePart<'b>]) -> Result<Vec<&'b str>, Fault>
     ensures ok { IfOk result (λ texts. map (λ text. text.now) texts.items ≡ map (λ p. p.name.now) words.now) }
     ensures err { IfErr result (λ fault. (fault ≡ Fault.Memory) ⊎ ((fault ≡ Fault.Store) × (list_all is_utf8 (map (λ p. p.name.now) words.now) ≡ true → ⊥))) }
@@ -68,7 +68,7 @@ pub fn is_for_file(handed: &OrderMessage<'_>, file: FileNumbers) -> bool
         && handed.inode == file.inode
 }
 
-/// Returns what an order asks that is for the file that is served. `init`, `migrate` and `serve` are refused, because the office
+/// Returns what an order for the served file asks for. The orders `init`, `migrate` and `serve` are refused, because the office
 /// is being served.
 pub fn served_order_by<'w>(alloc: Global, words: &'w [&'w str]) -> ServedOrder<'w>
     ensures { (whole : Option Bool) → AsksSo whole (map (λ word. word.now) words.entry.now) result }

@@ -5,15 +5,15 @@ ghost use Rattle.std.specs.Prelude.{◌≡◌, ⊤};
 use std::alloc::AllocError;
 use wire::HttpSettings;
 
-/// A file, by the number of its device and its inode number.
+/// A file, identified by its device number and its inode number.
 #[derive(Clone, Copy)]
 pub struct FileNumbers {
     pub device: u64,
     pub inode: u64,
 }
 
-/// The settings of HTTP, which are the origin of a proxy and the gate, if any; the file that is served, for which orders are
-/// handed over; and what an order needs besides the office.
+/// The HTTP settings (the origin of a proxy, the gate, and what is shown in public, if any), the served file, to which the
+/// orders that are handed over apply, and what an order needs besides the office.
 pub struct ServerSettings<'a, A> {
     pub http: HttpSettings<'a>,
     pub file: FileNumbers,

@@ -1,4 +1,4 @@
-//! How a connection is serviced: its request is received, processed once it is complete, and its response is sent.
+//! How a connection is serviced: its request is received and, once complete, processed; then its response is sent.
 
 ghost use Rattle.std.specs.Prelude.{◌≡◌, ◌≢◌, ◌⊎◌, ◌++◌, ℕ, [], Err, IfOk, IfSome, List, None, Ok, Some, false, true};
 ghost use Rattle.sqlite.specs.Held.{state};
@@ -12,12 +12,12 @@ ghost use Rattle.wire.specs.Responses.{fault_response};
 ghost use Rattle.wire.specs.Serving.{IsPut, IsServed};
 ghost use Rattle.wire.specs.Told.{IsWritten};
 ghost use Rattle.server.specs.Settings.{settings_in};
-ghost use Rattle.server.specs.Servicing.{Services, IsCome, IsLostOnly, IsSameClient, HasSentNothing, answer_of};
+ghost use Rattle.server.specs.Servicing.{Services, IsCompleteFor, FailsOnlyAsLost, IsSameClient, HasSentNothing, answer_of};
 ghost use Rattle.office.specs.Answers.{IsReadAt, WhenOpenAt};
 ghost use Rattle.wire.specs.Requests.{Asks, http_request_entry, reading};
 ghost use Rattle.wire.specs.declared.target.Resource.{Resource};
 ghost use Rattle.codes.specs.RateLimits.{limit_entry};
-ghost use Rattle.server.specs.Reads.{IsRead, TellsNoFault, served_office, memory_entry};
+ghost use Rattle.server.specs.Reads.{IsRead, IsNoFault, served_office, memory_entry};
 ghost use Rattle.server.specs.Endings.{EndsIn};
 ghost use Rattle.server.specs.Exchanges.{ChangesNothing, HasAnswered, IsGoneResponse, IsWaitResponse, RespondsToClient, ServesAsked, ServesClient, Exchange};
 
@@ -25,8 +25,8 @@ use crate::console_order::answer_console;
 use crate::order_arrival::receive_message;
 use crate::order_response::answer_order;
 use crate::served_file::ServedFile;
-use crate::server_memory::ServerMemory;
 use crate::server_settings::ServerSettings;
+use crate::server_state::ServerState;
 use connections::{
     Client, CloseReason, Listener, PendingResponse, ReadProgress, Stream, VecSink, deliver,
 };
@@ -40,22 +40,22 @@ use wire::{
     write_response, write_wait_response,
 };
 
-/// The status of a response with a fault, which isn't cached.
+/// The status of a response that reports a fault, which isn't cached.
 const FAULT: u16 = 503;
 
 /// The outcome of servicing a connection.
 #[derive(Clone, Copy)]
 pub enum Serviced {
-    /// More of its request is to come, or more of its response is to be sent.
+    /// More of its request is still to arrive, or more of its response is still to be sent.
     Waits,
-    /// Its request was processed just now, and more of its response is to be sent.
+    /// Its request has just been processed, and more of its response is still to be sent.
     Served,
-    /// It is to be closed, for this reason.
+    /// It should be closed, for the given reason.
     Leaves(CloseReason),
 }
 
-/// Receives the body of a request whose head was parsed, until there are `wanted` bytes in all. Returns whether the request is
-/// complete.
+/// Receives the body of a request whose head has been parsed, until there are `wanted` bytes in total. Returns whether the
+/// request is complete.
 fn receive_body<L: Stream>(
     client: &mut Client<L>,
     parsed: Parsed,
@@ -65,9 +65,9 @@ fn receive_body<L: Stream>(
     ensures receives { Receives (stream_of L.held L.taken L.failed) client.old.stream client.new.stream client.old.got.items client.new.got.items }
     ensures same { IsSameClient client.old client.new × (client.new.answer ≡ None) }
     ensures come { (its : HttpSettingsEntry) → ((more : List ℕ) → IsParsed its (client.old.got.items ++ more) parsed) → result ≡ Ok true
-        → IsCome its (L.held client.new.stream) client.new.got.items parsed }
+        → IsCompleteFor its (L.held client.new.stream) client.new.got.items parsed }
     ensures broken { result ≡ Err CloseReason.Broken → HasFailed (L.failed client.new.stream) }
-    ensures lost { IsLostOnly result }
+    ensures lost { FailsOnlyAsLost result }
 {
     match client.receive(wanted)? {
         ReadProgress::Ended => Ok(true),
@@ -82,7 +82,7 @@ fn receive_body<L: Stream>(
     }
 }
 
-/// Receives the request of a client. Returns its parsed head once the request is complete, or the client sends no more.
+/// Receives a client's request. Returns its parsed head once the request is complete or the client stops sending.
 fn receive_request<L: Stream>(
     client: &mut Client<L>,
     settings: HttpSettings<'_>,
@@ -91,9 +91,9 @@ fn receive_request<L: Stream>(
     requires { client.old.answer ≡ None }
     ensures receives { Receives (stream_of L.held L.taken L.failed) client.old.stream client.new.stream client.old.got.items client.new.got.items }
     ensures same { IsSameClient client.old client.new × (client.new.answer ≡ None) }
-    ensures come { IfOk result (λ found. IfSome found (λ parsed. IsCome (settings_entry settings.entry) (L.held client.new.stream) client.new.got.items parsed)) }
+    ensures come { IfOk result (λ found. IfSome found (λ parsed. IsCompleteFor (settings_entry settings.entry) (L.held client.new.stream) client.new.got.items parsed)) }
     ensures broken { result ≡ Err CloseReason.Broken → HasFailed (L.failed client.new.stream) }
-    ensures lost { IsLostOnly result }
+    ensures lost { FailsOnlyAsLost result }
 {
     let received = client.receive(MAX_HEAD_BYTES)?;
     let got = client.got.as_slice();
@@ -114,9 +114,9 @@ fn receive_request<L: Stream>(
     }
 }
 
-/// Returns whether a response was written whole, and is no fault.
-fn tells_no_fault(served: Served) -> bool
-    ensures { result ≡ true → TellsNoFault served }
+/// Returns whether a response was written completely and isn't a fault.
+fn may_be_cached(served: Served) -> bool
+    ensures { result ≡ true → IsNoFault served }
 {
     match served {
         Served::Answered(status) => status != FAULT,
@@ -125,8 +125,8 @@ fn tells_no_fault(served: Served) -> bool
     }
 }
 
-/// Processes a request in the office. Returns the response, of which nothing was sent yet, and whether it is whole and no fault.
-/// If an allocation fails, it is only a beginning.
+/// Processes a request in the office. Returns the response, none of which has been sent yet, and whether it is complete and not
+/// a fault. If an allocation fails, the response is truncated.
 fn response_to<S: Alter>(
     alloc: Global,
     asked: HttpRequest<'_>,
@@ -139,16 +139,16 @@ fn response_to<S: Alter>(
 {
     let mut writer = VecSink::new(alloc);
     let served = respond(alloc, asked, &mut writer, office);
-    let is_told = tells_no_fault(served);
-    (writer.into_bytes(), is_told)
+    let is_cacheable = may_be_cached(served);
+    (writer.into_bytes(), is_cacheable)
 }
 
-/// Returns the response to a read; nothing of it was sent yet. It is the cached one, if there is one; otherwise the office is
-/// asked, and its response is cached.
+/// Returns the response to a read; none of it has been sent yet. If the response is cached, returns the cached one; otherwise
+/// asks the office, and caches its response.
 fn answer_reading<S: Alter>(
     what: Resource,
     office: &mut Office<S>,
-    kept: &mut ServerMemory,
+    kept: &mut ServerState,
 ) -> PendingResponse
     ensures served { (its : HttpSettingsEntry) (number moment : ℕ) (got : List ℕ) → Asks its got (reading what) → ServesClient its (state S.Store) (served_office office.old (memory_entry kept.old))
         (record { listener = Listener.Clients; number = number; moment = moment; got = got; answer = result.bytes.items }) (served_office office.new (memory_entry kept.new)) }
@@ -160,15 +160,15 @@ fn answer_reading<S: Alter>(
             return PendingResponse { bytes, sent: 0 };
         }
     }
-    let (bytes, is_told) = response_to(kept.alloc, HttpRequest::Resource(what), office);
-    if !is_told {
+    let (bytes, is_cacheable) = response_to(kept.alloc, HttpRequest::Resource(what), office);
+    if !is_cacheable {
         return PendingResponse { bytes, sent: 0 };
     }
     kept.reads.keep(kept.alloc, what, bytes.as_slice());
     PendingResponse { bytes, sent: 0 }
 }
 
-/// Returns a response in memory; nothing of it was sent yet. If an allocation fails, it is only a beginning.
+/// Returns a response in memory; none of it has been sent yet. If an allocation fails, the response is truncated.
 fn written(alloc: Global, response: &Response) -> PendingResponse
     ensures put { EndsIn result.bytes.items (λ old new served. IsPut old new response.now served) }
     ensures untold { result.sent ≡ 0 }
@@ -181,14 +181,14 @@ fn written(alloc: Global, response: &Response) -> PendingResponse
     }
 }
 
-/// Returns the response to a client that is let in, of which these bytes were received; nothing of it was sent yet. The cache is
-/// emptied before a keying or an order, and if an allocation for the request fails.
+/// Returns the response to a client that is admitted, given the bytes received from it; none of the response has been sent yet.
+/// The cache is emptied before a keying or an order, and if an allocation for the request fails.
 fn answer_request<A: ServedFile, S: Alter>(
     server_settings: ServerSettings<'_, A>,
     parsed: Parsed,
     got: &[u8],
     office: &mut Office<S>,
-    kept: &mut ServerMemory,
+    kept: &mut ServerState,
 ) -> PendingResponse
     requires { IsParsed (settings_entry server_settings.http) got.now parsed }
     ensures served { (number moment : ℕ) → ServesAsked (settings_in A.whole server_settings.entry) (state S.Store) (served_office office.old (memory_entry kept.old))
@@ -211,12 +211,16 @@ fn answer_request<A: ServedFile, S: Alter>(
             let (bytes, _) = response_to(kept.alloc, HttpRequest::Denied(why), office);
             PendingResponse { bytes, sent: 0 }
         }
-        HttpRequest::Shown(clerk, show) => {
-            let (bytes, _) = response_to(kept.alloc, HttpRequest::Shown(clerk, show), office);
+        HttpRequest::ClerkPage(clerk, show) => {
+            let (bytes, _) = response_to(kept.alloc, HttpRequest::ClerkPage(clerk, show), office);
             PendingResponse { bytes, sent: 0 }
         }
         HttpRequest::ConsolePage(show) => {
             let (bytes, _) = response_to(kept.alloc, HttpRequest::ConsolePage(show), office);
+            PendingResponse { bytes, sent: 0 }
+        }
+        HttpRequest::Public(shown, what) => {
+            let (bytes, _) = response_to(kept.alloc, HttpRequest::Public(shown, what), office);
             PendingResponse { bytes, sent: 0 }
         }
         HttpRequest::Order(order) => {
@@ -227,7 +231,7 @@ fn answer_request<A: ServedFile, S: Alter>(
     }
 }
 
-/// Returns the response to a client that must wait; nothing of it was sent yet.
+/// Returns the response to a client that must wait; none of it has been sent yet.
 fn wait_response(alloc: Global) -> PendingResponse
     ensures told { (exchange : Exchange) → exchange.answer ≡ result.bytes.items → IsWaitResponse exchange }
     ensures untold { result.sent ≡ 0 }
@@ -240,7 +244,7 @@ fn wait_response(alloc: Global) -> PendingResponse
     }
 }
 
-/// Returns the response while the file of the office is gone or replaced; nothing of it was sent yet.
+/// Returns the response when the file of the office is gone or replaced; none of it has been sent yet.
 fn gone_response(alloc: Global) -> PendingResponse
     ensures told { (exchange : Exchange) → exchange.answer ≡ result.bytes.items → IsGoneResponse exchange }
     ensures untold { result.sent ≡ 0 }
@@ -253,7 +257,7 @@ fn gone_response(alloc: Global) -> PendingResponse
     }
 }
 
-/// Returns the response if an allocation for a request failed; nothing of it was sent yet.
+/// Returns the response when an allocation for a request failed; none of it has been sent yet.
 fn no_memory_response(alloc: Global) -> PendingResponse
     ensures told { EndsIn result.bytes.items (IsServed (IsWritten (fault_response 101))) }
     ensures untold { result.sent ≡ 0 }
@@ -266,7 +270,7 @@ fn no_memory_response(alloc: Global) -> PendingResponse
     }
 }
 
-/// Returns whether the file of the office is gone or replaced, and the request is no read of an open office.
+/// Returns whether the file of the office is gone or replaced and the request isn't a read of an open office.
 fn is_without_file<A: ServedFile>(served_file: &A, parsed: Parsed, is_closed: bool) -> bool
     ensures unknown { result ≡ true → A.whole served_file.now ≡ Some true → ⊥ }
     ensures reads_none { result ≡ true → is_closed ≡ false → (its : HttpSettingsEntry) (got : List ℕ) → IsParsed its got parsed → (what : Resource) → Asks its got (reading what) → ⊥ }
@@ -280,7 +284,7 @@ fn is_without_file<A: ServedFile>(served_file: &A, parsed: Parsed, is_closed: bo
     }
 }
 
-/// A client's request that is processed: its parsed head, its bytes, and the time of the clock.
+/// A client's request, ready to be processed: its parsed head, its bytes, and the clock's current time.
 #[derive(Clone, Copy)]
 struct ReceivedRequest<'a> {
     parsed: Parsed,
@@ -288,14 +292,15 @@ struct ReceivedRequest<'a> {
     moment: u64,
 }
 
-/// Returns the response to a client; nothing of it was sent yet. If its code is wrong and the rate limit is reached, the response
-/// is to wait. If the file of the office is gone or replaced, the response says so, except to a read of an open office. In both
-/// cases nothing else is done. Otherwise the request is processed, and its code is counted if it is wrong.
+/// Returns the response to a client; none of it has been sent yet. If the client's code is wrong and the rate limit is reached,
+/// the response says that the client must wait. If the file of the office is gone or replaced, the response says so, unless the
+/// request is a read of an open office. In both cases nothing else is done. Otherwise the request is processed and, if its code
+/// is wrong, the code is counted.
 fn answer_client<A: ServedFile, S: Alter>(
     server_settings: ServerSettings<'_, A>,
     due: ReceivedRequest<'_>,
     office: &mut Office<S>,
-    kept: &mut ServerMemory,
+    kept: &mut ServerState,
 ) -> PendingResponse
     requires { IsParsed (settings_entry server_settings.http) due.got.now due.parsed }
     ensures meets { (number : ℕ) → RespondsToClient (settings_in A.whole server_settings.entry) (state S.Store) (served_office office.old (memory_entry kept.old))
@@ -315,11 +320,11 @@ fn answer_client<A: ServedFile, S: Alter>(
         return gone_response(kept.alloc);
     }
     let answer = answer_request(server_settings, parsed, got, office, kept);
-    kept.note(authentication, moment);
+    kept.count_if_wrong(authentication, moment);
     answer
 }
 
-/// Reads and drops the rest of the request of a client that was sent its whole response.
+/// Reads and discards the rest of a client's request, once the whole response has been sent.
 fn drop_rest<L: Stream>(client: &mut Client<L>) -> Serviced
     requires { IsSentWhole client.old }
     ensures is { (start : L) → IsOf (stream_of L.held L.taken L.failed) start client.old → IsOf (stream_of L.held L.taken L.failed) start client.new }
@@ -328,7 +333,7 @@ fn drop_rest<L: Stream>(client: &mut Client<L>) -> Serviced
 {
     match client.drop_unread() {
         Ok(false) => Serviced::Waits,
-        // Its whole response was sent, even if its stream fails now.
+        // The whole response has been sent, even if the stream fails now.
         Ok(true) | Err(Broken) => Serviced::Leaves(CloseReason::Done),
     }
 }
@@ -351,7 +356,7 @@ fn send_more<L: Stream>(client: &mut Client<L>) -> Serviced
     }
 }
 
-/// Sends one its response, as much of it as it accepts now.
+/// Stores a client's response, and sends as much of it as the client accepts now.
 fn begin_answer<L: Stream>(
     alloc: Global,
     client: Client<L>,
@@ -376,13 +381,13 @@ fn begin_answer<L: Stream>(
     }
 }
 
-/// Services an order without a response: receives its message and, once that is complete, processes it.
+/// Services an order that has no response yet: receives its message and, once the message is complete, processes it.
 fn service_order<L: Stream, A: ServedFile, S: Alter>(
     server_settings: ServerSettings<'_, A>,
     now: u64,
     client: Client<L>,
     office: &mut Office<S>,
-    kept: &mut ServerMemory,
+    kept: &mut ServerState,
 ) -> (Client<L>, Serviced)
     requires listener { client.listener ≡ Listener.Orders }
     requires fresh { HasTaken (L.taken client.stream) [] }
@@ -428,17 +433,17 @@ fn service_order<L: Stream, A: ServedFile, S: Alter>(
     }
 }
 
-/// Services a connection at a moment, in milliseconds of a clock, as far as its stream allows now. Receives more of its request,
-/// processes the request once it is complete, and sends more of its response. Returns the connection and the outcome.
+/// Services a connection at a given time, in milliseconds of a clock, as far as possible without blocking: receives more of its
+/// request, processes the request once it is complete, and sends more of its response. Returns the connection and the outcome.
 ///
-/// The bytes that are received are the connection's own, from the first one on, and the response is the one to exactly these. No
-/// other connection is touched.
+/// The bytes received are the connection's own, from the first one on, and the response answers exactly those bytes. No other
+/// connection is affected.
 pub fn service<L: Stream, A: ServedFile, S: Alter>(
     server_settings: ServerSettings<'_, A>,
     now: u64,
     client: Client<L>,
     office: &mut Office<S>,
-    kept: &mut ServerMemory,
+    kept: &mut ServerState,
 ) -> (Client<L>, Serviced)
     requires untold { HasSentNothing (stream_of L.held L.taken L.failed) client }
     ensures is { (start : L) → IsOf (stream_of L.held L.taken L.failed) start client → IsOf (stream_of L.held L.taken L.failed) start result.0 }

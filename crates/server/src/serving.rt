@@ -1,4 +1,4 @@
-//! The server: connections are accepted, serviced side by side, and their requests are processed one after the other.
+//! The server: connections are accepted and serviced concurrently, and their requests are processed one at a time.
 
 ghost use Rattle.std.specs.Prelude.{◌≡◌, ◌≤◌, ◌*◌, ◌<◌, ⊤, ℕ, Bool, [], IfSome, Ok, OnOk, Option, Some, is_some, length, true};
 ghost use Rattle.std.specs.Duration.{as_nanos};
@@ -15,13 +15,13 @@ ghost use Rattle.server.specs.ServedConnections.{IsSound};
 ghost use Rattle.server.specs.Reads.{served_office, memory_entry};
 ghost use Rattle.server.specs.Settings.{ServerSettingsEntry, settings_in};
 ghost use Rattle.server.specs.Servicing.{HasSentNothing, LooksAtGate, WasServiced};
-ghost use Rattle.server.specs.Servers.{GoesOn, IsCalled, IsEndedBy, IsRound, IsSettled, IsUnfailed, ServesConnections, ServesOn};
+ghost use Rattle.server.specs.Servers.{GoesOn, IsCalled, IsEndedBy, IsRound, IsSettled, IsUnfailed, ServesConnections, ServesFrom};
 
 use crate::blind::servers_answer_as_seen;
 use crate::serve_error::ServeError;
 use crate::served_file::ServedFile;
-use crate::server_memory::ServerMemory;
 use crate::server_settings::ServerSettings;
+use crate::server_state::ServerState;
 use crate::servicing::{Serviced, service};
 use connections::closing::{
     TIMEOUT, close_all, close_timed_out, evict_if_full, evict_one, keep_within,
@@ -34,17 +34,17 @@ use std::alloc::{AllocError, Global};
 use std::time::Duration;
 use streams::Broken;
 
-/// How long the next wait may be, in milliseconds, while a connection may be pending that no event reports.
-const LOOK: u64 = 1_000;
+/// The maximum duration of the next wait, in milliseconds, while there may be a pending connection that no event reports.
+const RECHECK_MILLIS: u64 = 1_000;
 
-/// The most connections that are accepted before the open ones are serviced.
+/// The maximum number of connections to accept before servicing the open ones.
 const ACCEPTS_PER_ROUND: usize = 64;
 
-/// The most rounds of serving.
+/// The maximum number of rounds.
 const ROUNDS: u64 = u64::MAX;
 
-/// Returns the time of the clock if there is a gate, and so a limit on wrong codes; and otherwise 0.
-fn moment_at_gate<D: Network, A>(
+/// Returns the clock's current time if there is a gate, and therefore a limit on wrong codes; otherwise 0.
+fn time_if_gated<D: Network, A>(
     network: &mut D,
     server_settings: ServerSettings<'_, A>,
 ) -> Result<u64, Broken>
@@ -56,14 +56,15 @@ fn moment_at_gate<D: Network, A>(
     }
 }
 
-/// Services an open connection at a moment. Returns the connection, and why it is to be closed, if it is. Its time limit begins
-/// again once its request was processed, however long that took. If the clock fails at the gate, the connection isn't serviced.
+/// Services an open connection at a given time. Returns the connection and, if it should be closed, the reason. Its time limit
+/// restarts after its request has been processed, however long that took. If there is a gate and the clock fails, the
+/// connection isn't serviced.
 fn service_one<D: Network, A: ServedFile, S: Alter>(
     network: &mut D,
     server_settings: ServerSettings<'_, A>,
     client: Client<D::Stream>,
     office: &mut Office<S>,
-    kept: &mut ServerMemory,
+    kept: &mut ServerState,
 ) -> (Client<D::Stream>, Result<Option<CloseReason>, Broken>)
     requires untold { HasSentNothing (stream_of D.Stream.held D.Stream.taken D.Stream.failed) client }
     ensures is { (start : D.Stream) → IsOf (stream_of D.Stream.held D.Stream.taken D.Stream.failed) start client → IsOf (stream_of D.Stream.held D.Stream.taken D.Stream.failed) start result.0 }
@@ -72,7 +73,7 @@ fn service_one<D: Network, A: ServedFile, S: Alter>(
         (state S.Store) result.1
         (D.known network.old) (D.known network.new) client result.0 (served_office office.old (memory_entry kept.old)) (served_office office.new (memory_entry kept.new)) }
 {
-    let Ok(now) = moment_at_gate(network, server_settings) else {
+    let Ok(now) = time_if_gated(network, server_settings) else {
         return (client, Err(Broken));
     };
     let (mut client, serviced) = service(server_settings, now, client, office, kept);
@@ -89,8 +90,8 @@ fn service_one<D: Network, A: ServedFile, S: Alter>(
     }
 }
 
-/// Puts a connection that was serviced back at its place, and closes others until the bytes in memory are within the limit; or
-/// closes the connection, if there is a reason.
+/// Puts a connection that was serviced back in its place, and closes others until the bytes in memory are within the limit. If
+/// there is a reason to close the connection, closes it instead.
 fn settle<D: Network>(
     network: &mut D,
     table: &mut ConnectionTable<D::Stream>,
@@ -114,18 +115,18 @@ fn settle<D: Network>(
     }
 }
 
-/// Services each connection that is ready, in the order in which the network reports them, if it is open. One that is done or
-/// lost is closed. If the clock fails, the connection stays in the table.
+/// Services each ready connection that is still open, in the order in which the network reports them. Connections that are done
+/// or lost are closed. If the clock fails, the connection stays in the table.
 fn service_ready<D: Network, A: ServedFile, S: Alter>(
     network: &mut D,
     server_settings: ServerSettings<'_, A>,
     table: &mut ConnectionTable<D::Stream>,
     office: &mut Office<S>,
-    kept: &mut ServerMemory,
+    kept: &mut ServerState,
 ) -> Result<(), Broken>
     requires sound { IsSound (settings_in A.whole server_settings) (stream_of D.Stream.held D.Stream.taken D.Stream.failed) table.old }
     requires within { IsWithin table.old }
-    ensures goes_on { ServesOn (settings_in A.whole server_settings.entry) (stream_of D.Stream.held D.Stream.taken D.Stream.failed) (state S.Store) (D.known network.old)
+    ensures goes_on { ServesFrom (settings_in A.whole server_settings.entry) (stream_of D.Stream.held D.Stream.taken D.Stream.failed) (state S.Store) (D.known network.old)
         (D.known network.new) table.old table.new
         (served_office office.old (memory_entry kept.old)) (served_office office.new (memory_entry kept.new)) }
     ensures came { table.new.came ≡ table.old.came }
@@ -151,8 +152,9 @@ fn service_ready<D: Network, A: ServedFile, S: Alter>(
     Ok(())
 }
 
-/// Accepts the next pending connection, if there is room, or room can be made: an order, or a client unless all clients were
-/// accepted. If none was accepted, returns how long the next wait may be, in milliseconds.
+/// Accepts the next pending connection if there is room, or if room can be made. The connection may be for an order; or from a
+/// client, unless the maximum number of clients has been accepted. If no connection was accepted, returns the maximum duration
+/// of the next wait, in milliseconds.
 fn accept_one<D: Network>(
     alloc: Global,
     network: &mut D,
@@ -174,7 +176,7 @@ fn accept_one<D: Network>(
     }
     let clients_too = table.counted < most;
     if !evict_if_full(network, table, clients_too, now) {
-        return Some(LOOK);
+        return Some(RECHECK_MILLIS);
     }
     match network.accept(table.came, clients_too) {
         AcceptOutcome::One(accepted) => {
@@ -182,18 +184,18 @@ fn accept_one<D: Network>(
             None
         }
         AcceptOutcome::Nobody => Some(TIMEOUT),
-        AcceptOutcome::NotNow => Some(LOOK),
+        AcceptOutcome::NotNow => Some(RECHECK_MILLIS),
         AcceptOutcome::Full => {
             if evict_one(network, table, now) {
                 None
             } else {
-                Some(LOOK)
+                Some(RECHECK_MILLIS)
             }
         }
     }
 }
 
-/// Accepts pending connections, and returns how long the next wait may be, in milliseconds.
+/// Accepts pending connections, and returns the maximum duration of the next wait, in milliseconds.
 fn accept_pending<D: Network>(
     alloc: Global,
     network: &mut D,
@@ -218,7 +220,7 @@ fn accept_pending<D: Network>(
     0
 }
 
-/// Returns how long the next wait may be: at most this long, and no longer than until the first time limit is over.
+/// Returns the maximum duration of the next wait: `look` milliseconds, or less if a time limit expires sooner.
 fn pause<L>(table: &ConnectionTable<L>, look: u64, now: u64) -> Duration
     ensures { as_nanos result ≤ look * 1_000_000 }
 {
@@ -231,7 +233,7 @@ fn pause<L>(table: &ConnectionTable<L>, look: u64, now: u64) -> Duration
     }
 }
 
-/// The settings of a server, and the most clients to accept.
+/// The settings of a server, and the maximum number of clients to accept.
 struct RoundSettings<'a, A> {
     server_settings: ServerSettings<'a, A>,
     most: u64,
@@ -249,8 +251,8 @@ impl<A> Clone for RoundSettings<'_, A> {
 
 impl<A> Copy for RoundSettings<'_, A> {}
 
-/// Ends a round: closes the connections that are timed out, accepts pending ones, and waits for events. Returns whether all
-/// clients were accepted and all connections are closed.
+/// Ends a round: closes the connections that have timed out, accepts pending ones, and waits for events. Returns whether all
+/// clients have been accepted and all connections are closed.
 fn end_round<D: Network>(
     alloc: Global,
     network: &mut D,
@@ -276,18 +278,18 @@ fn end_round<D: Network>(
     Ok(false)
 }
 
-/// Serves in rounds, until all clients were accepted and all connections are closed. In each round the connections that are ready
-/// are serviced first.
+/// Serves in rounds, until all clients have been accepted and all connections are closed. Each round begins by servicing the
+/// connections that are ready.
 fn serve_rounds<D: Network, A: ServedFile, S: Alter>(
     network: &mut D,
     serving: RoundSettings<'_, A>,
     table: &mut ConnectionTable<D::Stream>,
     office: &mut Office<S>,
-    kept: &mut ServerMemory,
+    kept: &mut ServerState,
 ) -> Result<(), ServeError>
     requires sound { IsSound (settings_in A.whole serving.server_settings) (stream_of D.Stream.held D.Stream.taken D.Stream.failed) table.old }
     requires within { IsWithin table.old }
-    ensures goes_on { ServesOn (settings_in A.whole serving.entry.server_settings) (stream_of D.Stream.held D.Stream.taken D.Stream.failed) (state S.Store) (D.known network.old)
+    ensures goes_on { ServesFrom (settings_in A.whole serving.entry.server_settings) (stream_of D.Stream.held D.Stream.taken D.Stream.failed) (state S.Store) (D.known network.old)
         (D.known network.new) table.old table.new
         (served_office office.old (memory_entry kept.old)) (served_office office.new (memory_entry kept.new)) }
     ensures few { table.old.counted ≤ serving.entry.most → table.new.counted ≤ serving.entry.most }
@@ -308,34 +310,37 @@ fn serve_rounds<D: Network, A: ServedFile, S: Alter>(
     Err(ServeError::Rounds)
 }
 
-/// Serves the connections of a network, by the settings: the origin of a proxy and the gate, if any. It serves until so many
-/// clients were accepted and all connections are closed, or without end if no number is given. Orders are accepted too, before
-/// clients, and don't count.
+/// Serves the connections of a network under the given settings: the origin of a proxy, the gate, and what is shown in public,
+/// if any. Serves until the given number of clients have been accepted and all connections are closed, or indefinitely if no
+/// number is given. Orders are accepted too, before clients, and don't count.
 ///
-/// Requests are received side by side, and responses are sent side by side. A request is processed once it is complete: a
-/// client's as a whole, and an order's as a whole, in the same office. At most 512 connections are open at once, with 64 MiB of
-/// their requests and responses. If there are more, the next one stays pending, and the client that has waited longest is closed
-/// for it, provided that it has waited for a second. A connection has half a minute to send its request, and half a minute more
-/// to accept its response. One that is closed early gets no response. One that can't be accepted now is accepted later.
+/// Requests are received concurrently, and responses are sent concurrently. A request is processed once all of it has arrived,
+/// whether it is from a client or an order; all requests are processed in the same office. At most 512 connections are open at
+/// once, with 64 MiB of requests and responses. If there are more, the next one stays pending, and the client that has been
+/// waiting longest is closed to make room, provided that it has waited for a second. A connection has half a minute to send its
+/// request, and another half minute to accept its response. A connection that is closed early gets no response. One that can't
+/// be accepted now is accepted later.
 ///
-/// At the gate a request with its clerk's code is let in, however many wrong codes were sent. Once 6,000 wrong codes were sent
-/// within a minute, a request with a wrong code must wait for the rest of that minute. The moments are those that the clock
-/// shows.
+/// At the gate, a request with its clerk's code is accepted, however many wrong codes have been sent. Once 6,000 wrong codes
+/// have been sent within a minute, a request with a wrong code must wait for the rest of that minute. Times are those of the
+/// network's clock.
 ///
-/// What is received of a connection are its own bytes, from the first one on, and what it is sent is the response to exactly
-/// these. Nothing changes an open office but clerks' keyings, at most one for each client, and the requests of orders. Whatever a
-/// stop leaves is the state after the requests that were answered, and at most one more. Each is answered as the office's machine
-/// says at the state at which it is processed. A closed office stays as it is.
+/// The bytes received from a connection are its own, from the first one on, and what is sent to it is the response to exactly
+/// those bytes. An open office is changed only by clerks' keyings, at most one per client, and by the requests of orders.
+/// Whenever the program stops, what is left is the state after the requests that were answered and at most one other. Each
+/// request is answered as the office's state machine says for the state in which it is processed. A closed office stays as it
+/// is.
 ///
-/// By the network's clock a connection is closed as timed out only once its half minute is over, counted from when it was
-/// accepted or its request was processed. It is closed to make room only while the table is full, or if the system has no room
-/// for one more. The connections that are open as serving ends are closed last, and none is open after an end without a failure.
+/// A connection is closed as timed out only once half a minute has passed, by the network's clock, since it was accepted or its
+/// request was processed. It is closed to make room only while the table is full, or if the system has no room for another.
+/// Connections that are still open when serving ends are closed last; if serving ends without a failure, there are none.
 ///
-/// What each clerk sees of the office determines what is sent under that clerk's number, up to a fault, and except for the
-/// responses to wait and that the file is gone.
+/// What a clerk sees of the office determines what is sent under that clerk's number, apart from faults and from the responses
+/// saying that the client must wait or that the file is gone.
 ///
-/// The error says why serving ended early: the network or its clock failed, the table couldn't be allocated, or there were as
-/// many rounds as there are numbers. What was answered before remains valid. The connections that are open then are closed.
+/// The error says why serving ended early: the network or its clock failed, the table couldn't be allocated, or the number of
+/// rounds reached its maximum. What was answered before that remains valid. The connections that are still open then are
+/// closed.
 pub fn serve_connections<D: Network, A: ServedFile, S: Alter>(
     alloc: Global,
     network: &mut D,
@@ -348,7 +353,7 @@ pub fn serve_connections<D: Network, A: ServedFile, S: Alter>(
     ensures ended { IsEndedBy (D.known network.old) (D.known network.new) result }
     ensures closed { office.old.closed ≡ true → office.new ≡ office.old }
     ensures clean { HasCleanDisk (state S.Store office.new.held) → HasCleanDisk (state S.Store office.old.held) }
-    // What each clerk is sent depends on what that clerk sees.
+    // What is sent to each clerk depends only on what that clerk sees.
     ensures blind { ServersAnswerAsSeen (stream_of D.Stream.held D.Stream.taken D.Stream.failed) (state S.Store) }
 {
     servers_answer_as_seen::<D, S>();
@@ -356,7 +361,7 @@ pub fn serve_connections<D: Network, A: ServedFile, S: Alter>(
     let Ok(mut table) = ConnectionTable::new(alloc) else {
         return Err(ServeError::Memory);
     };
-    let Ok(mut kept) = ServerMemory::new(alloc) else {
+    let Ok(mut kept) = ServerState::new(alloc) else {
         return Err(ServeError::Memory);
     };
     let serving = RoundSettings {

@@ -1,4 +1,4 @@
--- A text remains UTF-8 if ASCII bytes are replaced by other bytes.
+-- A text remains UTF-8 if its ASCII bytes are replaced by other bytes.
 use Rattle.std.proofs.Common.{◌≡◌, ℕ, suc, ◌<◌, ◌≤◌, true, List, [], ◌∷◌, ◌++◌, length, get_or, IsUtf8, inl, inr, refl, sym, ap₂, subst, arith, append-nil}
 use Rattle.std.specs.List.{flat_map}
 use Rattle.std.proofs.lemmas.Bool.{and_parts, cases_lt}
@@ -11,7 +11,7 @@ pub ascii_then : (x : ℕ) (xs : List ℕ) → x < 128 → IsUtf8 xs → IsUtf8 
 ascii_then x xs small u = IsUtf8-append (x ∷ []) xs (subst IsUtf8 (encode_ascii x small) (IsUtf8-encode x (low_scalar x (omega arith)))) u
 
 module _ (f : ℕ → List ℕ) (low : (x : ℕ) → x < 128 → IsUtf8 (f x)) (high : (x : ℕ) → 128 ≤ x → f x ≡ x ∷ []) where
-  -- bytes outside ASCII are kept
+  -- bytes above ASCII are kept
   kept : (xs : List ℕ) → ((k : ℕ) → k < length xs → 128 ≤ get_or xs k 0) → flat_map f xs ≡ xs
   kept [] h = refl
   kept (x ∷ xs) h = ap₂ (λ (a b : List ℕ). a ++ b) (high x (h 0 (omega arith))) (kept xs (λ k below. h (suc k) (omega arith)))

@@ -13,7 +13,7 @@ ascend_of : (low : ℕ) (cs : List ℕ) → Ascends low cs → Ascend low cs
 ascend_of low [] up = tt
 ascend_of low (c ∷ cs) up = (up.0, up.1, ascend_of c cs up.2)
 
--- a ward that can be printed, by its parts
+-- a ward that can be printed, given its parts
 pub CanBePrinted-made : (ward : Ward) → 1 ≤ ward.seats → ward.seats ≤ max_seats → HasFewPapers ward.poll → Ascend 0 (map (λ candidate. candidate.0) ward.candidates.now) → CanBePrinted ward
 CanBePrinted-made ward some few papers up = record {
   some_seats = some;

@@ -1,4 +1,4 @@
--- What the proofs of the writers share.
+-- Lemmas shared by the proofs about the writers.
 pub mod Candidates
 pub mod Joined
 pub mod Writing

@@ -6,14 +6,14 @@ use Rattle.std.proofs.lemmas.Str.{IsUtf8-nil}
 use Rattle.sheet.specs.Lines.{escaped, plain_byte, plain}
 use Rattle.sheet.proofs.Bytewise.{ascii_then, IsUtf8-by_bytes}
 
--- one of two texts
+-- if both texts are UTF-8, so is the chosen text
 either : (b : Bool) (xs ys : List ℕ) → IsUtf8 xs → IsUtf8 ys → IsUtf8 (cond b xs ys)
 either true xs ys left right = left
 either false xs ys left right = right
 
 -- ---- quoted texts
 
--- an ASCII byte is preceded by a backslash or nothing
+-- an ASCII byte is preceded by a backslash or by nothing
 escaped_small : (x : ℕ) → x < 128 → IsUtf8 (escaped x)
 escaped_small x small =
     either ((x == 34) || (x == 92)) (92 ∷ x ∷ []) (x ∷ []) (ascii_then 92 (x ∷ []) (omega arith) (ascii_then x [] small IsUtf8-nil)) (ascii_then x [] small IsUtf8-nil)
@@ -37,7 +37,7 @@ ascii_text (x ∷ xs) e =
     let low : x < 128 = ltb-true _ _ p.0 in
     ascii_then x xs low (ascii_text xs p.1)
 
--- an ASCII byte stays the same, or becomes an entity
+-- an ASCII byte stays the same or becomes an entity
 plain_small : (x : ℕ) → x < 128 → IsUtf8 (plain_byte x)
 plain_small x small =
     either (x == 38) _ _ (ascii_text (codes "&amp;") refl)

@@ -49,7 +49,7 @@ end_is : (blank : Bool) → IsUtf8 ((if blank then 34 ∷ 34 ∷ [] else []) ++ 
 end_is true = ascii_then 34 (34 ∷ 10 ∷ []) (omega arith) (ascii_then 34 (10 ∷ []) (omega arith) (ascii_then 10 [] (omega arith) IsUtf8-nil))
 end_is false = ascii_then 10 [] (omega arith) IsUtf8-nil
 
--- the line of a row
+-- the line for a row
 pub IsUtf8-row : (row : List (String Global)) → IsUtf8 (row_text writer (map string_bytes row))
 IsUtf8-row [] = end_is (is_blank writer [])
 IsUtf8-row (cell ∷ rest) =
@@ -57,7 +57,7 @@ IsUtf8-row (cell ∷ rest) =
     (IsUtf8-append (field_text writer (string_bytes cell)) (fields_text writer (map string_bytes rest)) (field_is (string_bytes cell) (IsUtf8-had (string_bytes cell) cell.ok)) (fields_are rest))
     (end_is (is_blank writer (string_bytes cell ∷ map string_bytes rest)))
 
--- the lines of rows, in order
+-- the lines for rows, in order
 pub rows_whole : (first last_but_one last : List (List ℕ)) (middle : List (List (List ℕ))) (none one two three four : List ℕ) →
     none ≡ [] → one ≡ none ++ row_text writer first → two ≡ one ++ flat_map (row_text writer) middle →
     three ≡ two ++ row_text writer last_but_one → four ≡ three ++ row_text writer last →

@@ -1,4 +1,4 @@
--- The tied candidates that a page names with a lot are those who are tied according to the count.
+-- The candidates that a page names as tied for a lot are those who are tied according to the count.
 use Rattle.std.proofs.Common.{◌≡◌, ◌⊎◌, inl, inr, ℕ, ◌<◌, ◌==◌, ◌||◌, ◌&&◌, Bool, true, false, not, cond, nat_eq, nat_le, nat_lt, List, [], ◌∷◌, reverse, Option}
 use Rattle.std.proofs.Common.{refl, sym, ap, ap₂, subst, ◌∙◌, arith, true≢false}
 use Rattle.std.specs.List.{filter, list_all, list_any}
@@ -54,7 +54,7 @@ any_cong : (p q : ℕ → Bool) (xs : List ℕ) → ((x : ℕ) → p x ≡ q x) 
 any_cong p q [] h = refl
 any_cong p q (x ∷ xs) h = ap₂ (λ (a b : Bool). a || b) (h x) (any_cong p q xs h)
 
--- a test that no member passes fails for each member
+-- if no member passes a test, each member fails it
 any_false : (p : ℕ → Bool) (x : ℕ) (xs : List ℕ) → list_any p xs ≡ false → In x xs → p x ≡ false
 any_false p x [] none here = absurd (true≢false (sym here))
 any_false p x (y ∷ ys) none here = by (nat_eq x y) refl (any_false p x ys (or_false (p y) (list_any p ys) none).1) here
@@ -113,7 +113,7 @@ neither_equal Greater a b = cc
 tied_lists : (xs ys : List ℕ) → is_lt (slice_cmp nat_cmp xs ys) ≡ false → is_lt (slice_cmp nat_cmp ys xs) ≡ false → xs ≡ ys
 tied_lists xs ys a b = cmp_equal xs ys (neither_equal (slice_cmp nat_cmp xs ys) a (ap is_lt (sym (nat_list_cmp_total.antisymm ys xs)) ∙ b))
 
--- ---- those chosen from a group
+-- ---- the candidates chosen from a group
 
 abbrev is_alike : History → ℕ → ℕ → Bool
 is_alike stages c d = not (is_excluded stages d) && are_equal stages c d
@@ -157,7 +157,7 @@ module _ (stages : History) (candidates : List ℕ) (P : ℕ → Bool) (worse : 
   chosen_alike : (c : ℕ) → In c (filter is_chosen group) → filter (is_alike stages c) candidates ≡ filter is_chosen group
   chosen_alike c chosen = filter-cong (is_alike stages c) (λ d. P d && is_chosen d) candidates (λ d known. alike_chosen c d chosen known) ∙ sym (filter_twice is_chosen P candidates)
 
--- ---- those tied in a count
+-- ---- the candidates tied in a count
 
 open_elected : (contest : Contest) (stages : History) (c : ℕ) → undecided_fill contest stages ≡ false → is_elected contest stages c ≡ has_reached contest stages c
 open_elected contest stages c unfilled = ap (λ (b : Bool). has_reached contest stages c || (b && not (is_excluded stages c))) unfilled ∙ or_none (has_reached contest stages c)
@@ -172,7 +172,7 @@ elected_alike contest stages x y unfilled same =
     open_elected contest stages x unfilled ∙ reached_trace contest stages x ∙ ap (list_any (nat_le contest.quota)) same
     ∙ sym (reached_trace contest stages y) ∙ sym (open_elected contest stages y unfilled)
 
--- a candidate who has passed all papers on has no surplus
+-- a candidate who has passed on all papers has no surplus
 none_left : (contest : Contest) (stages : History) (c : ℕ) (b : Bool) → is_transferred stages c ≡ b → newest_votes stages c ≡ votes_after contest stages c → held contest stages c ≡ 0
     → contest.quota < newest_votes stages c → ⊥
 none_left contest stages c true gone told none more =
@@ -180,7 +180,7 @@ none_left contest stages c true gone told none more =
     omega (arith, told, quota, more)
 none_left contest stages c false gone told none more = omega (arith, told, votes-held contest stages c gone, none, more)
 
--- an excluded candidate has none
+-- an excluded candidate has no surplus
 no_surplus : (contest : Contest) (handed : History → Stage → Option ℕ) (s : Stage) (before : History) (c : ℕ) → IsContest contest → AreRankings contest.papers → IsRightBy contest handed (s ∷ before)
     → In c contest.candidates → contest.quota < newest_votes (s ∷ before) c → is_excluded (s ∷ before) c ≡ true → ⊥
 no_surplus contest handed s before c fair rankings right known more out = by (excludes s.action c) refl out
@@ -196,7 +196,7 @@ not_excluded : (b : Bool) → (b ≡ true → ⊥) → b ≡ false
 not_excluded true never = absurd (never refl)
 not_excluded false never = refl
 
--- of the continuing candidates, those with the fewest votes
+-- among the continuing candidates, those with the fewest votes
 lowest_alike : (contest : Contest) (stages : History) (c : ℕ) → undecided_fill contest stages ≡ false → In c (lowest stages (continuing_after contest stages))
     → filter (is_alike stages c) contest.candidates ≡ lowest stages (continuing_after contest stages)
 lowest_alike contest stages c unfilled chosen =
@@ -207,7 +207,7 @@ lowest_alike contest stages c unfilled chosen =
     (λ x y a b. tied_lists (trace stages x) (trace stages y) b a)
     c chosen
 
--- of the candidates with a surplus, those with the most votes
+-- among the candidates with a surplus, those with the most votes
 highest_alike : (contest : Contest) (handed : History → Stage → Option ℕ) (s : Stage) (before : History) (c : ℕ) → IsContest contest → AreRankings contest.papers
     → IsRightBy contest handed (s ∷ before) → undecided_fill contest (s ∷ before) ≡ false → In c (highest (s ∷ before) (with_surplus contest (s ∷ before)))
     → filter (is_alike (s ∷ before) c) contest.candidates ≡ highest (s ∷ before) (with_surplus contest (s ∷ before))
@@ -233,7 +233,7 @@ among_is contest stages kind other k tied [] is = cc
 among_is contest stages kind other k tied (c ∷ []) is = absurd (cc is)
 among_is contest stages kind other k tied (c ∷ d ∷ others) is = cc
 
--- a lot is due while a vacancy remains: among the lowest of the continuing candidates, or among the highest of those with a surplus
+-- a lot is due only while a vacancy remains: among the lowest of the continuing candidates, or among the highest of those with a surplus
 record IsTiedOf (contest : Contest) (stages : History) (tied : List ℕ) : Type 0 where
   pub unfilled : undecided_fill contest stages ≡ false
   pub are : (tied ≡ lowest stages (continuing_after contest stages)) ⊎ (tied ≡ highest stages (with_surplus contest stages))
@@ -287,7 +287,7 @@ all_reverse p (s ∷ stages) =
     swap false true = refl
     swap false false = refl
 
--- the candidates that a page names with a lot are tied in the count
+-- the candidates that a page names as tied for a lot are tied in the count
 pub tied_on_a_page : (contest : Contest) (handed : History → Stage → Option ℕ) (stages : History) (k c : ℕ) (kind : TiedFor) (tied : List ℕ) → IsContest contest → AreRankings contest.papers
     → IsRightBy contest handed stages → due_after contest stages ≡ Lot k kind tied → In c tied → filter (is_tied (reverse stages) c) contest.candidates ≡ tied
 tied_on_a_page contest handed stages k c kind tied fair rankings right due among_them =

@@ -1,4 +1,4 @@
--- The tied candidates are independent of names: only numbers matter.
+-- Ties don't depend on names: only numbers matter.
 use Rattle.std.proofs.Common.{◌≡◌, ℕ, Bool, ◌&&◌, ◌||◌, List, [], ◌∷◌, String, nat_lt, refl, ap}
 use Rattle.std.specs.declared.alloc.Global.{Global}
 use Rattle.count.specs.declared.stages.Stage.{Stage}

@@ -17,19 +17,19 @@ abbrev pub is_none_yet : List ℕ → Bool
 is_none_yet [] = true
 is_none_yet (c ∷ cs) = false
 
--- the numbers of such a line, without its end
+-- the numbers in a line of withdrawn candidates, without its newline
 abbrev pub joined : List ℕ → List ℕ
 joined [] = []
 joined (c ∷ cs) = withdrawn_number true c ++ flat_map (withdrawn_number false) cs
 
--- one more number
+-- another number
 pub joined-more : (xs : List ℕ) (c : ℕ) → joined (xs ++ c ∷ []) ≡ joined xs ++ withdrawn_number (is_none_yet xs) c
 joined-more [] c = append-nil (withdrawn_number true c)
 joined-more (x ∷ xs) c =
     ap (λ l. withdrawn_number true x ++ l) (flat_map-append (withdrawn_number false) xs (c ∷ []) ∙ ap (λ l. flat_map (withdrawn_number false) xs ++ l) (append-nil (withdrawn_number false c)))
     ∙ sym (append_assoc (withdrawn_number true x) (flat_map (withdrawn_number false) xs) (withdrawn_number false c))
 
--- what follows some numbers in the line of these and others
+-- what follows the given numbers in a line that contains them and others
 abbrev behind : List ℕ → List ℕ → List ℕ
 behind [] ys = withdrawn_line ys
 behind (x ∷ xs) ys = flat_map (withdrawn_number false) ys ++ codes "\n"
@@ -46,7 +46,7 @@ line-parted (x ∷ xs) ys =
     ∙ ap (λ l. l ++ codes "\n") (sym (append_assoc (withdrawn_number true x) (flat_map (withdrawn_number false) xs) (flat_map (withdrawn_number false) ys)))
     ∙ append_assoc (joined (x ∷ xs)) (flat_map (withdrawn_number false) ys) (codes "\n")
 
--- the whole line, by whether there is a number
+-- the whole line, depending on whether there is a number
 pub line_of_none : (xs : List ℕ) → is_none_yet xs ≡ true → withdrawn_line xs ≡ []
 line_of_none [] none = refl
 line_of_none (x ∷ xs) none = absurd (cc)
@@ -73,7 +73,7 @@ module _ (ward : SheetEntry) where
   abbrev pub so_far : ℕ → List ℕ
   so_far n = filter is_missing (take n (numbers_of ward))
 
-  -- the number at a place
+  -- the number at a position
   pub number_at : (n d : ℕ) → n < highest_number ward.candidates → n + 1 ≡ get_or (numbers_of ward) n d
   number_at n d within = omega (arith, get_or-range_with_len 1 (highest_number ward.candidates) n d within)
 
@@ -83,7 +83,7 @@ module _ (ward : SheetEntry) where
   pub all_within : (n : ℕ) → highest_number ward.candidates ≤ n → length (numbers_of ward) ≤ n
   all_within n above = omega (arith, length-range_with_len 1 (highest_number ward.candidates), above)
 
-  -- with the next number
+  -- the withdrawn candidates so far, with the next number
   pub so_far-more : (n : ℕ) (b : Bool) → n < highest_number ward.candidates → is_missing (n + 1) ≡ b → so_far (n + 1) ≡ so_far n ++ cond b ((n + 1) ∷ []) []
   so_far-more n b within is =
       ap (filter is_missing) (take_more (numbers_of ward) n 0 (number_within n within))
@@ -91,7 +91,7 @@ module _ (ward : SheetEntry) where
       ∙ ap (λ c. so_far n ++ filter is_missing (c ∷ [])) (sym (number_at n 0 within))
       ∙ ap (λ b. so_far n ++ cond b ((n + 1) ∷ []) []) is
 
-  -- all of them
+  -- all withdrawn candidates
   pub so_far-all : (n : ℕ) → highest_number ward.candidates ≤ n → so_far n ≡ withdrawn ward
   so_far-all n above = ap (filter is_missing) (take_all n (numbers_of ward) (all_within n above))
 
@@ -99,14 +99,14 @@ module _ (ward : SheetEntry) where
   so_far-parted n = ap (filter is_missing) (sym (take-append-drop n (numbers_of ward))) ∙ filter-append is_missing (take n (numbers_of ward)) (drop n (numbers_of ward))
 
   module _ {W : Type 0} {taken : W → Option (List ℕ)} {failed : W → ℕ} {X E : Type 0} where
-    -- one more number was written
+    -- another number has been written
     pub Writes-withdrawn : {Y F : Type 0} {old mid new : W} {x : X} (n : ℕ) (r : Result Y F) → n < highest_number ward.candidates → is_missing (n + 1) ≡ true →
         Writes {E = E} taken failed old mid (joined (so_far n)) (Ok x) → Writes taken failed mid new (withdrawn_number (is_none_yet (so_far n)) (n + 1)) r →
         Writes taken failed old new (joined (so_far (n + 1))) r
     Writes-withdrawn {old = old} {mid = mid} {new = new} n r within missing front next =
         subst (λ text. Writes taken failed old new text r) (sym (ap joined (so_far-more n true within missing) ∙ joined-more (so_far n) (n + 1))) (Writes-then r front next)
 
-    -- the same if it fails, and the failure is passed on
+    -- writing another number failed, and the failure is passed on
     pub Writes-withdrawn_cut : {old mid new : W} {x : X} {e : E} (n : ℕ) (r : Result X E) → n < highest_number ward.candidates → is_missing (n + 1) ≡ true →
         Writes {E = E} taken failed old mid (joined (so_far n)) (Ok x) → Writes {X = X} taken failed mid new (withdrawn_number (is_none_yet (so_far n)) (n + 1)) (Err e) → IsErr r →
         Writes taken failed old new (withdrawn_line (withdrawn ward)) r

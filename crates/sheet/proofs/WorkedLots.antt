@@ -20,12 +20,12 @@ one_lot : lot_item harbour (first_stage ∷ second_stage ∷ []) (2, 5) ≡ code
 unfolding harbour first_stage second_stage joined line digits
 one_lot = refl
 
--- before its stage is done, a lot is only drawn, and decides nothing yet
+-- until its stage has been completed, a lot is shown as drawn, without a decision
 drawn_alone : lot_item harbour (first_stage ∷ []) (2, 5) ≡ codes "<li>Lot at stage 2 between 2 <bdi>Bob</bdi> and 5 <bdi>Ed</bdi>: drawn 5 <bdi>Ed</bdi></li>\n"
 unfolding harbour first_stage joined line digits
 drawn_alone = refl
 
--- before any stage all candidates are equal
+-- before the first stage, all candidates are equal
 three_tied : tied_names (record harbour { candidates = (1, codes "Ann") ∷ (2, codes "Bob") ∷ (5, codes "Ed") ∷ [] }) [] 2 ≡ codes "1 <bdi>Ann</bdi>, 2 <bdi>Bob</bdi> and 5 <bdi>Ed</bdi>"
 unfolding harbour joined digits
 three_tied = refl

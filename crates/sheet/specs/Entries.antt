@@ -4,7 +4,7 @@ use Rattle.std.specs.declared.alloc.Global.{Global}
 use Rattle.sheet.specs.declared.ward.Ward.{Ward}
 use Rattle.sheet.specs.declared.ward.Poll.{Poll}
 
--- a ward as plain texts: its number, name and seats, the number and the name of each candidate, ascending, and its poll if it is contested
+-- a ward as plain texts: its number, name and seats, the number and the name of each candidate in ascending order, and its poll if it is contested
 pub record SheetEntry : Type 0 where
   pub number : ℕ
   pub name : List ℕ
@@ -12,11 +12,11 @@ pub record SheetEntry : Type 0 where
   pub candidates : List (ℕ × List ℕ)
   pub poll : Option Poll
 
--- candidates by number, with names as plain texts
+-- the number of each candidate, with the name as plain text
 abbrev pub candidates_shown : List (ℕ × String Global) → List (ℕ × List ℕ)
 candidates_shown candidates = map (λ candidate. (candidate.0, string_bytes candidate.1)) candidates
 
--- the data that a ward shows
+-- the data shown for a ward
 abbrev pub shown : Ward → SheetEntry
 shown ward = record {
   number = ward.number;

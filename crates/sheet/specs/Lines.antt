@@ -5,7 +5,7 @@ use Rattle.votes.specs.Text.{votes_text}
 use Rattle.count.specs.declared.stages.Action.{Action}
 use Rattle.count.specs.declared.stages.Action.TheVariants.{First, Surplus, Exclude, ExcludeLast}
 
--- parts in order
+-- the parts of a text, joined in order
 unfoldable pub joined : List (List ℕ) → List ℕ
 joined parts = flat_map (λ part. part) parts
 
@@ -13,7 +13,7 @@ joined parts = flat_map (λ part. part) parts
 unfoldable pub line : List (List ℕ) → List ℕ
 line parts = flat_map (λ part. part) parts ++ codes "\n"
 
--- a text, right-aligned in a number of columns
+-- a text, right-aligned in the given number of columns
 abbrev pub right_in : ℕ → List ℕ → List ℕ
 right_in places text = replicate (places - length text) 32 ++ text
 
@@ -25,15 +25,15 @@ number_column c = right_in 2 (decimal c)
 abbrev pub value_column : ℕ → List ℕ
 value_column units = right_in 13 (votes_text units)
 
--- a range of stages by the numbers of the first and the last: `Stages 1 to 8`, `Stage 9`
+-- a range of stages, given the numbers of the first and the last: `Stages 1 to 8`, `Stage 9`
 abbrev pub span : ℕ → ℕ → List ℕ
 span first last = if first == last then codes "Stage " ++ decimal first else codes "Stages " ++ decimal first ++ codes " to " ++ decimal last
 
--- a candidate's number after a space
+-- a candidate's number, preceded by a space
 abbrev pub preference : ℕ → List ℕ
 preference c = codes " " ++ decimal c
 
--- the numbers of some candidates, each after a space
+-- the numbers of the given candidates, each preceded by a space
 abbrev pub preferences : List ℕ → List ℕ
 preferences list = flat_map preference list
 
@@ -45,7 +45,7 @@ escaped byte = if (byte == 34) || (byte == 92) then 92 ∷ byte ∷ [] else byte
 abbrev pub quoted : List ℕ → List ℕ
 quoted text = codes "\"" ++ flat_map escaped text ++ codes "\""
 
--- a byte of a text on a page: the five bytes that could be markup (`&`, `<`, `>`, `"`, `'`) as their entities, every other one as it is
+-- a byte of a text on a page: each of the five bytes that could be markup (`&`, `<`, `>`, `"`, `'`) becomes its entity, and every other byte is unchanged
 abbrev pub plain_byte : ℕ → List ℕ
 plain_byte byte =
     if byte == 38 then codes "&amp;" else (
@@ -54,7 +54,7 @@ plain_byte byte =
     if byte == 34 then codes "&quot;" else (
     if byte == 39 then codes "&#39;" else byte ∷ []))))
 
--- a text on a page, escaped so that it is never markup, whatever its bytes
+-- a text on a page, escaped so that it is never treated as markup, whatever its bytes
 abbrev pub plain : List ℕ → List ℕ
 plain text = flat_map plain_byte text
 
@@ -62,7 +62,7 @@ plain text = flat_map plain_byte text
 abbrev pub named : ℕ → List ℕ → List ℕ
 named number name = decimal number ++ codes " <bdi>" ++ plain name ++ codes "</bdi>"
 
--- `exclusion of 3 <bdi>Cy</bdi>`: the action of a stage, on a page, with the number and the name of the candidate concerned
+-- `exclusion of 3 <bdi>Cy</bdi>`: the action of a stage, on a page, with the number and the name of the candidate that it concerns
 abbrev pub action_named : Action → List ℕ → List ℕ
 action_named First name = codes "first preferences"
 action_named (Surplus c) name = codes "surplus of " ++ named c name

@@ -74,7 +74,7 @@ style =
     codes "* { -webkit-print-color-adjust: exact; print-color-adjust: exact; }\n" ++ (
     codes "}\n"))))))))))))))))))))))))))))))))))))))))))))))))))))))))))))))))))))
 
--- the pattern, shared by all bars of a page, for the votes gained after the first stage
+-- the pattern for the votes gained after the first stage, which all bars of a page share
 unfoldable pub patterns : List ℕ
 patterns =
     codes "<svg class=\"patterns\" width=\"0\" height=\"0\" aria-hidden=\"true\"><defs>" ++ (
@@ -82,7 +82,7 @@ patterns =
     codes "<rect width=\"4\" height=\"4\" fill=\"#fff\"/>" ++ (
     codes "<rect width=\"1.6\" height=\"4\" fill=\"#000\"/></pattern></defs></svg>")))
 
--- the legend of a chart's bars, up to the quota
+-- the legend for the bars of a chart, up to the quota
 unfoldable pub legend : List ℕ
 legend =
     codes "<p class=\"key\">" ++ (

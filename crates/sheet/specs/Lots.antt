@@ -1,4 +1,4 @@
--- The lots of a ward on a page: the stage, the tied candidates and the decision of each.
+-- The lots of a ward on a page: for each, its stage, the tied candidates, and what it decided.
 use Rattle.std.specs.Prelude.{ℕ, ◌-◌, Bool, not, ◌&&◌, ◌==◌, nat_lt, if◌then◌else◌, List, [], ◌∷◌, ◌++◌, length, take, slice_get, codes, decimal, Option, Some, None}
 use Rattle.std.specs.List.{list_all, list_any, flat_map}
 use Rattle.count.specs.Law.Contest.{votes_at}
@@ -10,22 +10,22 @@ use Rattle.sheet.specs.Entries.{SheetEntry}
 use Rattle.sheet.specs.Lines.{joined, line, named}
 use Rattle.sheet.specs.Stages.{is_excluded_at}
 
--- the votes of two candidates were equal at each of some stages
+-- whether two candidates had equal votes at each of the given stages
 abbrev pub are_equal_at : List Stage → ℕ → ℕ → Bool
 are_equal_at stages c d = list_all (λ s. votes_at s c == votes_at s d) stages
 
--- a candidate was tied with the one drawn by a lot: not excluded before it, and with equal votes at all stages
+-- whether a candidate was tied with the one drawn by lot: not excluded before it, and with equal votes at all stages
 abbrev pub is_tied : List Stage → ℕ → ℕ → Bool
 is_tied earlier c d = not (is_excluded_at earlier d) && are_equal_at earlier c d
 
--- whether some candidate tied with `c` has a lower number than `d`, and whether one has a higher number; names make no difference
+-- whether some candidate tied with `c` has a lower number than `d`, and whether some candidate has a higher one; names make no difference
 abbrev pub has_tied_below : {N : Type 0} → List (ℕ × N) → List Stage → ℕ → ℕ → Bool
 has_tied_below candidates earlier c d = list_any (λ candidate. nat_lt candidate.0 d && is_tied earlier c candidate.0) candidates
 
 abbrev pub has_tied_above : {N : Type 0} → List (ℕ × N) → List Stage → ℕ → ℕ → Bool
 has_tied_above candidates earlier c d = list_any (λ candidate. nat_lt d candidate.0 && is_tied earlier c candidate.0) candidates
 
--- the separator before a tied candidate: nothing before the first, ` and ` before the last, otherwise a comma
+-- the separator before a tied candidate: nothing before the first, ` and ` before the last, a comma before any other
 abbrev pub tie_mark : Bool → Bool → List ℕ
 tie_mark has_below has_above = if has_below then (if has_above then codes ", " else codes " and ") else []
 
@@ -34,11 +34,11 @@ abbrev pub tied_name : List (ℕ × List ℕ) → List Stage → ℕ → ℕ →
 tied_name candidates earlier c d name =
     if is_tied earlier c d then joined (tie_mark (has_tied_below candidates earlier c d) (has_tied_above candidates earlier c d) ∷ named d name ∷ []) else []
 
--- `2 Bob, 4 Dot and 5 Ed`: all who were tied with the candidate drawn by a lot
+-- `2 Bob, 4 Dot and 5 Ed`: all candidates who were tied with the one drawn by lot
 abbrev pub tied_names : SheetEntry → List Stage → ℕ → List ℕ
 tied_names ward earlier c = flat_map (λ candidate. tied_name ward.candidates earlier c candidate.0 candidate.1) ward.candidates
 
--- what a lot decided, by the action of its stage, once that is done
+-- what a lot decided, given the action of its stage, once that stage has been completed
 abbrev pub settled_by : Action → List ℕ
 settled_by First = codes ": drawn "
 settled_by (Surplus c) = codes ": first the surplus of "
@@ -49,7 +49,7 @@ abbrev pub settled_at : Option Stage → List ℕ
 settled_at None = codes ": drawn "
 settled_at (Some stage) = settled_by stage.action
 
--- the stages before the one with a number
+-- the stages before the one with the given number
 abbrev pub stages_before : List Stage → ℕ → List Stage
 stages_before stages k = take (k - 1) stages
 
@@ -60,7 +60,7 @@ lot_item ward stages lot =
     ++ tied_names ward (stages_before stages lot.0) lot.1
     ++ line (settled_at (slice_get stages (lot.0 - 1)) ∷ named lot.1 (name_or_withdrawn (name_at ward.candidates lot.1)) ∷ codes "</li>" ∷ [])
 
--- the lots drawn
+-- the lots that were drawn
 abbrev pub lots_text : SheetEntry → List Stage → List (ℕ × ℕ) → List ℕ
 lots_text ward stages lots =
     if length lots == 0 then line (codes "<h2>Lots drawn</h2>\n<p>No lot was drawn.</p>" ∷ [])

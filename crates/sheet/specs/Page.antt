@@ -1,4 +1,4 @@
--- The page with the result of a ward, for display, print and signature: one HTML file without external resources.
+-- The page with the result of a ward, for display, printing and signature: one HTML file without external resources.
 use Rattle.std.specs.Prelude.{ℕ, Bool, true, false, ◌+◌, ◌-◌, nat_eq, ◌==◌, if◌then◌else◌, List, [], ◌∷◌, ◌++◌, length, slice_index, codes, decimal, Option, Some, None}
 use Rattle.std.specs.List.{list_any, flat_map}
 use Rattle.votes.specs.Units.{quota_of}
@@ -47,11 +47,11 @@ abbrev pub elected_item : ℕ → ℕ → ℕ → List ℕ → List ℕ
 elected_item k votes c name =
     line (codes "<li><b>" ∷ named c name ∷ codes "</b> <span>" ∷ votes_text votes ∷ codes " votes, elected at stage " ∷ decimal k ∷ codes "</span></li>" ∷ [])
 
--- the same, if a candidate is among those elected at the stage
+-- an elected candidate, with the votes and the stage, if the candidate is elected at the given stage
 abbrev pub item_at : ℕ → Stage → ℕ → List ℕ → List ℕ
 item_at k stage c name = if list_any (nat_eq c) stage.elected then elected_item k (votes_at stage c) c name else []
 
--- the candidates elected at a stage, in the order of their numbers
+-- the candidates elected at a stage, in ascending order of their numbers
 abbrev pub elected_at : SheetEntry → List Stage → Stage → List ℕ
 elected_at ward earlier stage = flat_map (λ candidate. item_at (length earlier + 1) stage candidate.0 candidate.1) ward.candidates
 
@@ -59,22 +59,22 @@ elected_at ward earlier stage = flat_map (λ candidate. item_at (length earlier 
 abbrev pub unopposed_item : ℕ → List ℕ → List ℕ
 unopposed_item c name = line (codes "<li><b>" ∷ named c name ∷ codes "</b></li>" ∷ [])
 
--- the elected candidates in the order of their election, at one stage in the order of their numbers; in an uncontested ward all candidates
+-- the elected candidates in the order of their election, and for one stage in ascending order of their numbers; in an uncontested ward, all candidates
 abbrev pub elected_items : SheetEntry → Option Poll → List Stage → List ℕ
 elected_items ward None stages = flat_map (λ candidate. unopposed_item candidate.0 candidate.1) ward.candidates
 elected_items ward (Some poll) stages = from_place (elected_at ward) 0 stages
 
--- how many seats remain after those filled at some stages
+-- the number of seats that remain after the given stages
 abbrev pub seats_left : ℕ → List Stage → ℕ
 seats_left seats [] = seats
 seats_left seats (stage ∷ later) = seats_left (seats - length stage.elected) later
 
--- how many seats of a ward remain; in an uncontested one, those that its candidates don't fill
+-- the number of seats of a ward that remain; in an uncontested ward, those that its candidates don't fill
 abbrev pub left_in : SheetEntry → Option Poll → List Stage → ℕ
 left_in ward None stages = ward.seats - length ward.candidates
 left_in ward (Some poll) stages = seats_left ward.seats stages
 
--- whether the remaining seats will stay empty: known once the ward is declared, and in an uncontested one at once
+-- whether the remaining seats will stay empty, which is known once the ward is declared, or at once if it is uncontested
 abbrev pub stay_empty : Option Poll → Bool → Bool
 stay_empty None is_declared = true
 stay_empty (Some poll) is_declared = is_declared
@@ -84,11 +84,11 @@ abbrev pub left_words : Bool → List ℕ
 left_words true = codes "</ul>\n<p>Seats that stay empty: "
 left_words false = codes "</ul>\n<p>Seats not yet filled: "
 
--- the end of the list of elected candidates, with the number of remaining seats, if there are any
+-- the end of the list of elected candidates, with the number of remaining seats, if any
 abbrev pub elected_end : Bool → ℕ → List ℕ
 elected_end is_final left = if left == 0 then line (codes "</ul>" ∷ []) else line (left_words is_final ∷ decimal left ∷ codes "</p>" ∷ [])
 
--- the elected candidates, and how many seats remain
+-- the elected candidates, and the number of remaining seats
 abbrev pub elected_text : SheetEntry → Bool → List Stage → List ℕ
 elected_text ward is_declared stages =
     line (codes "<div class=\"top\">\n<div>\n<h2>Elected</h2>\n<ul class=\"names\">" ∷ [])
@@ -116,7 +116,7 @@ papers_table seats poll = line (
     codes "</td></tr>\n<tr><th scope=\"row\">Papers in all</th><td>" ∷ decimal (poll.valid + rejected_in_all poll.rejected) ∷
     codes "</td></tr>\n</table>\n</div>\n</div>" ∷ [])
 
--- the note that a ward is uncontested
+-- the note saying that a ward is uncontested
 abbrev pub uncontested_text : ℕ → List ℕ
 uncontested_text seats =
     line (codes "<p>Seats: " ∷ decimal seats ∷ codes ". The ward is uncontested: there is no poll, and all its candidates are elected.</p>\n</div>\n</div>" ∷ [])
@@ -146,7 +146,7 @@ abbrev pub foot : SheetEntry → Bool → List Stage → List ℕ
 foot ward true stages = signatures ward stages
 foot ward false stages = codes "</body>\n</html>\n"
 
--- the page of a ward: its title, whether it is declared, the stages of its count, and the lots drawn, each as a stage and a candidate
+-- the page of a ward: its title, whether it is declared, the stages of its count, and the lots drawn, each a stage and a candidate
 abbrev pub page : SheetEntry → List ℕ → Bool → List Stage → List (ℕ × ℕ) → List ℕ
 page ward title is_declared stages lots =
     page_head ward title is_declared ++ elected_text ward is_declared stages ++ grounds ward ward.poll stages lots ++ foot ward is_declared stages

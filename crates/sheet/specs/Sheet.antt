@@ -36,16 +36,16 @@ rejected_line rejected = line (
 abbrev pub candidate_lines : SheetEntry → List Stage → Stage → List ℕ
 candidate_lines ward earlier stage = flat_map (λ candidate. candidate_line earlier stage candidate.0 candidate.1) ward.candidates
 
--- a stage after earlier ones
+-- a stage, given the stages before it
 abbrev pub stage_text : SheetEntry → List Stage → Stage → List ℕ
 stage_text ward earlier stage =
     heading (length earlier + 1) stage.action ++ candidate_lines ward earlier stage ++ sum_lines stage
 
--- all stages, each after those before it
+-- all stages, each following those before it
 abbrev pub stages_text : SheetEntry → List Stage → List ℕ
 stages_text ward stages = from_place (stage_text ward) 0 stages
 
--- everything after the ward's line
+-- everything after the line with the ward
 abbrev pub below_ward : SheetEntry → Option Poll → List Stage → List ℕ
 below_ward ward None stages = uncontested_line ward.seats
 below_ward ward (Some poll) stages = seats_line ward.seats poll.valid ++ rejected_line poll.rejected ++ stages_text ward stages
@@ -58,7 +58,7 @@ sheet ward stages = ward_line ward ++ below_ward ward ward.poll stages
 abbrev pub elected_heading : List ℕ
 elected_heading = line (codes "Elected" ∷ [])
 
--- ` 1 Ann`, for a candidate, if elected
+-- ` 1 Ann`, for a candidate who is elected
 abbrev pub elected_line : List ℕ → ℕ → List ℕ → List ℕ
 elected_line elected c name = if list_any (nat_eq c) elected then line (number_column c ∷ codes " " ∷ name ∷ []) else []
 
@@ -66,6 +66,6 @@ elected_line elected c name = if list_any (nat_eq c) elected then line (number_c
 abbrev pub elected_lines : SheetEntry → List ℕ → List ℕ
 elected_lines ward elected = flat_map (λ candidate. elected_line elected candidate.0 candidate.1) ward.candidates
 
--- the declaration of a ward, by the numbers of its elected
+-- the declaration of a ward, given the numbers of its elected candidates
 abbrev pub declaration : SheetEntry → List ℕ → List ℕ
 declaration ward elected = ward_line ward ++ elected_heading ++ elected_lines ward elected

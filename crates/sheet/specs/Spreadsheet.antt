@@ -16,7 +16,7 @@ use Rattle.sheet.specs.Stages.{fate_at}
 use Rattle.sheet.specs.declared.stage.Fate.{Fate}
 use Rattle.sheet.specs.declared.stage.Fate.TheVariants.{NewlyElected, Elected, NewlyExcluded, Excluded, Continuing}
 
--- every cell is quoted, so that it stays one cell, whatever character a spreadsheet treats as a separator
+-- every cell is quoted, so that it remains one cell whatever character a spreadsheet treats as a separator
 abbrev pub writer : WriterBuilder
 writer = record default_writer { style = style.Always }
 
@@ -24,12 +24,12 @@ writer = record default_writer { style = style.Always }
 abbrev pub begins_formula : ℕ → Bool
 begins_formula byte = (byte == 61) || ((byte == 43) || ((byte == 45) || ((byte == 64) || (byte == 239))))
 
--- a name as a cell that isn't read as a formula: an apostrophe precedes such a byte
+-- a name as a cell that isn't read as a formula: if necessary, an apostrophe precedes it
 abbrev pub name_cell : List ℕ → List ℕ
 name_cell [] = []
 name_cell (byte ∷ rest) = if begins_formula byte then codes "'" ++ byte ∷ rest else byte ∷ rest
 
--- the column heads of the stage with a number: `Stage 2: surplus of 1`, `Stage 2 gained`, `Stage 2 lost`, `Stage 2 standing`
+-- the column heads of the stage with the given number: `Stage 2: surplus of 1`, `Stage 2 gained`, `Stage 2 lost`, `Stage 2 standing`
 abbrev pub heads_at : ℕ → Stage → List (List ℕ)
 heads_at k stage =
     (codes "Stage " ++ (decimal k ++ (codes ": " ++ action_text stage.action))) ∷
@@ -37,7 +37,7 @@ heads_at k stage =
     (codes "Stage " ++ (decimal k ++ codes " lost")) ∷
     (codes "Stage " ++ (decimal k ++ codes " standing")) ∷ []
 
--- the column heads of a stage after earlier ones
+-- the column heads of a stage, given the stages before it
 abbrev pub stage_heads : List Stage → Stage → List (List ℕ)
 stage_heads earlier stage = heads_at (length earlier + 1) stage
 
@@ -47,7 +47,7 @@ value_in (Candidate c) stage = votes_at stage c
 value_in NonTransferable stage = stage.non_transferable
 value_in Lost stage = stage.lost
 
--- its value at the last of some stages, none before the first; the gains less the losses of all stages up to one add up to the value there
+-- the value of a line at the last of the given stages, or 0 before the first; the gains minus the losses of all stages up to a given one add up to the value at that stage
 abbrev pub value_after : Line → Option Stage → ℕ
 value_after line None = 0
 value_after line (Some stage) = value_in line stage
@@ -63,7 +63,7 @@ standing_word NewlyExcluded = codes "excluded"
 standing_word Excluded = codes "excluded"
 standing_word Continuing = codes "continuing"
 
--- the standing of a line; a running total has none
+-- the standing in a line; empty for a running total
 abbrev pub standing : Line → List Stage → Stage → List ℕ
 standing (Candidate c) earlier stage = standing_word (fate_at earlier stage c)
 standing NonTransferable earlier stage = []
@@ -77,11 +77,11 @@ stage_cells line earlier stage =
     votes_text (value_before line earlier - value_in line stage) ∷
     standing line earlier stage ∷ []
 
--- the row of heads
+-- the row with the column heads
 abbrev pub head_row : List Stage → List (List ℕ)
 head_row stages = codes "candidate" ∷ codes "name" ∷ each_after stage_heads [] stages
 
--- a row: a candidate's number, name, and cells
+-- a row with a candidate's number, name, and cells
 abbrev pub candidate_row : List Stage → (ℕ × List ℕ) → List (List ℕ)
 candidate_row stages candidate = decimal candidate.0 ∷ name_cell candidate.1 ∷ each_after (stage_cells (Candidate candidate.0)) [] stages
 

@@ -14,15 +14,15 @@ use Rattle.sheet.specs.declared.stage.Fate.TheVariants.{NewlyElected, Elected, N
 abbrev pub heading : ℕ → Action → List ℕ
 heading k action = line (codes "Stage " ∷ decimal k ∷ codes ": " ∷ action_text action ∷ [])
 
--- whether a candidate is newly elected at one of some stages
+-- whether a candidate is newly elected at one of the given stages
 abbrev pub is_elected_at : List Stage → ℕ → Bool
 is_elected_at stages c = list_any (λ s. list_any (nat_eq c) s.elected) stages
 
--- whether a candidate is excluded at one of some stages
+-- whether a candidate is excluded at one of the given stages
 abbrev pub is_excluded_at : List Stage → ℕ → Bool
 is_excluded_at stages c = list_any (λ s. excludes s.action c) stages
 
--- the standing of a candidate at a stage after earlier ones
+-- the standing of a candidate at a stage, given the stages before it
 abbrev pub fate_at : List Stage → Stage → ℕ → Fate
 fate_at earlier stage c =
     if is_elected_at (stage ∷ []) c then NewlyElected else (
@@ -43,7 +43,7 @@ abbrev pub candidate_line : List Stage → Stage → ℕ → List ℕ → List �
 candidate_line earlier stage c name =
     line (number_column c ∷ codes " " ∷ value_column (votes_at stage c) ∷ codes " " ∷ letter (fate_at earlier stage c) ∷ codes " " ∷ name ∷ [])
 
--- `         0.00002 lost by fractions`: a running total, and its label
+-- `         0.00002 lost by fractions`: a running total, with its label
 abbrev pub sum_line : ℕ → List ℕ → List ℕ
 sum_line units what = line (codes "   " ∷ value_column units ∷ codes " " ∷ what ∷ [])
 

@@ -7,7 +7,7 @@ use Rattle.sheet.specs.Cells.{cell_text, head_cell, row}
 use Rattle.sheet.specs.Entries.{SheetEntry}
 use Rattle.sheet.specs.declared.cells.Cell.TheVariants.{Candidate, NonTransferable, Lost}
 
--- the column heads of a table, with its caption, in a region that can be focused and scrolled by keyboard
+-- the column heads of a table, with its caption, in a region that can be focused and scrolled with the keyboard
 abbrev pub head_row : SheetEntry → ℕ → List Stage → List ℕ
 head_row ward place stages = row (
     codes "<div class=\"wide\" role=\"region\" tabindex=\"0\" aria-label=\"" ∷ span (place + 1) (length stages) ∷
@@ -29,7 +29,7 @@ sum_rows place stages =
     row (codes "<tr class=\"sum\"><th scope=\"row\">non-transferable</th>" ∷ []) (cell_text NonTransferable) (codes "</tr>") place stages
     ++ row (codes "<tr class=\"sum\"><th scope=\"row\">lost by fractions</th>" ∷ []) (cell_text Lost) (codes "</tr>\n</tbody>\n</table>\n</div>") place stages
 
--- the table of the stages from a place on
+-- the table of the stages, starting at the given position
 abbrev pub table : SheetEntry → ℕ → List Stage → List ℕ
 table ward place stages = head_row ward place stages ++ candidate_rows ward place stages ++ sum_rows place stages
 

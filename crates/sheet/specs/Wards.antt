@@ -5,7 +5,7 @@ use Rattle.votes.specs.Units.{max_papers, max_seats}
 use Rattle.sheet.specs.declared.ward.Ward.{Ward}
 use Rattle.sheet.specs.declared.ward.Poll.{Poll}
 
--- ascending numbers, the first above a bound, the last at most the maximum number of candidates
+-- numbers in ascending order, the first above the given bound, and the last at most the maximum number of candidates
 abbrev pub Ascend : ℕ → List ℕ → Type 0
 Ascend low [] = ⊤
 Ascend low (c ∷ cs) = (low < c) × (c ≤ max_candidates) × Ascend c cs
@@ -14,7 +14,8 @@ Ascend low (c ∷ cs) = (low < c) × (c ≤ max_candidates) × Ascend c cs
 abbrev pub HasFewPapers : Option Poll → Type 0
 HasFewPapers poll = IfSome poll (λ poll. poll.valid ≤ max_papers)
 
--- a ward that can be printed: seats within the limits, candidates in ascending order of numbers from 1 to the maximum, and papers within the limit
+-- a ward that can be printed: its seats are within the limits, its candidates are in ascending order of their numbers, which are 1 to the maximum,
+-- and its papers are within the limit
 pub record CanBePrinted (ward : Ward) : Type 0 where
   pub some_seats : 1 ≤ ward.seats
   pub few_seats : ward.seats ≤ max_seats

@@ -16,7 +16,7 @@ use count::Bundles;
 use paper::Prefs;
 use streams::{Broken, Sink};
 
-/// Returns the highest candidate number, which is the last one's; 0 if there are no candidates.
+/// Returns the highest candidate number, which is the last one; 0 if there are no candidates.
 fn highest_number(ward: &Ward) -> u8
     ensures { result ≡ highest_number_of (shown ward.now).candidates }
 {
@@ -26,7 +26,7 @@ fn highest_number(ward: &Ward) -> u8
     }
 }
 
-/// Returns the name of the candidate with a number, if there is one.
+/// Returns the name of the candidate with the given number, if there is one.
 fn name_at<'a>(ward: &Ward<'a>, c: u8) -> Option<&'a str>
     ensures { option_map (λ name. name.now) result ≡ name_at_of (shown ward.now).candidates c }
 {
@@ -38,7 +38,7 @@ fn name_at<'a>(ward: &Ward<'a>, c: u8) -> Option<&'a str>
     None
 }
 
-/// Returns the name of the candidate with a number, or the word for a withdrawn candidate.
+/// Returns the name of the candidate with the given number, or the word for a withdrawn candidate.
 pub fn name_or_withdrawn<'a>(ward: &Ward<'a>, c: u8) -> &'a str
     ensures { result.now ≡ name_or_withdrawn_of (name_at_of (shown ward.now).candidates c) }
 {
@@ -48,7 +48,7 @@ pub fn name_or_withdrawn<'a>(ward: &Ward<'a>, c: u8) -> &'a str
     }
 }
 
-/// Returns whether no candidate has a number.
+/// Returns whether no candidate has the given number.
 fn is_missing(ward: &Ward, c: u8) -> bool
     ensures { result ≡ is_none (name_at_of (shown ward.now).candidates c) }
 {
@@ -68,7 +68,7 @@ fn write_size_line<W: Sink>(sink: &mut W, ward: &Ward) -> Result<(), Broken>
     write_line(sink, &pieces)
 }
 
-/// Returns the text before the number of a withdrawn candidate.
+/// Returns the text that precedes the number of a withdrawn candidate.
 fn minus(is_first: bool) -> &'static str
     ensures { result.now ≡ minus_of is_first }
 {
@@ -84,7 +84,7 @@ fn write_withdrawn_number<W: Sink>(sink: &mut W, is_first: bool, c: u8) -> Resul
     write_number(sink, c)
 }
 
-/// Writes the numbers of withdrawn candidates, if there are any.
+/// Writes the numbers of the withdrawn candidates, if there are any.
 fn write_withdrawn_line<W: Sink>(sink: &mut W, ward: &Ward) -> Result<(), Broken>
     requires { W.failed sink.old < 2 ^ 64 - 1 }
     ensures { Writes W.taken W.failed sink.old sink.new (withdrawn_line (withdrawn (shown ward.now))) result }
@@ -127,7 +127,7 @@ fn write_bundle_lines<W: Sink>(sink: &mut W, bundles: &Bundles) -> Result<(), Br
     Ok(())
 }
 
-/// Writes the name for a number.
+/// Writes the name for the given number.
 fn write_name_line<W: Sink>(sink: &mut W, ward: &Ward, c: u8) -> Result<(), Broken>
     requires { W.failed sink.old < 2 ^ 64 - 1 }
     ensures { Writes W.taken W.failed sink.old sink.new (name_line (shown ward.now).candidates c) result }
@@ -147,7 +147,7 @@ fn write_candidate_names<W: Sink>(sink: &mut W, ward: &Ward) -> Result<(), Broke
     Ok(())
 }
 
-/// Writes the names for all numbers, followed by the ward's.
+/// Writes the names for all numbers, followed by the name of the ward.
 fn write_name_lines<W: Sink>(sink: &mut W, ward: &Ward) -> Result<(), Broken>
     requires ward { CanBePrinted ward.now }
     requires failures { W.failed sink.old < 2 ^ 64 - 1 }
@@ -157,7 +157,7 @@ fn write_name_lines<W: Sink>(sink: &mut W, ward: &Ward) -> Result<(), Broken>
     write_line(sink, &[Piece::Quoted(ward.name)])
 }
 
-/// Writes the ward's number, as a comment.
+/// Writes the number of the ward, as a comment.
 fn write_ward_comment<W: Sink>(sink: &mut W, ward: &Ward) -> Result<(), Broken>
     requires { W.failed sink.old < 2 ^ 64 - 1 }
     ensures { Writes W.taken W.failed sink.old sink.new (ward_comment (shown ward.now)) result }
@@ -166,7 +166,7 @@ fn write_ward_comment<W: Sink>(sink: &mut W, ward: &Ward) -> Result<(), Broken>
     write_line(sink, &[Piece::Text("# Ward "), number])
 }
 
-/// Writes the numbers of rejected papers of a contested ward, as a comment.
+/// Writes the numbers of rejected papers as a comment, if the ward is contested.
 fn write_rejected_comment<W: Sink>(sink: &mut W, poll: Option<Poll>) -> Result<(), Broken>
     requires { W.failed sink.old < 2 ^ 64 - 1 }
     ensures { Writes W.taken W.failed sink.old sink.new (rejected_comment poll) result }
@@ -178,7 +178,7 @@ fn write_rejected_comment<W: Sink>(sink: &mut W, poll: Option<Poll>) -> Result<(
     write_rejected_line(sink, &poll.rejected)
 }
 
-/// Writes the candidate drawn by a lot, as a comment.
+/// Writes the candidate drawn by lot, as a comment.
 fn write_lot_comment<W: Sink>(sink: &mut W, lot: &(u8, u8)) -> Result<(), Broken>
     requires { W.failed sink.old < 2 ^ 64 - 1 }
     ensures { Writes W.taken W.failed sink.old sink.new (lot_comment lot.now) result }
@@ -193,7 +193,7 @@ fn write_lot_comment<W: Sink>(sink: &mut W, lot: &(u8, u8)) -> Result<(), Broken
     write_line(sink, &pieces)
 }
 
-/// Writes the candidates drawn by lots.
+/// Writes the candidates drawn by lot, as comments.
 fn write_lot_comments<W: Sink>(sink: &mut W, lots: &[(u8, u8)]) -> Result<(), Broken>
     requires { W.failed sink.old < 2 ^ 64 - 1 }
     ensures { Writes W.taken W.failed sink.old sink.new (flat_map lot_comment lots.now) result }
@@ -204,7 +204,7 @@ fn write_lot_comments<W: Sink>(sink: &mut W, lots: &[(u8, u8)]) -> Result<(), Br
     Ok(())
 }
 
-/// Writes what the format has no place for.
+/// Writes what the format doesn't provide for, as comments.
 fn write_comments<W: Sink>(sink: &mut W, ward: &Ward, lots: &[(u8, u8)]) -> Result<(), Broken>
     requires { W.failed sink.old < 2 ^ 64 - 1 }
     ensures { Writes W.taken W.failed sink.old sink.new (comments (shown ward.now) lots.now) result }
@@ -227,9 +227,10 @@ fn write_papers<W: Sink>(sink: &mut W, ward: &Ward, bundles: &Bundles) -> Result
 }
 
 /// Writes the ballots of a ward, as a file in the format that counting programs share: its bundles of equal valid papers, and the
-/// recorded lots, each as a stage and a candidate. An uncontested ward has no bundles.
+/// recorded lots, each a stage and a candidate. An uncontested ward has no bundles.
 ///
-/// Allocates nothing. `Broken` comes only from the sink, which has then accepted a prefix of the file and counts one more failure.
+/// Allocates nothing. `Broken` only if the sink fails; it has then accepted a prefix of the file, and its failure count is one
+/// higher.
 pub fn write_ballots<W: Sink>(
     sink: &mut W,
     ward: &Ward,

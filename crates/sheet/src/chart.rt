@@ -27,18 +27,18 @@ pub struct Scale {
     pub most: u64,
 }
 
-/// The final outcome for a candidate, with the number of its stage, from 1 on.
+/// The final outcome for a candidate, with the number of its stage, counted from 1.
 #[derive(Clone, Copy)]
 pub enum Ending {
     /// The candidate is elected at this stage.
     Elected(u64),
     /// The candidate is excluded at this stage.
     Excluded(u64),
-    /// The candidate is neither elected nor excluded by this stage, the last.
+    /// The candidate is neither elected nor excluded by this stage, the last one.
     Neither(u64),
 }
 
-/// Returns the maximum of some votes and one more value.
+/// Returns the maximum of the given votes and another value.
 fn greatest_of(most: u64, votes: &[Votes]) -> u64
     ensures { result ≡ greatest most votes.now }
 {
@@ -51,7 +51,7 @@ fn greatest_of(most: u64, votes: &[Votes]) -> u64
     top
 }
 
-/// Returns the maximum of the votes at some stages and one more value.
+/// Returns the maximum of the votes at the given stages and another value.
 fn greatest_of_stages(most: u64, stages: &[Stage]) -> u64
     ensures { result ≡ greatest_at most stages.now }
 {
@@ -85,7 +85,7 @@ fn bar_length(scale: Scale, units: u64) -> u64
     if hundreds < 100 { hundreds as u64 } else { 100 }
 }
 
-/// Returns the votes of a candidate at the first stage.
+/// Returns the given candidate's votes at the first stage.
 fn first_votes(stages: &[Stage], c: u8) -> Votes
     ensures { result ≡ votes_or 0 (slice_get stages.now 0) c }
 {
@@ -95,7 +95,7 @@ fn first_votes(stages: &[Stage], c: u8) -> Votes
     }
 }
 
-/// Returns the most votes that a candidate had at any of some stages.
+/// Returns the most votes that the given candidate had at any stage.
 fn most_votes(stages: &[Stage], c: u8) -> u64
     ensures { result ≡ most_of 0 stages.now c }
 {
@@ -109,7 +109,7 @@ fn most_votes(stages: &[Stage], c: u8) -> u64
     top
 }
 
-/// Returns how many stages precede the one at which a candidate is elected.
+/// Returns the number of stages before the one at which the given candidate is elected.
 fn elected_place(stages: &[Stage], c: u8) -> Option<usize>
     ensures is { result ≡ elected_at_place stages.now c }
     ensures within { IfSome result (λ place. place < length stages.now) }
@@ -117,7 +117,7 @@ fn elected_place(stages: &[Stage], c: u8) -> Option<usize>
     stages.iter().position(|stage| stage.elected.has(c))
 }
 
-/// Returns how many stages precede the one at which a candidate is excluded.
+/// Returns the number of stages before the one at which the given candidate is excluded.
 fn excluded_place(stages: &[Stage], c: u8) -> Option<usize>
     ensures is { result ≡ excluded_at_place stages.now c }
     ensures within { IfSome result (λ place. place < length stages.now) }
@@ -125,7 +125,7 @@ fn excluded_place(stages: &[Stage], c: u8) -> Option<usize>
     stages.iter().position(|stage| stage.action.excludes(c))
 }
 
-/// Returns the final outcome for a candidate.
+/// Returns the final outcome for the given candidate.
 fn ending_of(stages: &[Stage], c: u8) -> Ending
     ensures { result ≡ ending_at stages.now c }
 {
@@ -149,7 +149,7 @@ fn ending_class(ending: Ending) -> &'static str
     }
 }
 
-/// Returns the outcome in words, to precede the number of the stage.
+/// Returns the outcome in words, to be followed by the number of the stage.
 fn ending_words(ending: Ending) -> &'static str
     ensures { result.now ≡ words_of ending }
 {
@@ -160,7 +160,7 @@ fn ending_words(ending: Ending) -> &'static str
     }
 }
 
-/// Returns the number of the outcome's stage.
+/// Returns the number of an outcome's stage.
 fn ending_stage(ending: Ending) -> u64
     ensures { result ≡ stage_of ending }
 {
@@ -195,7 +195,7 @@ fn write_who<W: Sink>(sink: &mut W, ending: Ending, c: u8, name: &str) -> Result
     write_pieces(sink, &pieces)
 }
 
-/// Writes a bar: the votes at the first stage, followed by those gained later, and the quota.
+/// Writes a bar: the votes at the first stage, then those gained later, and the quota.
 fn write_bar<W: Sink>(sink: &mut W, scale: Scale, first: Votes, most: Votes) -> Result<(), Broken>
     requires { W.failed sink.old < 2 ^ 64 - 1 }
     ensures { Writes W.taken W.failed sink.old sink.new (joined (bar scale first most)) result }
@@ -271,7 +271,7 @@ impl<'a> OfCandidate for ChartRow<'a> {
     }
 }
 
-/// Writes the part before the rows: what the bars mean.
+/// Writes the part before the rows, which explains the bars.
 fn write_chart_head<W: Sink>(sink: &mut W, quota: Votes) -> Result<(), Broken>
     requires { W.failed sink.old < 2 ^ 64 - 1 }
     ensures { Writes W.taken W.failed sink.old sink.new (chart_head quota) result }

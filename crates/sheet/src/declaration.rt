@@ -13,7 +13,7 @@ use crate::ward::Ward;
 use paper::Columns;
 use streams::{Broken, Sink};
 
-/// The line of a candidate, if elected.
+/// The line of a candidate who is elected; empty for any other candidate.
 #[derive(Clone, Copy)]
 struct ElectedLine<'a> {
     elected: &'a Columns,
@@ -36,11 +36,11 @@ impl<'a> OfCandidate for ElectedLine<'a> {
     }
 }
 
-/// Writes the declaration of a ward: its number and name, and one line for each elected candidate. In an uncontested ward these are
-/// all its candidates.
+/// Writes the declaration of a ward: its number and name, and one line per elected candidate. In an uncontested ward, these are all
+/// its candidates.
 ///
-/// Allocates nothing. `Broken` comes only from the sink, which has then accepted a prefix of the declaration and counts one more
-/// failure.
+/// Allocates nothing. `Broken` only if the sink fails; it has then accepted a prefix of the declaration, and its failure count is one
+/// higher.
 pub fn write_declaration<W: Sink>(sink: &mut W, ward: &Ward, elected: Columns) -> Result<(), Broken>
     requires ward { CanBePrinted ward.now }
     requires failures { W.failed sink.old < 2 ^ 64 - 1 }

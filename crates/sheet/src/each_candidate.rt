@@ -1,4 +1,4 @@
-//! What is shown for each candidate of a ward.
+//! Texts that are shown for each candidate of a ward.
 
 ghost use Rattle.std.specs.Prelude.{ℕ, List, ◌-◌, ◌^◌, ◌<◌, string_bytes};
 ghost use Rattle.std.specs.List.{flat_map};
@@ -8,18 +8,18 @@ ghost use Rattle.sheet.specs.Writing.{Writes};
 use crate::ward::Ward;
 use streams::{Broken, Sink};
 
-/// Something that is shown in the same way for each candidate.
+/// A text that is shown the same way for each candidate.
 pub trait OfCandidate {
-    // Its text, by number and name.
+    // The text, given the candidate's number and name.
     ghost text: { Self → ℕ → List ℕ → List ℕ };
 
-    /// Writes it for a candidate, by number and name.
+    /// Writes the text for a candidate, given the candidate's number and name.
     fn write<W: Sink>(&self, sink: &mut W, candidate: &(u8, String)) -> Result<(), Broken>
         requires { W.failed sink.old < 2 ^ 64 - 1 }
         ensures { Writes W.taken W.failed sink.old sink.new (text self.now candidate.now.0 (string_bytes candidate.now.1)) result };
 }
 
-/// Writes it for all candidates of a ward, in order.
+/// Writes the text for all candidates of a ward, in order.
 pub fn write_each<W: Sink, T: OfCandidate>(
     sink: &mut W,
     ward: &Ward,

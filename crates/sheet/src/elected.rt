@@ -14,7 +14,7 @@ use crate::ward::{Poll, Ward};
 use count::Stage;
 use streams::{Broken, Sink};
 
-/// The item of a candidate, if elected at this stage, and the stage's number.
+/// The item for a candidate who is elected at this stage, which has number `k`; empty for any other candidate.
 #[derive(Clone, Copy)]
 struct ItemAt<'a> {
     k: u64,
@@ -42,7 +42,7 @@ impl<'a> OfCandidate for ItemAt<'a> {
     }
 }
 
-/// Writes the candidates elected at a stage, in the order of their numbers.
+/// Writes the candidates elected at the given stage, in ascending order of their numbers.
 fn write_elected_at<W: Sink>(
     sink: &mut W,
     ward: &Ward,
@@ -85,7 +85,7 @@ impl OfCandidate for Unopposed {
     }
 }
 
-/// Writes the elected candidates in the order of their election; for an uncontested ward all candidates.
+/// Writes the elected candidates in the order of their election. For an uncontested ward, these are all candidates.
 pub fn write_elected_items<W: Sink>(
     sink: &mut W,
     ward: &Ward,
@@ -100,7 +100,7 @@ pub fn write_elected_items<W: Sink>(
     }
 }
 
-/// Returns how many seats remain after those filled at some stages.
+/// Returns the number of seats that remain after the given stages.
 fn seats_left(seats: u8, stages: &[Stage]) -> usize
     ensures { result ≡ left_of seats stages.now }
 {
@@ -111,7 +111,7 @@ fn seats_left(seats: u8, stages: &[Stage]) -> usize
     left
 }
 
-/// Returns how many seats of a ward remain. In an uncontested ward this is known without a count.
+/// Returns the number of seats of a ward that remain. In an uncontested ward, this is known without a count.
 fn left_in(ward: &Ward, stages: &[Stage]) -> usize
     ensures { result ≡ left_of_ward (shown ward.now) ward.now.poll stages.now }
 {
@@ -142,7 +142,7 @@ fn left_words(is_final: bool) -> &'static str
     }
 }
 
-/// Writes the end of the list of elected candidates, with the number of remaining seats, if there are any.
+/// Writes the end of the list of elected candidates, with the number of remaining seats, if any.
 fn write_elected_end<W: Sink>(sink: &mut W, is_final: bool, left: usize) -> Result<(), Broken>
     requires { W.failed sink.old < 2 ^ 64 - 1 }
     ensures { Writes W.taken W.failed sink.old sink.new (elected_end is_final left) result }
@@ -155,7 +155,7 @@ fn write_elected_end<W: Sink>(sink: &mut W, is_final: bool, left: usize) -> Resu
     write_line(sink, &[words, Piece::Number(left as u64), end])
 }
 
-/// Writes the elected candidates, and how many seats remain.
+/// Writes the elected candidates and the number of remaining seats.
 pub fn write_elected<W: Sink>(
     sink: &mut W,
     ward: &Ward,

@@ -1,4 +1,4 @@
-//! Texts on a page, escaped so that they are never markup.
+//! Texts on a page, escaped so that they are never treated as markup.
 
 ghost use Rattle.std.specs.Prelude.{◌-◌, ◌^◌, ◌<◌};
 ghost use Rattle.sheet.specs.Lines.{plain, plain_byte};
@@ -6,7 +6,7 @@ ghost use Rattle.sheet.specs.Writing.{Puts, Writes};
 
 use streams::{Broken, Sink, put_all};
 
-/// Puts a byte of a text on a page: if it could be markup, as its entity.
+/// Writes a byte of a text to a page, as an entity if it could be markup.
 fn put_plain_byte<W: Sink>(sink: &mut W, byte: u8) -> Result<(), Broken>
     requires { W.failed sink.old < 2 ^ 64 - 1 }
     ensures { Puts W.taken W.failed sink.old sink.new (plain_byte byte) result }
@@ -21,7 +21,7 @@ fn put_plain_byte<W: Sink>(sink: &mut W, byte: u8) -> Result<(), Broken>
     }
 }
 
-/// Puts the bytes of a text on a page.
+/// Writes the bytes of a text to a page.
 fn put_plain<W: Sink>(sink: &mut W, bytes: &[u8]) -> Result<(), Broken>
     requires { W.failed sink.old < 2 ^ 64 - 1 }
     ensures { Puts W.taken W.failed sink.old sink.new (plain bytes.now) result }
@@ -32,7 +32,7 @@ fn put_plain<W: Sink>(sink: &mut W, bytes: &[u8]) -> Result<(), Broken>
     Ok(())
 }
 
-/// Writes a text on a page, escaped so that it is never markup, whatever its bytes.
+/// Writes a text to a page, escaped so that it is never treated as markup, whatever its bytes.
 pub fn write_escaped<W: Sink>(sink: &mut W, text: &str) -> Result<(), Broken>
     requires { W.failed sink.old < 2 ^ 64 - 1 }
     ensures { Writes W.taken W.failed sink.old sink.new (plain text.now) result }

@@ -38,7 +38,7 @@ pub fn write_uncontested_line<W: Sink>(sink: &mut W, seats: u8) -> Result<(), Br
     write_line(sink, &pieces)
 }
 
-/// Writes the numbers of seats and valid papers, and the quota, of a contested ward.
+/// Writes the numbers of seats and of valid papers, and the quota, of a contested ward.
 pub fn write_seats_line<W: Sink>(sink: &mut W, seats: u8, valid: u32) -> Result<(), Broken>
     requires some_seats { 1 ≤ seats }
     requires few_seats { seats ≤ max_seats }

@@ -17,13 +17,13 @@ pub enum WardStanding {
     Nominations,
     /// Its papers are being keyed.
     Keying,
-    /// It is sealed, and not declared yet.
+    /// It is sealed, but not declared yet.
     Sealed,
     /// It is declared.
     Declared,
 }
 
-/// A ward as the page of all wards shows it: its number and name, its seats, its status, and, once it is declared, the number and
+/// A ward as shown on the page of all wards: its number and name, its seats, its status, and, once it is declared, the number and
 /// name of each elected candidate.
 #[derive(Drop)]
 pub struct ListedWard {
@@ -67,7 +67,7 @@ fn write_elected_names<W: Sink>(sink: &mut W, elected: &[(u32, String)]) -> Resu
     Ok(())
 }
 
-/// Writes the row of a ward, up to the elected candidates.
+/// Writes the part of a ward's row before the elected candidates.
 fn write_row_opening<W: Sink>(sink: &mut W, ward: &ListedWard) -> Result<(), Broken>
     requires { W.failed sink.old < 2 ^ 64 - 1 }
     ensures { Writes W.taken W.failed sink.old sink.new (row_opening (listed ward.now)) result }
@@ -120,7 +120,7 @@ fn write_index_opening<W: Sink>(sink: &mut W) -> Result<(), Broken>
     write_line(sink, &pieces)
 }
 
-/// Writes the heads of the columns.
+/// Writes the column heads.
 fn write_index_heads<W: Sink>(sink: &mut W) -> Result<(), Broken>
     requires { W.failed sink.old < 2 ^ 64 - 1 }
     ensures { Writes W.taken W.failed sink.old sink.new index_heads result }
@@ -136,10 +136,11 @@ fn write_index_heads<W: Sink>(sink: &mut W) -> Result<(), Broken>
     write_line(sink, &pieces)
 }
 
-/// Writes the page of all wards, as one HTML file: for each its seats, its status, and the elected candidates, once it is declared.
-/// An empty title is omitted.
+/// Writes the page of all wards, as one HTML file: the seats and the status of each ward, and its elected candidates once it is
+/// declared. An empty title is omitted.
 ///
-/// Allocates nothing. `Broken` comes only from the sink, which has then accepted a prefix of the page and counts one more failure.
+/// Allocates nothing. `Broken` only if the sink fails; it has then accepted a prefix of the page, and its failure count is one
+/// higher.
 pub fn write_index<W: Sink>(sink: &mut W, title: &str, wards: &[ListedWard]) -> Result<(), Broken>
     requires { W.failed sink.old < 2 ^ 64 - 1 }
     ensures { Writes W.taken W.failed sink.old sink.new (index title.now (map listed wards.now)) result }

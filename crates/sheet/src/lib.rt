@@ -1,9 +1,9 @@
-//! The printed texts of a ward: stage sheets, declarations, ballots, pages and tables; and one page of all wards.
+//! The printed texts of a ward: stage sheets, declarations, ballots, pages and tables; and an index page of all wards.
 //!
 //! A [`Ward`] holds the data that they show, with its [`Poll`] if it is contested. [`write_sheet`], [`write_declaration`],
-//! [`write_ballots`] and [`write_page`] write them to a sink, and allocate nothing. [`sheet_text`] and the like return them as
-//! strings, and [`spreadsheet_text`] the table. [`can_be_printed`] tests the requirement that all of them share. [`write_index`]
-//! writes the page of all wards, each a [`ListedWard`].
+//! [`write_ballots`] and [`write_page`] write them to a sink, and allocate nothing. [`sheet_text`] and similar functions return
+//! them as strings, and [`spreadsheet_text`] returns the table. [`can_be_printed`] checks the requirement that all of them share.
+//! [`write_index`] writes the page of all wards, each a [`ListedWard`].
 //!
 //! ```text
 //! let ward = Ward { number: 7, name: "Harbour", seats: 2, candidates: &candidates, poll: Some(poll) };

@@ -26,21 +26,21 @@ pub enum Piece<'a> {
     NumberColumn(u8),
     /// The text of a value, right-aligned in 13 columns.
     ValueColumn(Votes),
-    /// A range of stages by the numbers of the first and the last: `Stages 1 to 8`, `Stage 9`.
+    /// A range of stages, given the numbers of the first and the last: `Stages 1 to 8`, `Stage 9`.
     Span(u64, u64),
     /// The action of a stage.
     Done(Action),
-    /// The same on a page, with the name of the candidate concerned.
+    /// The action of a stage on a page, with the name of the candidate that it concerns.
     DoneWith(Action, &'a str),
-    /// The numbers of some candidates, each after a space.
+    /// The numbers of the given candidates, each preceded by a space.
     Preferences(&'a [u8]),
     /// A text in quotation marks.
     Quoted(&'a str),
-    /// A text on a page, escaped so that it is never markup.
+    /// A text on a page, escaped so that it is never treated as markup.
     Escaped(&'a str),
-    /// A candidate's or a ward's number and name, on a page.
+    /// The number and the name of a candidate or a ward, on a page.
     Named(u8, &'a str),
-    /// The same with a larger number, for the page of all wards.
+    /// The same as `Named`, with a larger range of numbers, for the page of all wards.
     Listed(u32, &'a str),
 }
 
@@ -72,7 +72,7 @@ fn write_number_column<W: Sink>(sink: &mut W, c: u8) -> Result<(), Broken>
     write_text(sink, text)
 }
 
-/// Returns the length of the text of a value: the whole votes, a point, and five digits.
+/// Returns the length of the text of a value: the whole votes, a decimal point, and five digits.
 #[tactic(auto, using(crate::proofs::Utf8::utf8_texts))]
 fn value_length(value: Votes) -> usize
     ensures length { result ≡ length (votes_text value) }
@@ -99,7 +99,7 @@ pub fn write_number<W: Sink>(sink: &mut W, c: u8) -> Result<(), Broken>
     write_text(sink, Buffer::new().format(c))
 }
 
-/// Writes a range of stages by the numbers of the first and the last.
+/// Writes a range of stages, given the numbers of the first and the last.
 fn write_span<W: Sink>(sink: &mut W, first: u64, last: u64) -> Result<(), Broken>
     requires { W.failed sink.old < 2 ^ 64 - 1 }
     ensures { Writes W.taken W.failed sink.old sink.new (span first last) result }
@@ -139,7 +139,7 @@ fn write_action<W: Sink>(sink: &mut W, action: Action) -> Result<(), Broken>
     }
 }
 
-/// Writes a candidate's number after a space.
+/// Writes a candidate's number, preceded by a space.
 fn write_preference<W: Sink>(sink: &mut W, c: u8) -> Result<(), Broken>
     requires { W.failed sink.old < 2 ^ 64 - 1 }
     ensures { Writes W.taken W.failed sink.old sink.new (preference c) result }
@@ -148,7 +148,7 @@ fn write_preference<W: Sink>(sink: &mut W, c: u8) -> Result<(), Broken>
     write_number(sink, c)
 }
 
-/// Writes the numbers of some candidates, each after a space.
+/// Writes the numbers of the given candidates, each preceded by a space.
 fn write_preferences<W: Sink>(sink: &mut W, list: &[u8]) -> Result<(), Broken>
     requires { W.failed sink.old < 2 ^ 64 - 1 }
     ensures { Writes W.taken W.failed sink.old sink.new (preferences list.now) result }
@@ -159,7 +159,7 @@ fn write_preferences<W: Sink>(sink: &mut W, list: &[u8]) -> Result<(), Broken>
     Ok(())
 }
 
-/// Puts a byte of a quoted text, escaped if necessary.
+/// Writes a byte of a quoted text, escaped if necessary.
 fn put_escaped_byte<W: Sink>(sink: &mut W, byte: u8) -> Result<(), Broken>
     requires { W.failed sink.old < 2 ^ 64 - 1 }
     ensures { Puts W.taken W.failed sink.old sink.new (escaped byte) result }
@@ -170,7 +170,7 @@ fn put_escaped_byte<W: Sink>(sink: &mut W, byte: u8) -> Result<(), Broken>
     put_all(sink, &[byte])
 }
 
-/// Puts the bytes of a quoted text.
+/// Writes the bytes of a quoted text.
 fn put_escaped<W: Sink>(sink: &mut W, bytes: &[u8]) -> Result<(), Broken>
     requires { W.failed sink.old < 2 ^ 64 - 1 }
     ensures { Puts W.taken W.failed sink.old sink.new (flat_map escaped bytes.now) result }
@@ -199,7 +199,7 @@ fn write_any_number<W: Sink>(sink: &mut W, number: u64) -> Result<(), Broken>
     write_text(sink, Buffer::new().format(number))
 }
 
-/// Writes a number and a name on a page.
+/// Writes a number and a name to a page.
 fn write_named<W: Sink>(sink: &mut W, number: u64, name: &str) -> Result<(), Broken>
     requires { W.failed sink.old < 2 ^ 64 - 1 }
     ensures { Writes W.taken W.failed sink.old sink.new (named number name.now) result }
@@ -210,7 +210,7 @@ fn write_named<W: Sink>(sink: &mut W, number: u64, name: &str) -> Result<(), Bro
     write_text(sink, "</bdi>")
 }
 
-/// Writes an action on a candidate, with number and name, on a page.
+/// Writes an action on a candidate to a page, with the number and the name.
 fn write_acted_on_named<W: Sink>(sink: &mut W, what: &str, c: u8, name: &str) -> Result<(), Broken>
     requires { W.failed sink.old < 2 ^ 64 - 1 }
     ensures { Writes W.taken W.failed sink.old sink.new (what.now ++ named c name.now) result }
@@ -219,7 +219,7 @@ fn write_acted_on_named<W: Sink>(sink: &mut W, what: &str, c: u8, name: &str) ->
     write_named(sink, u64::from(c), name)
 }
 
-/// Writes the action of a stage, on a page, with the name of the candidate concerned.
+/// Writes the action of a stage to a page, with the name of the candidate that it concerns.
 fn write_action_named<W: Sink>(sink: &mut W, action: Action, name: &str) -> Result<(), Broken>
     requires { W.failed sink.old < 2 ^ 64 - 1 }
     ensures { Writes W.taken W.failed sink.old sink.new (action_named action name.now) result }
@@ -257,7 +257,7 @@ fn write_piece<W: Sink>(sink: &mut W, piece: &Piece) -> Result<(), Broken>
     }
 }
 
-/// Writes these pieces in order.
+/// Writes the pieces in order.
 pub fn write_pieces<W: Sink>(sink: &mut W, pieces: &[Piece]) -> Result<(), Broken>
     requires { W.failed sink.old < 2 ^ 64 - 1 }
     ensures { Writes W.taken W.failed sink.old sink.new (joined (map piece_text pieces.now)) result }
@@ -268,7 +268,7 @@ pub fn write_pieces<W: Sink>(sink: &mut W, pieces: &[Piece]) -> Result<(), Broke
     Ok(())
 }
 
-/// Writes a line of these pieces.
+/// Writes a line made up of the pieces.
 pub fn write_line<W: Sink>(sink: &mut W, pieces: &[Piece]) -> Result<(), Broken>
     requires { W.failed sink.old < 2 ^ 64 - 1 }
     ensures { Writes W.taken W.failed sink.old sink.new (line (map piece_text pieces.now)) result }

@@ -80,7 +80,7 @@ tr, .sign { break-inside: avoid; }
 "
 }
 
-/// Returns the pattern, shared by all bars of a page, for the votes gained after the first stage.
+/// Returns the pattern for the votes gained after the first stage, which all bars of a page share.
 pub fn patterns() -> &'static str
     ensures { result.now ≡ patterns_text }
 {
@@ -91,7 +91,7 @@ pub fn patterns() -> &'static str
 <rect width=\"1.6\" height=\"4\" fill=\"#000\"/></pattern></defs></svg>"
 }
 
-/// Returns the legend of a chart's bars, up to the quota.
+/// Returns the legend for the bars of a chart, up to the quota.
 pub fn legend() -> &'static str
     ensures { result.now ≡ legend_text }
 {

@@ -25,7 +25,7 @@ fn write_stages<W: Sink>(sink: &mut W, ward: &Ward, stages: &[Stage]) -> Result<
     Ok(())
 }
 
-/// Writes everything after the ward's line.
+/// Writes everything after the line with the ward.
 fn write_below_ward<W: Sink>(sink: &mut W, ward: &Ward, stages: &[Stage]) -> Result<(), Broken>
     requires ward { CanBePrinted ward.now }
     requires failures { W.failed sink.old < 2 ^ 64 - 1 }
@@ -40,9 +40,10 @@ fn write_below_ward<W: Sink>(sink: &mut W, ward: &Ward, stages: &[Stage]) -> Res
 }
 
 /// Writes the stage sheet of a ward: its number and name, its seats and papers, and each stage with one line per candidate. For an
-/// uncontested ward no stage is read.
+/// uncontested ward, the stages aren't read.
 ///
-/// Allocates nothing. `Broken` comes only from the sink, which has then accepted a prefix of the sheet and counts one more failure.
+/// Allocates nothing. `Broken` only if the sink fails; it has then accepted a prefix of the sheet, and its failure count is one
+/// higher.
 pub fn write_sheet<W: Sink>(sink: &mut W, ward: &Ward, stages: &[Stage]) -> Result<(), Broken>
     requires ward { CanBePrinted ward.now }
     requires failures { W.failed sink.old < 2 ^ 64 - 1 }

@@ -1,4 +1,4 @@
-//! The stages of a ward as a table for a spreadsheet.
+//! The stages of a ward, as a table for a spreadsheet.
 
 ghost use Rattle.std.specs.Prelude.{◌≡◌, ◌+◌, ◌-◌, ◌++◌, [], ◌∷◌, map, string_bytes, IfOk, OnOk};
 ghost use Rattle.csv.specs.Writing.{row_text};
@@ -32,16 +32,16 @@ fn standing_word(fate: Fate) -> &'static str
 /// The subject of a row of the table.
 #[derive(Clone, Copy)]
 enum Line {
-    /// The votes of the candidate with this number.
+    /// The votes of the candidate with the given number.
     Candidate(u8),
-    /// The running total of the non-transferable.
+    /// The running total of the non-transferable votes.
     NonTransferable,
     /// The running total of the loss by fractions.
     Lost,
 }
 
 impl Line {
-    /// Returns the value of the line at a stage.
+    /// Returns the value of the line at the given stage.
     fn value_in(self, stage: &Stage) -> Votes
         ensures { result ≡ value_in_of self stage.now }
     {
@@ -52,7 +52,7 @@ impl Line {
         }
     }
 
-    /// Returns its value at the last of some stages; none before the first.
+    /// Returns the value of the line at the last of the given stages; 0 before the first.
     fn value_before(self, earlier: &[Stage]) -> Votes
         ensures { result ≡ value_before_of self earlier.now }
     {
@@ -62,7 +62,7 @@ impl Line {
         }
     }
 
-    /// Returns the standing of a candidate after a stage.
+    /// Returns the standing after the given stage, if the line is a candidate's.
     fn standing(self, earlier: &[Stage], stage: &Stage) -> &'static str
         ensures { result.now ≡ standing_of self earlier.now stage.now }
     {
@@ -73,7 +73,7 @@ impl Line {
     }
 }
 
-/// Returns the difference of two values, or none if it is negative.
+/// Returns the difference between two values, or 0 if it is negative.
 fn less(value: Votes, other: Votes) -> Votes
     ensures { result ≡ value - other }
 {
@@ -96,7 +96,7 @@ fn push_value(alloc: Global, row: &mut Vec<String>, value: Votes) -> Result<(), 
     Ok(())
 }
 
-/// Appends the cells of a line at a stage; `AllocError` if an allocation fails.
+/// Appends the cells of the line at the given stage; `AllocError` if an allocation fails.
 fn push_cells(
     alloc: Global,
     row: &mut Vec<String>,
@@ -114,7 +114,7 @@ fn push_cells(
     push_text(alloc, row, line.standing(earlier, stage))
 }
 
-/// Appends the cells of a line at all stages; `AllocError` if an allocation fails.
+/// Appends the cells of the line at all stages; `AllocError` if an allocation fails.
 fn push_all_cells(
     alloc: Global,
     row: &mut Vec<String>,
@@ -129,7 +129,7 @@ fn push_all_cells(
     Ok(())
 }
 
-/// Appends the column heads of a stage; `AllocError` if an allocation fails.
+/// Appends the column heads of the given stage; `AllocError` if an allocation fails.
 fn push_heads(
     alloc: Global,
     row: &mut Vec<String>,
@@ -157,7 +157,7 @@ fn push_all_heads(alloc: Global, row: &mut Vec<String>, stages: &[Stage]) -> Res
     Ok(())
 }
 
-/// Returns the row of heads; `AllocError` if an allocation fails.
+/// Returns the row with the column heads; `AllocError` if an allocation fails.
 fn head_row(alloc: Global, stages: &[Stage]) -> Result<Vec<String>, AllocError>
     ensures { IfOk result (λ row. map string_bytes row.items ≡ head_row_of stages.now) }
 {
@@ -168,7 +168,7 @@ fn head_row(alloc: Global, stages: &[Stage]) -> Result<Vec<String>, AllocError>
     Ok(row)
 }
 
-/// Returns whether a spreadsheet reads a cell with this first byte as a formula.
+/// Returns whether a spreadsheet reads a cell with the given first byte as a formula.
 fn begins_formula(byte: u8) -> bool
     ensures { result ≡ begins_formula_of byte }
 {
@@ -185,7 +185,7 @@ fn name_cell(alloc: Global, name: &str) -> Result<String, AllocError>
     }
 }
 
-/// Returns the row of a candidate, by number and name; `AllocError` if an allocation fails.
+/// Returns the row of a candidate, given the number and the name; `AllocError` if an allocation fails.
 fn candidate_row(
     alloc: Global,
     stages: &[Stage],
@@ -228,7 +228,7 @@ fn fields_of<'a>(alloc: Global, row: &'a [String]) -> Result<Vec<&'a [u8]>, Allo
     Ok(fields)
 }
 
-/// Returns the line of a row.
+/// Returns the line for a row.
 fn line_of(alloc: Global, fields: &[&[u8]]) -> Result<Vec<u8>, csv::Error>
     ensures { IfOk result (λ line. line.items ≡ row_text writer (map (λ field. field.now) fields.now)) }
 {
@@ -242,7 +242,7 @@ fn line_of(alloc: Global, fields: &[&[u8]]) -> Result<Vec<u8>, csv::Error>
     }
 }
 
-/// Appends the line of a row. A writer to memory fails only if an allocation fails.
+/// Appends the line for a row. A writer to memory fails only if an allocation fails.
 #[tactic(auto, using(crate::proofs::Rows::rows))]
 fn push_row(alloc: Global, text: &mut String, row: &[String]) -> Result<(), AllocError>
     ensures { OnOk result (string_bytes text.new ≡ string_bytes text.old ++ row_text writer (map string_bytes row.now)) }
@@ -270,7 +270,7 @@ fn push_candidate_rows(
 }
 
 /// Returns the stages of a ward as a table for a spreadsheet, in comma-separated values. It has one row per candidate, with the
-/// votes, gain, loss and standing at each stage, followed by the running totals. For an uncontested ward it shows no stage.
+/// votes, gain, loss and standing at each stage, followed by the running totals. For an uncontested ward it shows no stages.
 ///
 /// The only error is a failed allocation.
 pub fn spreadsheet_text(alloc: Global, ward: &Ward, stages: &[Stage]) -> Result<String, AllocError>

@@ -1,4 +1,4 @@
-//! The stage sheet, the declaration, the ballots, the page and the index of wards as strings.
+//! The stage sheet, the declaration, the ballots, the page and the index of wards, as strings.
 
 ghost use Rattle.std.specs.Prelude.{◌≡◌, [], map, Some, IfOk, string_bytes};
 ghost use Rattle.std.specs.Str.{IsUtf8};
@@ -20,7 +20,7 @@ use paper::Columns;
 use std::alloc::{AllocError, Global};
 use streams::{Broken, Sink};
 
-/// A sink in memory, which fails if an allocation fails.
+/// An in-memory sink, which fails if an allocation fails.
 #[derive(Drop)]
 struct InMemory {
     text: Vec<u8>,
@@ -39,7 +39,7 @@ impl InMemory {
         }
     }
 
-    /// Returns the text that was written.
+    /// Returns the text that has been written.
     fn into_text(self) -> String
         requires { IsUtf8 self.text.items }
         ensures { string_bytes result ≡ self.text.items }

@@ -9,14 +9,14 @@ pub struct Poll {
     pub rejected: [u32; 5],
 }
 
-/// A ward: its number and name, 1 to [`votes::MAX_SEATS`] seats, and its candidates by number and name, in ascending order of the
-/// numbers, 1 to [`paper::MAX_CANDIDATES`].
+/// A ward: its number and name, 1 to [`votes::MAX_SEATS`] seats, and the number and name of each candidate, in ascending order of
+/// the numbers, which are 1 to [`paper::MAX_CANDIDATES`].
 #[derive(Clone, Copy)]
 pub struct Ward<'a> {
     pub number: u8,
     pub name: &'a str,
     pub seats: u8,
     pub candidates: &'a [(u8, String)],
-    /// `None` for an uncontested ward.
+    /// The papers; `None` if the ward is uncontested.
     pub poll: Option<Poll>,
 }

@@ -1,4 +1,4 @@
--- Each text that an office prints for a ward, checked against the ballots that it prints.
+-- Every text that an office prints for a ward, checked against the ballots that it prints.
 use Rattle.std.proofs.Common.{◌≡◌, ℕ, true, List, map, Some, refl, sym, subst}
 use Rattle.register.specs.Marks.{columns_of}
 use Rattle.register.specs.Offices.{OfficeState, WardEntry, candidates_of, ward_at}
@@ -11,14 +11,14 @@ use Rattle.checker.specs.declared.differences.Checked.{Checked}
 use Rattle.checker.specs.declared.differences.Checked.TheVariants as checked
 use Rattle.checker.specs.BallotsRoundTrip.{AreCheckedAsTold, AreHinderedAsTold, AreReadBack, CanBeReadBack}
 use Rattle.office.specs.Sheets.{IsTextual, bundles_shown, declaration_of, election_shown, lots_shown, sheet_of}
-use Rattle.office.specs.declared.sheets.Text.TheVariants.{Ballots, Declaration, Sheet}
+use Rattle.office.specs.declared.sheets.WardText.TheVariants.{Ballots, Declaration, Sheet}
 use Rattle.sheet_round_trip.specs.OwnTexts.{DeclaredAreFinished, IsConfirmed, IsFinished, IsReadAs, IsTold, IsWardOf}
 use Rattle.sheet_round_trip.proofs.BallotLemmas.{can_be_read_back, own_lots_small, own_numbers}
 use Rattle.sheet_round_trip.proofs.StateLemmas.{counted_right, declared_is_finished, own_yes}
 use Rattle.sheet_round_trip.proofs.ToldLemmas.{told_of}
 use Rattle.sheet_round_trip.proofs.YesLemmas.{IsYes, confirmed}
 
--- a declared ward is one that was sealed
+-- a declared ward has been sealed
 declared_is_sealed : (phase : Phase) → is_declared phase ≡ true → is_counted phase ≡ true
 declared_is_sealed Nominations is = absurd (cc)
 declared_is_sealed Keying is = absurd (cc)
@@ -28,7 +28,7 @@ declared_is_sealed Declared is = refl
 pub declared_finished : DeclaredAreFinished
 declared_finished s w of declared = declared_is_finished (election_of s w) (declared_is_sealed w.phase declared) (counted_right s w of.state of.there) declared
 
--- by the laws of reading back, of the texts, and of a ward's columns
+-- given the laws of reading back, of the texts, and of a ward's columns
 module _
     (read_back : AreReadBack) (checked_so : AreCheckedAsTold) (hindered_so : AreHinderedAsTold) (textual : (s : OfficeState) (w : WardEntry) → IsState s
     → ward_at s w.number ≡ Some w → IsTextual (election_of s w))

@@ -1,4 +1,4 @@
--- The basis of the law of an office's own texts.
+-- Lemmas for the law of an office's own texts.
 pub mod RangeLemmas
 pub mod BallotLemmas
 pub mod FinishedLemmas

@@ -37,7 +37,7 @@ name_is name fine =
     let most = leb-true (length name) 120 (and_parts (nat_le 1 (length name)) (nat_le (length name) 120) rest.0).1 in
     record { short = omega (arith, most); text = parts.0; unended = one_line name rest.1 }
 
--- so do those of candidates
+-- and so do the names of candidates
 pub names_are : (cs : List CandidateEntry) → list_all is_candidate cs ≡ true → AllByRecursion (λ (candidate : ℕ × List ℕ). IsName candidate.1) (map candidate_shown cs)
 unfolding is_candidate
 names_are [] fine = tt
@@ -48,7 +48,7 @@ names_are (c ∷ cs) fine =
 
 -- ---- lots
 
--- the lots of a state each fit in one byte
+-- the stage and the candidate of each lot of a state fit in one byte each
 pub lots_small : (ls : List LotEntry) → list_all is_lot ls ≡ true → AreSmall (map lot_pair ls)
 unfolding is_lot
 lots_small [] fine = tt
@@ -69,7 +69,7 @@ other_stage l x less same = ne_eqb x.stage l.stage (λ tied. go (nat_cmp l.ward 
     go Equal is is_less tied = let rank : l.stage < x.stage = ranked l.stage x.stage Less (sym is_less) in omega (arith, rank, tied)
     go Greater is is_less tied = cc
 
--- the lots of a ward, in order, are for distinct stages
+-- the lots of a ward, in order, are for different stages
 pub lots_once : (ward : ℕ) (ls : List LotEntry) → IsStrictlySortedBy lot_cmp ls → list_all (λ l. l.ward == ward) ls ≡ true → AreOnce (map lot_pair ls)
 unfolding IsStrictlySortedBy
 lots_once ward [] up of = tt
@@ -84,7 +84,7 @@ lots_once ward (l ∷ ls) up of = (undrawn ls up.0 parts.1, lots_once ward ls up
         let here = and_parts (x.ward == ward) (list_all (λ y. y.ward == ward) xs) own in
         rw (other_stage l x below.0 (eqb-true l.ward ward parts.0 ∙ sym (eqb-true x.ward ward here.0))) (undrawn xs below.1 here.1)
 
--- the elements that a test keeps pass it
+-- the elements kept by a test pass it
 pub kept_pass : {X : Type 0} (p : X → Bool) (xs : List X) → list_all p (filter p xs) ≡ true
 kept_pass p [] = refl
 kept_pass {X} p (x ∷ xs) = go (p x) refl (kept_pass p xs)
@@ -103,7 +103,7 @@ few_kept {X} p (x ∷ xs) = go (p x) (few_kept p xs)
     go true later = omega (arith, later)
     go false later = omega (arith, later)
 
--- the rejected papers of each code are within the limit if all papers are
+-- the number of rejected papers for each code is within the limit if the number of all papers is
 pub few_rejected : (js : List Judgement) (ns : List ℕ) → length js ≤ max_papers → AllByRecursion (λ n. n ≤ 4294967295) (map (rejected_with js) ns)
 few_rejected js [] few = tt
 few_rejected js (n ∷ ns) few = (omega (arith, few, few_kept (is_rejected n) js), few_rejected js ns few)

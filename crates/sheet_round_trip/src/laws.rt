@@ -6,17 +6,17 @@ use checker::ballots_read_back;
 use office::texts_are_there;
 use register::marks::columns_of;
 
-/// The law of an office's own texts. In each state the ballots that the office prints for a ward are read as that ward's election:
-/// its number, name, seats and candidates, its valid and rejected papers, and its lots. With them, `checker`'s `check` confirms the
-/// stage sheet of a finished count as the sheet, and the declaration as the declaration. It returns nothing else for them, unless an
-/// allocation fails. The count of a declared ward is finished.
+/// States the law of an office's own texts. In every state, the ballots that the office prints for a ward are read as that ward's
+/// election: its number, name, seats and candidates, its valid and rejected papers, and its lots. Given these ballots, `checker`'s
+/// `check` confirms the stage sheet of a finished count as the sheet, and the declaration as the declaration. It has no other result
+/// for them, unless an allocation fails. The count of a declared ward is finished.
 pub fn own_texts_are_confirmed()
     ensures read { OwnBallotsAreRead }
     ensures sheets { OwnSheetsAreConfirmed }
     ensures declarations { OwnDeclarationsAreConfirmed }
     ensures finished { DeclaredAreFinished }
 {
-    // for their laws
+    // called for their laws
     texts_are_there();
     ballots_read_back();
     columns_of(&[]);

@@ -1,8 +1,8 @@
-//! The law of an office's own texts: anyone who checks the stage sheet and the declaration that the office printed, with nothing but
-//! the ballots of the ward, finds them confirmed.
+//! The law of an office's own texts: anyone who checks a stage sheet and a declaration printed by the office, using only the ballots
+//! of the ward, finds them confirmed.
 //!
-//! `office` and `checker` are independent of each other; their definitions meet here. There is nothing to call but the law,
-//! [`own_texts_are_confirmed`], and no program depends on this crate.
+//! `office` and `checker` are independent of each other; their definitions meet here. The law, [`own_texts_are_confirmed`], is all
+//! there is to call, and no program depends on this crate.
 #![tactic(auto)]
 
 mod laws;

@@ -1,2 +1,2 @@
--- The lemmas, by subject.
+-- The lemmas, by topic.
 pub mod SocketLemmas

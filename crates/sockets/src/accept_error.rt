@@ -1,4 +1,4 @@
-//! Why the system gave no connection.
+//! Why the system didn't provide a connection.
 
 ghost use Rattle.std.specs.Prelude.{◌≡◌};
 ghost use Rattle.sockets.specs.Errors.{errno_of, is_out_of_room, outcome_of};
@@ -24,7 +24,7 @@ pub(crate) const EAFNOSUPPORT: u32 = 97;
 
 pub(crate) const EADDRNOTAVAIL: u32 = 99;
 
-/// Returns the error's number on Linux; 0 for an error that isn't the system's.
+/// Returns the error's number on Linux, or 0 if the error doesn't come from the system.
 pub(crate) fn errno(error: &io::Error) -> u32
     ensures { result ≡ errno_of error.now }
 {
@@ -34,20 +34,20 @@ pub(crate) fn errno(error: &io::Error) -> u32
     }
 }
 
-/// Returns whether the system has no descriptor or memory left for one more connection.
+/// Returns whether the system has no descriptor or memory left for another connection.
 ///
-/// The machine is out of files (ENFILE), this process is (EMFILE), memory is out (ENOMEM, ENOBUFS), or no more sockets may be
-/// polled (ENOSPC).
+/// Either the machine (ENFILE) or this process (EMFILE) is out of file descriptors, or out of memory (ENOMEM, ENOBUFS), or no
+/// more sockets can be polled (ENOSPC).
 fn is_out_of_room(error: &io::Error) -> bool
     ensures { result ≡ is_out_of_room error.now }
 {
     matches!(errno(error), ENOMEM | ENFILE | EMFILE | ENOSPC | ENOBUFS)
 }
 
-/// Returns what an error of a listener means.
+/// Returns the meaning of an error from a listener.
 ///
-/// No connection is pending (EAGAIN); the system has no room for one more connection, and closing one makes some; or, for any
-/// other error, such as ECONNABORTED, the next connection failed.
+/// Either no connection is pending (EAGAIN); or the system has no room for another connection, and closing one makes room; or,
+/// for any other error, such as ECONNABORTED, the next connection failed.
 pub(crate) fn outcome_of_error(error: &io::Error) -> AcceptOutcome<Socket>
     ensures { result ≡ outcome_of error.now }
 {

@@ -1,4 +1,4 @@
-//! The listeners at one port of this machine's loopback addresses.
+//! The listeners on one port, at this machine's loopback addresses.
 
 ghost use Rattle.std.specs.Prelude.{◌≡◌, Some, option_map};
 ghost use Rattle.sockets.specs.declared.loopback.Address.{Address};
@@ -17,7 +17,7 @@ pub(crate) enum Address {
     Ipv6,
 }
 
-/// The listeners at a port: at 127.0.0.1 and, if the machine has that address, at [::1].
+/// The listeners on a port: at 127.0.0.1 and, if the machine has that address, at [::1].
 #[derive(Drop)]
 pub struct Loopback {
     pub ipv4: TcpListener,
@@ -25,7 +25,7 @@ pub struct Loopback {
 }
 
 impl Address {
-    /// Returns the other one.
+    /// Returns the other address.
     pub(crate) fn other(self) -> Address
         ensures { result ≡ other_address self }
     {
@@ -36,10 +36,11 @@ impl Address {
     }
 }
 
-/// Returns whether binding [::1] failed because the machine has no such address. Then nobody else can bind it either.
+/// Returns whether binding [::1] failed because the machine has no such address, so that no other program can bind it either.
 ///
-/// Its kernel has no IPv6 (EAFNOSUPPORT), or its loopback interface has no such address (EADDRNOTAVAIL). A service manager that
-/// denies IPv6 to this program alone causes the first error too, and then somebody else can bind it: our service file doesn't.
+/// Either the kernel has no IPv6 (EAFNOSUPPORT), or the loopback interface has no such address (EADDRNOTAVAIL). A service
+/// manager that denies IPv6 to this program alone also causes the first error, and then another program can bind the address;
+/// our service file doesn't do that.
 fn has_no_ipv6(error: &io::Error) -> bool
     ensures { result ≡ has_no_ipv6 error.now }
 {
@@ -47,10 +48,10 @@ fn has_no_ipv6(error: &io::Error) -> bool
 }
 
 impl Loopback {
-    /// Returns the listeners of a port at which 127.0.0.1 is bound, by the result of binding [::1].
+    /// Returns the listeners on a port that is bound at 127.0.0.1, given the result of binding [::1].
     ///
-    /// If the machine has no such address, there is one listener. Any other error is returned, and the listener at 127.0.0.1 is
-    /// closed.
+    /// If the machine has no such address, there is only one listener. On any other error, returns that error, and the listener
+    /// at 127.0.0.1 is closed.
     pub fn new(ipv4: TcpListener, ipv6: io::Result<TcpListener>) -> io::Result<Loopback>
         ensures { result ≡ loopback_of ipv4 ipv6 }
     {
@@ -64,10 +65,10 @@ impl Loopback {
         }
     }
 
-    /// Binds a port at both addresses. Fails if one of them is taken.
+    /// Binds a port at both addresses. Fails if the port is in use at either of them.
     ///
-    /// A browser that opens `http://localhost` may try either, and would send a clerk's code to any program that holds the other
-    /// one. A socket at [::1] accepts no connection over IPv4, so it needs no option.
+    /// A browser that opens `http://localhost` may try either address, and would send a clerk's code to any program that holds
+    /// the other one. A socket at [::1] accepts no IPv4 connections, so no socket option is needed.
     pub fn bind(net: &impl Net, port: u16) -> io::Result<Loopback> {
         let ipv4 = TcpListener::bind(net, SocketAddr::from((Ipv4Addr::LOCALHOST, port)))?;
         let ipv6 = TcpListener::bind(net, SocketAddr::from((Ipv6Addr::LOCALHOST, port)));

@@ -1,4 +1,4 @@
-//! What reports which connections are ready, and whether another is pending.
+//! The poller, which reports which connections are ready and whether another one is pending.
 
 ghost use Rattle.std.specs.Prelude.{◌≡◌, ◌+◌, ◌<◌, ◌⊎◌, IfNone, IfOk, IfSome, None, true};
 ghost use Rattle.connections.specs.declared.client.Listener.{Listener};
@@ -22,24 +22,24 @@ use std::net::Net;
 use std::time::Duration;
 use streams::Broken;
 
-/// How many events the system may report at once.
+/// The maximum number of events that the system reports at once.
 const EVENTS: usize = 1024;
 
-/// The tokens of the listeners: at 127.0.0.1, at [::1], and of orders. Those of connections follow.
+/// The tokens of the listeners: at 127.0.0.1, at [::1], and for orders. The tokens of connections follow.
 const IPV4: usize = 0;
 
 const IPV6: usize = 1;
 
 const ORDERS: usize = 2;
 
-/// Returns the token of the connection with a number; `None` if there are no more tokens.
+/// Returns the token of the connection with the given number; `None` if there are no more tokens.
 fn token_of(number: u64) -> Option<Token>
     ensures { IfSome result (λ token. token.0 ≡ number + 3) }
 {
     Some(Token(usize::try_from(number.checked_add(3)?).ok()?))
 }
 
-/// Returns the number of the connection that has a token; `None` for a listener's.
+/// Returns the number of the connection with the given token; `None` for the token of a listener.
 fn number_of(token: Token) -> Option<u64>
     ensures some { IfSome result (λ number. token.0 ≡ number + 3) }
     ensures none { IfNone result (token.0 < 3) }
@@ -47,8 +47,8 @@ fn number_of(token: Token) -> Option<u64>
     (token.0 as u64).checked_sub(3)
 }
 
-/// What is known of pending connections at a listener: there is none, until an event reports one; there may be some; or an event
-/// reported one.
+/// What is known about pending connections at a listener: there are none until an event reports one; there may be one; or an
+/// event has reported one.
 #[derive(Clone, Copy)]
 pub enum Waiting {
     Nobody,
@@ -57,7 +57,7 @@ pub enum Waiting {
 }
 
 impl Waiting {
-    /// Returns whether a connection may be pending.
+    /// Returns whether a connection might be pending.
     fn may_be(self) -> bool
         ensures { result ≡ is_known_waiting self }
     {
@@ -67,7 +67,7 @@ impl Waiting {
         }
     }
 
-    /// Returns what is known once the listener has returned this.
+    /// Returns what is known after the listener has returned the given outcome.
     fn after(self, outcome: &AcceptOutcome<Socket>) -> Waiting
         ensures { result ≡ known_after self outcome.now }
     {
@@ -79,7 +79,7 @@ impl Waiting {
     }
 }
 
-/// What is known of pending connections at each listener: at 127.0.0.1, at [::1], and of orders.
+/// What is known about pending connections at each listener: at 127.0.0.1, at [::1], and for orders.
 #[derive(Clone, Copy)]
 pub struct Pending {
     ipv4: Waiting,
@@ -88,7 +88,7 @@ pub struct Pending {
 }
 
 impl Pending {
-    /// Returns that of each listener this is known.
+    /// Returns a value in which the same is known about every listener.
     fn everywhere(waiting: Waiting) -> Pending
         ensures { result ≡ known_everywhere waiting }
     {
@@ -99,7 +99,7 @@ impl Pending {
         }
     }
 
-    /// Returns what is known at an address.
+    /// Returns what is known about the listener at an address.
     fn at(self, address: Address) -> Waiting
         ensures { result ≡ known_at self address }
     {
@@ -109,7 +109,7 @@ impl Pending {
         }
     }
 
-    /// Notes what is known at an address.
+    /// Records what is known about the listener at an address.
     fn set(&mut self, address: Address, waiting: Waiting)
         ensures set { known_at self.new address ≡ waiting }
         ensures other { known_at self.new (other_address address) ≡ known_at self.old (other_address address) }
@@ -121,7 +121,7 @@ impl Pending {
         }
     }
 
-    /// Notes that an event reported the listener with this token.
+    /// Records that an event was reported for the listener with the given token.
     fn report(&mut self, token: usize)
         ensures { self.new ≡ reported token self.old }
     {
@@ -132,14 +132,14 @@ impl Pending {
         }
     }
 
-    /// Returns whether a connection may be pending somewhere.
+    /// Returns whether a connection might be pending at any listener.
     fn may_be(self) -> bool
         ensures { result ≡ may_be_pending self }
     {
         self.ipv4.may_be() || self.ipv6.may_be() || self.orders.may_be()
     }
 
-    /// Returns whether an event reported a connection somewhere.
+    /// Returns whether an event reported a connection at any listener.
     fn is_reported(self) -> bool
         ensures { result ≡ is_reported self }
     {
@@ -149,7 +149,7 @@ impl Pending {
     }
 }
 
-/// The listeners, and the registry of the accepted connections' sockets.
+/// The listeners, and the registry of the sockets of accepted connections.
 #[derive(Drop)]
 pub struct Poller {
     poll: Poll,
@@ -191,7 +191,7 @@ fn watch_clients(poll: &Poll, clients: Loopback) -> io::Result<Loopback>
 }
 
 impl Poller {
-    /// Registers the listeners of clients and, if there is one, that of orders. No connection was accepted yet.
+    /// Registers the listeners for clients and, if there is one, the listener for orders. No connection has been accepted yet.
     pub fn new(
         net: &impl Net,
         alloc: Global,
@@ -227,7 +227,7 @@ impl Poller {
         Ok(stream)
     }
 
-    /// Asks the listener of orders for the next one.
+    /// Asks the listener for orders for its next connection.
     fn order_pending(&self, number: u64) -> AcceptOutcome<Socket>
         ensures { IsAtListener Listener.Orders result }
     {
@@ -247,7 +247,7 @@ impl Poller {
         }
     }
 
-    /// Returns the next order, if one may be pending.
+    /// Returns the next connection for an order, if one might be pending.
     fn next_order(&mut self, number: u64) -> AcceptOutcome<Socket>
         ensures { IsAtListener Listener.Orders result }
     {
@@ -259,7 +259,7 @@ impl Poller {
         outcome
     }
 
-    /// Asks the listener at an address for the next client.
+    /// Asks the listener at the given address for its next client.
     fn client_pending(&self, address: Address, number: u64) -> AcceptOutcome<Socket>
         ensures { IsAtListener Listener.Clients result }
     {
@@ -279,7 +279,7 @@ impl Poller {
         }
     }
 
-    /// Returns the next client at an address, if one may be pending there.
+    /// Returns the next client at an address, if one might be pending there.
     fn client_at(&mut self, address: Address, number: u64) -> AcceptOutcome<Socket>
         ensures at_door { IsAtListener Listener.Clients result }
         ensures turn { self.new.next ≡ self.old.next }
@@ -293,7 +293,7 @@ impl Poller {
         outcome
     }
 
-    /// Returns the next client at either address. The addresses take turns, so that many clients at one of them don't shut out
+    /// Returns the next client at either address. The addresses take turns, so that many clients at one of them can't starve
     /// those at the other.
     fn next_client(&mut self, number: u64) -> AcceptOutcome<Socket>
         ensures at_door { IsAtListener Listener.Clients result }
@@ -307,7 +307,7 @@ impl Poller {
         }
     }
 
-    /// Returns the next order or, if none is pending and clients are wanted, the next client.
+    /// Returns the next order; or the next client, if no order is pending and `clients_too` is set.
     fn next_at(&mut self, number: u64, clients_too: bool) -> AcceptOutcome<Socket>
         ensures wanted { IsWanted clients_too result }
         ensures by_door { ComesByListener result }
@@ -318,7 +318,8 @@ impl Poller {
         }
     }
 
-    /// Registers the listeners anew, so that the next wait reports each with a pending connection, even one reported before.
+    /// Registers the listeners again, so that the next wait reports each listener with a pending connection, even if it was
+    /// reported before.
     fn watch_anew(&mut self) -> io::Result<()>
         ensures clients { clients_of self.new ≡ clients_of self.old }
         ensures orders { orders_of self.new ≡ orders_of self.old }
@@ -334,8 +335,9 @@ impl Poller {
         Ok(())
     }
 
-    /// Returns the outcome of an attempt to accept, but `Nobody` in place of `Full` unless an event reported a pending connection.
-    /// The system reports `Full` even if no connection is pending; the next wait reports whether one is.
+    /// Returns the outcome of an attempt to accept a connection, but `Nobody` instead of `Full` unless an event has reported a
+    /// pending connection. The system reports `Full` even if no connection is pending; the next wait reports whether there is
+    /// one.
     fn noted(&mut self, outcome: AcceptOutcome<Socket>) -> AcceptOutcome<Socket>
         ensures same { (result ≡ outcome) ⊎ ((outcome ≡ AcceptOutcome.Full) × (result ≡ AcceptOutcome.Nobody)) }
         ensures seen { is_reported self.old.pending ≡ true → result ≡ outcome }
@@ -352,7 +354,7 @@ impl Poller {
 }
 
 impl Poller {
-    /// Waits until a connection is ready or pending, at most for this long.
+    /// Waits until a connection is ready or pending, but no longer than `most`.
     pub(crate) fn wait(&mut self, most: Duration) -> Result<(), Broken> {
         self.told = 0;
         match self.poll.poll(&mut self.events, Some(most)) {
@@ -361,7 +363,7 @@ impl Poller {
         }
     }
 
-    /// Returns the number of the next connection that is ready; `None` once all were reported.
+    /// Returns the number of the next ready connection; `None` once all have been reported.
     pub(crate) fn next_ready(&mut self) -> Option<u64> {
         for _ in 0..EVENTS {
             let event = self.events.iter().nth(self.told)?;
@@ -374,7 +376,7 @@ impl Poller {
         None
     }
 
-    /// Accepts the next pending connection, under this number.
+    /// Accepts the next pending connection and assigns it the given number.
     pub(crate) fn accept(&mut self, number: u64, clients_too: bool) -> AcceptOutcome<Socket>
         ensures { IsWanted clients_too result }
     {
@@ -382,7 +384,7 @@ impl Poller {
         self.noted(outcome)
     }
 
-    /// Returns whether a connection may be pending.
+    /// Returns whether a connection might be pending.
     pub(crate) fn has_pending(&self) -> bool
         ensures { result ≡ has_pending self.now }
     {

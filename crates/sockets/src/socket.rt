@@ -1,4 +1,4 @@
-//! A socket as a stream: no call on it blocks.
+//! A socket as a stream whose calls never block.
 
 ghost use Rattle.std.specs.Prelude.{◌≡◌, ◌⊎◌, ◌<◌, ℕ, None, Ok, IfOk};
 
@@ -8,14 +8,14 @@ use std::io;
 use std::io::{ErrorKind, Read, Write};
 use streams::Broken;
 
-/// The socket of a client's connection, or of an order's.
+/// The socket of a connection, from a client or for an order.
 #[derive(Drop)]
 pub enum Socket {
     Client(TcpStream),
     Order(UnixStream),
 }
 
-/// Returns the result of a read. A read that would block has no bytes yet.
+/// Returns the result of a read. If the read would block, no bytes have arrived yet.
 fn came(read: io::Result<usize>) -> Result<Received, Broken>
     ensures { (n : ℕ) → result ≡ Ok (Received.Bytes n) → (0 < n) × (read ≡ Ok n) }
 {
@@ -27,7 +27,7 @@ fn came(read: io::Result<usize>) -> Result<Received, Broken>
     }
 }
 
-/// Returns how many bytes a write accepted; 0 if it would block.
+/// Returns the number of bytes that a write accepted, or 0 if it would block.
 fn took(written: io::Result<usize>) -> Result<usize, Broken>
     ensures { IfOk result (λ n. (n ≡ 0) ⊎ (written ≡ Ok n)) }
 {

@@ -1,4 +1,4 @@
--- The tabulation of the counts of a state fits its columns, so its rows can be read.
+-- The values in the tabulation of a state's counts fit their columns, so its rows can be read.
 use Rattle.std.proofs.Common.{◌≡◌, inl, inr, ℕ, ◌+◌, ◌<◌, ◌≤◌, ◌^◌, ◌==◌, List, [], ◌∷◌, ◌++◌, map, length, replicate, Bool, true, false, cond, Some, refl, sym, ap, subst, ◌∙◌, arith, length-append}
 use Rattle.std.specs.List.{AllByRecursion, flat_map, list_all}
 use Rattle.std.proofs.lemmas.Bool.{and_parts}
@@ -37,7 +37,7 @@ use Rattle.store.proofs.FitLemmas.{small}
 
 -- ---- bundles
 
--- no bundle has more papers than all of them together
+-- no bundle has more papers than all bundles together
 each_within : (n : ℕ) (bs : List Bundle) → length (papers_of bs) ≤ n → AllByRecursion (λ (b : Bundle). b.1 ≤ n) bs
 each_within n [] few = tt
 each_within n (b ∷ bs) few =
@@ -95,7 +95,7 @@ mark_few (Exclude d) c other few = either_few (d == c) 4 other (omega arith) few
 mark_few (ExcludeLast d) c other few = either_few (d == c) 5 other (omega arith) few
 
 module _ (ward : ℕ) (number : ward < 2 ^ 32) where
-  -- a figure whose numbers are small fits, at a stage
+  -- the row of a stage's figure with small numbers can be read
   figure_fits : (stage : ℕ) → stage < 2 ^ 32 → (f : Figure) → f.candidate < 2 ^ 32 → f.mark < 2 ^ 32 → IsFigureRow (row_of_figure (figure_at ward stage f))
   figure_fits stage few f candidate mark = ((ward, number, refl), (stage, few, refl), (f.candidate, candidate, refl), (f.units, refl), (f.mark, mark, refl))
 

@@ -1,4 +1,4 @@
--- The row with a key is that of the state's entry with this key.
+-- The row with a given key is that of the state's entry with that key.
 use Rattle.std.proofs.Common.{◌≡◌, ◌==◌, ◌&&◌, map, ℕ, pos, List, [], ◌∷◌, true, filter, Some, option_map, IfSome, refl, sym, ap, ◌∙◌, nat_cmp, Ordering, Less, Equal, Greater}
 use Rattle.std.specs.Option.{option_to_list}
 use Rattle.std.specs.Ordering.{ordering_then, is_eq}
@@ -30,7 +30,7 @@ use Rattle.store.proofs.RowLemmas.{listed_as, row_found, found_fits}
 
 -- ---- keys
 
--- entries that compare as equal to the same key have the same key
+-- entries that compare as equal to the same key have equal keys
 pub numbers_apart : (n a b : ℕ) → nat_cmp n a ≡ Equal → nat_cmp n b ≡ Equal → nat_cmp a b ≡ Equal
 numbers_apart n a b first second = sym (nat_cmp_total.congr n a b first) ∙ second
 
@@ -42,7 +42,7 @@ both_equal Equal b h = (refl, h)
 both_equal Less b h = absurd cc
 both_equal Greater b h = absurd cc
 
--- a test that all entries pass removes none
+-- filtering by a test that all elements pass removes none
 all_kept : {X : Type 0} (xs : List X) → filter (λ x. true) xs ≡ xs
 all_kept [] = refl
 all_kept (x ∷ xs) = ap (λ l. x ∷ l) (all_kept xs)
@@ -58,7 +58,7 @@ pub ward_fits : (s : OfficeState) → IsState s → (number : ℕ) → IfSome (o
 unfolding tables_of tables_with
 ward_fits s is number = found_fits IsWardRow row_of_ward _ s.wards (wards_fit s is)
 
--- all rows of the table are those of all wards, in the order of their numbers
+-- all rows of the table are those of all wards, ordered by number
 pub all_wards_listed : (s : OfficeState) → IsState s → (rows : List Row) → Finds Ward (begins_with []) (tables_of s) rows → rows ≡ map row_of_ward s.wards
 unfolding tables_of tables_with
 all_wards_listed s is rows finds =
@@ -79,7 +79,7 @@ pub candidate_fits : (s : OfficeState) → IsState s → (ward number : ℕ) →
 unfolding tables_of tables_with
 candidate_fits s is ward number = found_fits IsCandidateRow row_of_candidate _ s.candidates (candidates_fit s is)
 
--- the rows that begin with a ward's number are those of its candidates, in the order of their numbers
+-- the rows that begin with a ward's number are those of its candidates, ordered by number
 pub candidates_listed : (s : OfficeState) → IsState s → (ward : ℕ) (rows : List Row) → Finds Candidate (begins_with (Int (pos ward) ∷ [])) (tables_of s) rows
     → rows ≡ map row_of_candidate (candidates_of s ward)
 unfolding tables_of tables_with
@@ -107,20 +107,20 @@ pub third_fits : (s : OfficeState) → IsState s → (batch : ℕ) → IfSome (o
 unfolding tables_of tables_with
 third_fits s is batch = found_fits IsThirdRow row_of_third _ s.thirds (thirds_fit s is)
 
--- all rows of the table are those of all batches, in the order of their numbers
+-- all rows of the table are those of all batches, ordered by number
 pub all_batches_listed : (s : OfficeState) → IsState s → (rows : List Row) → Finds Batch (begins_with []) (tables_of s) rows → rows ≡ map row_of_batch s.batches
 unfolding tables_of tables_with
 all_batches_listed s is rows finds =
     listed_as Batch row_of_batch (begins_with []) (λ b. true) (λ b. refl) s.batches (tables_rise s is Batch refl) rows finds.same finds.sorted ∙ ap (map row_of_batch) (all_kept s.batches)
 
--- the rows that refer to a ward are those of its batches
+-- the rows that refer to a ward are those of its batches, ordered by number
 pub batches_listed : (s : OfficeState) → IsState s → (ward : ℕ) (rows : List Row) → Finds Batch (refers_to WardOfBatch (Int (pos ward))) (tables_of s) rows
     → rows ≡ map row_of_batch (batches_of s ward)
 unfolding tables_of tables_with
 batches_listed s is ward rows finds =
     listed_as Batch row_of_batch (refers_to WardOfBatch (Int (pos ward))) (λ b. b.ward == ward) (λ b. equal-number b.ward ward) s.batches (tables_rise s is Batch refl) rows finds.same finds.sorted
 
--- the rows that begin with a batch, a round and a clerk are those of the clerk's keying, in the order of the papers
+-- the rows that begin with a batch, a round and a clerk are those of the clerk's keying, ordered by paper
 pub keying_listed : (s : OfficeState) → IsState s → (batch round clerk : ℕ) (rows : List Row)
     → Finds Keying (begins_with (Int (pos batch) ∷ Int (pos round) ∷ Int (pos clerk) ∷ [])) (tables_of s) rows → rows ≡ map row_of_keyed (keying_of s batch round clerk)
 unfolding tables_of tables_with
@@ -128,7 +128,7 @@ keying_listed s is batch round clerk rows finds =
     listed_as Keying row_of_keyed (begins_with (Int (pos batch) ∷ Int (pos round) ∷ Int (pos clerk) ∷ [])) (λ k. (k.batch == batch) && ((k.round == round) && (k.clerk == clerk)))
     (λ k. same_three_numbers batch round clerk k.batch k.round k.clerk) s.keyings (tables_rise s is Keying refl) rows finds.same finds.sorted
 
--- a keyed paper, compared with a batch, a round, a clerk and a number
+-- how a keyed paper compares with a given batch, round, clerk and paper number
 abbrev pub keyed_compared : ℕ → ℕ → ℕ → ℕ → KeyedEntry → Ordering
 keyed_compared batch round clerk paper k = ordering_then (nat_cmp batch k.batch) (ordering_then (nat_cmp round k.round) (ordering_then (nat_cmp clerk k.clerk) (nat_cmp paper k.paper)))
 
@@ -181,7 +181,7 @@ pub verdict_fits : (s : OfficeState) → IsState s → (batch paper : ℕ) → I
 unfolding tables_of tables_with
 verdict_fits s is batch paper = found_fits IsJudgedRow row_of_judged _ s.verdicts (verdicts_fit s is)
 
--- the rows that begin with a batch are those of the verdicts on its papers, in the order of the papers
+-- the rows that begin with a batch are those of the verdicts on its papers, ordered by paper
 pub verdicts_listed : (s : OfficeState) → IsState s → (batch : ℕ) (rows : List Row) → Finds Verdict (begins_with (Int (pos batch) ∷ [])) (tables_of s) rows
     → rows ≡ map row_of_judged (verdicts_of s batch)
 unfolding tables_of tables_with
@@ -191,7 +191,7 @@ verdicts_listed s is batch rows finds =
 
 -- ---- lots
 
--- the rows that begin with a ward are those of the lots for its count, in the order of their stages
+-- the rows that begin with a ward are those of the lots for its count, ordered by stage
 pub lots_listed : (s : OfficeState) → IsState s → (ward : ℕ) (rows : List Row) → Finds Lot (begins_with (Int (pos ward) ∷ [])) (tables_of s) rows → rows ≡ map row_of_lot (lots_of s ward)
 unfolding tables_of tables_with
 lots_listed s is ward rows finds =
@@ -199,14 +199,14 @@ lots_listed s is ward rows finds =
 
 -- ---- the tabulation
 
--- the rows that begin with a ward are those of its bundles, in the order of their lists
+-- the rows that begin with a ward are those of its bundles, ordered by list
 pub bundles_listed : (s : OfficeState) → IsState s → (ward : ℕ) (rows : List Row) → Finds Bundle (begins_with (Int (pos ward) ∷ [])) (tables_of s) rows → rows ≡ map row_of_placed (bundles_at s ward)
 unfolding tables_of tables_with
 bundles_listed s is ward rows finds =
     listed_as Bundle row_of_placed (begins_with (Int (pos ward) ∷ [])) (λ b. b.ward == ward) (λ b. same_number ward b.ward) (tabulation_of s).bundles
     (tables_rise s is Bundle refl) rows finds.same finds.sorted
 
--- the rows that begin with a ward are those of its figures, in the order of stages and candidates
+-- the rows that begin with a ward are those of its figures, ordered by stage and candidate
 pub figures_listed : (s : OfficeState) → IsState s → (ward : ℕ) (rows : List Row) → Finds Vote (begins_with (Int (pos ward) ∷ [])) (tables_of s) rows → rows ≡ map row_of_figure (figures_at s ward)
 unfolding tables_of tables_with
 figures_listed s is ward rows finds =
@@ -230,13 +230,13 @@ pub receipt_fits : (s : OfficeState) → IsState s → (actor : ℕ) (id : List 
 unfolding tables_of tables_with
 receipt_fits s is actor id = found_fits IsReceiptRow row_of_receipt _ s.receipts (receipts_fit s is)
 
--- all rows of the table are those of all receipts, by actor and id
+-- all rows of the table are those of all receipts, ordered by actor and id
 pub all_receipts_listed : (s : OfficeState) → IsState s → (rows : List Row) → Finds Receipt (begins_with []) (tables_of s) rows → rows ≡ map row_of_receipt s.receipts
 unfolding tables_of tables_with
 all_receipts_listed s is rows finds =
     listed_as Receipt row_of_receipt (begins_with []) (λ r. true) (λ r. refl) s.receipts (tables_rise s is Receipt refl) rows finds.same finds.sorted ∙ ap (map row_of_receipt) (all_kept s.receipts)
 
--- the rows that begin with an actor are those of the actor's receipts, by id
+-- the rows that begin with an actor are those of the actor's receipts, ordered by id
 pub receipts_listed : (s : OfficeState) → IsState s → (actor : ℕ) (rows : List Row) → Finds Receipt (begins_with (Int (pos actor) ∷ [])) (tables_of s) rows
     → rows ≡ map row_of_receipt (receipts_of s (Some actor))
 unfolding tables_of tables_with

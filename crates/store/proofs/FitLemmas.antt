@@ -1,4 +1,4 @@
--- What is in range fits a row's columns, so its row can be read.
+-- Values that are in range fit the columns of a row, so the row can be read.
 use Rattle.std.proofs.Common.{◌≡◌, inl, inr, ℕ, zero, suc, ◌<◌, ◌^◌, List, [], ◌∷◌, map, Bool, true, ◌&&◌, nat_le, refl, arith}
 use Rattle.std.specs.Str.{IsAscii}
 use Rattle.std.specs.List.{AllByRecursion, list_all}
@@ -154,7 +154,7 @@ pub candidates_fit : (s : OfficeState) → IsState s → AllByRecursion IsCandid
 unfolding tables_of tables_with
 candidates_fit s is = all_passed is_candidate IsCandidateRow row_of_candidate candidate_fits s.candidates (and_parts _ _ (and_parts _ _ is.in_range).1).0
 
--- the batches are in range, and so is everything after them
+-- the batches are in range, and so are the entries of all later tables
 beyond_candidates : (s : OfficeState) → IsState s
     → (list_all is_batch s.batches && (list_all is_third s.thirds &&
     (list_all is_keyed_paper s.keyings && (list_all is_judged_paper s.verdicts && (list_all is_lot s.lots && list_all is_receipt s.receipts))))) ≡ true

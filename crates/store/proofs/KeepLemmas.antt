@@ -36,7 +36,7 @@ is_at_read s old new reads honest at = record {
 
 -- ---- changes
 
--- the tables of a state with its tabulation in another order
+-- the tables of a state with its tabulation in a different order
 same_tables : (s : OfficeState) (t u : TabulationEntries) → SameTabulation t u → SameContents (tables_with s t) (tables_with s u)
 unfolding tables_with
 same_tables s t u same Office = IsPermutation-refl _
@@ -51,19 +51,19 @@ same_tables s t u same Bundle = IsPermutation-map row_of_placed t.bundles u.bund
 same_tables s t u same Vote = IsPermutation-map row_of_figure t.figures u.figures same.figures
 same_tables s t u same Third = IsPermutation-refl _
 
--- what a change, with its addition to the tabulation, makes of the tables of a state
+-- the tables of a state after a change, with the change's addition to the tabulation
 abbrev pub changed_tables : Change → OfficeState → Contents
 changed_tables change s = tables_with (with_change (change_entry change) s) (with_addition (addition_entries change.addition) (tabulation_of s))
 
 pub changes_to : (change : Change) (s : OfficeState) → ChangesTo (change_entry change) (addition_entries change.addition) (tables_of s) (changed_tables change s)
 changes_to change s = record { old = s; from = refl; to = refl }
 
--- they are the tables of the state after the change, if the addition is right
+-- if the addition is correct, they are the tables of the state after the change
 changed_same : (change : Change) (s : OfficeState) → IsTabulated s change → SameContents (changed_tables change s) (tables_of (with_change (change_entry change) s))
 unfolding tables_of
 changed_same change s tabulated = same_tables (with_change (change_entry change) s) _ _ tabulated
 
--- a connection that rests at them keeps that state
+-- a connection keeps the state after the change if it rests at the changed tables
 pub if_change_is_at : {X E : Type 0} (r : Result X E) (change : Change) (s : OfficeState) (st : State) → ((trees : Trees) → IsTrue st.is_open → st.may_leave trees → trees ≡ st.committed.trees)
     → IsTabulated s change → IsState (with_change (change_entry change) s) → OnOk r (Rests (changed_tables change s) st) → OnOk r (IsAt (with_change (change_entry change) s) st)
 if_change_is_at (Ok x) change s st settled tabulated is rests = rests_is_at (with_change (change_entry change) s) st settled is (rests_same _ _ st (changed_same change s tabulated) rests)
@@ -77,7 +77,7 @@ change_stops change s old new honest at tabulated survives trees may = elim (sur
   | inr made ↦ inr (stores_same _ _ trees (changed_same change s tabulated) made)
 ]
 
--- so it leaves the old state or the new one
+-- a stop during a change leaves the old state or the new one
 pub change_leaves : (change : Change) (s : OfficeState) (old new : State) → HasCleanDisk new → IsAt s old → IsTabulated s change
     → IsState (with_change (change_entry change) s) → Survives old new (Stores (changed_tables change s))
     → LeavesState new (λ x. (x ≡ s) ⊎ (x ≡ with_change (change_entry change) s))
@@ -86,13 +86,13 @@ change_leaves change s old new honest at tabulated after survives trees may = el
   | inr made ↦ (with_change (change_entry change) s, inr refl, record { is = after; stores = stores_same _ _ trees (changed_same change s tabulated) made })
 ]
 
--- a connection to a database that contains a state, found by reads alone, keeps it
+-- a connection that has only read from a database with a given state keeps that state
 pub opened_is_at : (db : Database) (old new : State) → ((trees : Trees) → IsTrue new.is_open → new.may_leave trees → trees ≡ new.committed.trees)
     → HasCleanDisk new → IsTrue new.is_open → OnlyReads old new → RestsAt db old → (s : OfficeState) × HoldsState db s → (s : OfficeState) × HoldsState db s × IsAt s new
 opened_is_at db old new settled honest is_open reads at found =
     (found.0, found.1, rests_is_at found.0 new settled found.1.is (rests_from db new (tables_of found.0) found.1.office (reads.rests honest is_open db at)))
 
--- ---- what each call does to the connection
+-- ---- the effect of each call on the connection
 
 pub survives_connection : (old new : State) (P : Trees → Type 0) → Survives old new P → KeepsConnection old new
 survives_connection old new P h = record { limit = h.limit; counts = h.counts; closes = h.closes }

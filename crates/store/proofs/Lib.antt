@@ -7,6 +7,7 @@ pub mod FindLemmas
 pub mod KeyingLemmas
 pub mod RunLemmas
 pub mod ClerkLemmas
+pub mod EarlierLemmas
 pub mod WriteLemmas
 pub mod KeepLemmas
 pub mod TellLemmas
@@ -23,3 +24,8 @@ pub mod SettledLemmas
 pub mod MigrationLemmas
 pub mod OverviewLemmas
 pub mod PileLemmas
+pub mod MemoryLemmas
+pub mod CachedStoreLemmas
+pub mod TwinLemmas
+pub mod KnownLemmas
+pub mod SchemaLemmas

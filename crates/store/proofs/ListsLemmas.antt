@@ -1,4 +1,4 @@
--- The entries that were read, table by table.
+-- The entries that are read, table by table.
 use Rattle.std.proofs.Common.{List, [], map, refl, sym, subst, true≢false, ◌≡◌, true, arith, Ordering}
 use Rattle.std.specs.List.Sorted.{IsStrictlySortedBy}
 use Rattle.sqlite.specs.Order.{Row}
@@ -30,7 +30,7 @@ unfolding IsStrictlySortedBy
 none_rises by = tt
 
 module _ (wards : List WardValue) (candidates : List CandidateValue) (papers : Papers) (lots : List DrawnLot) (receipts : List ReceiptValue) where
-  -- the maps of the values, without third clerks
+  -- the maps of the values that were read, without third clerks
   abbrev maps : OfficeState
   maps = record {
     wards = map ward_entry wards;
@@ -80,7 +80,7 @@ module _ (wards : List WardValue) (candidates : List CandidateValue) (papers : P
       each Third has = none_rises (row_cmp Third)
       each Office has = absurd (true≢false (sym has))
 
--- the first tables, and those of the tabulation
+-- the first tables, and the tables of the tabulation
 pub lists_counted : (db : Database) (s : OfficeState) (t : TabulationEntries) (bundles : List PlacedBundle) (figures : List StageFigure) → ListsFirst 8 db s t
     → ListsEntries Bundle db (map (λ (b : PlacedBundle). row_of_placed (placed_entry b)) bundles)
     → ListsEntries Vote db (map (λ (f : StageFigure). row_of_figure (figure_entry f)) figures) → ListsFirst 10 db s (record { bundles = map placed_entry bundles; figures = map figure_entry figures })
@@ -97,11 +97,11 @@ lists_counted db s t bundles figures first placed shown Vote has low = subst (Li
 lists_counted db s t bundles figures first placed shown Third has low = absurd (omega (arith, low))
 lists_counted db s t bundles figures first placed shown Office has low = absurd (true≢false (sym has))
 
--- maps with the third clerks that were read
+-- those maps with the third clerks that were read
 abbrev with_thirds : List ThirdClerk → OfficeState → OfficeState
 with_thirds thirds s = record s { thirds = map third_entry thirds }
 
--- these tables, and that of the third clerks
+-- the tables listed so far, and that of third clerks
 pub lists_maps : (db : Database) (s : OfficeState) (t : TabulationEntries) (thirds : List ThirdClerk) → ListsFirst 10 db s t
     → ListsEntries Third db (map (λ (x : ThirdClerk). row_of_third (third_entry x)) thirds) → ListsMaps db (with_thirds thirds s) t
 unfolding tables_with

@@ -38,10 +38,10 @@ use Rattle.store.specs.declared.migration.Migrated.{Migrated}
 use Rattle.store.specs.declared.migration.Migrated.TheVariants.{Done, Already}
 use Rattle.store.specs.EntryRows.{this_version, office_row}
 use Rattle.store.specs.StateTables.{no_tabulation, tables_of, tables_with, HoldsState, IsAt}
-use Rattle.store.specs.Openings.{HasNoOffice, IsNewer, HoldsNoState, IsToldBy, HasVersion, has_entries, IsTabulatedAs}
+use Rattle.store.specs.Openings.{HasNoOffice, IsNewer, HoldsNoState, IsFaultOf, HasVersion, has_entries, IsTabulatedAs}
 use Rattle.store.specs.Listings.{TellsStrange, ListsFirst}
 use Rattle.store.specs.Migrations.{tables_in, name_of, tabulation_in, older_tables, is_about_third, IsOlderState, HoldsOlder, RestsOlder, HoldsNoOlder, StoresOlder}
-use Rattle.store.specs.Migrations.{LeavesOldOrNew, WasAt, IsToldInMigration, FailsToMigrate, IsBare, IsOlderOf, Lacks, TellsOlder, LeavesOlderOr}
+use Rattle.store.specs.Migrations.{LeavesOldOrNew, WasAt, IsToldInMigration, FailsToMigrate, IsBare, IsOlderOf, IsCompletedBy, TellsOlder, LeavesOlderOr}
 use Rattle.tables.proofs.HoldLemmas.{rows_held, held_listed}
 use Rattle.tables.proofs.OrderLemmas.{key_of_number}
 use Rattle.tables.proofs.ChangeLemmas.{rows_set}
@@ -59,7 +59,7 @@ older_office : (form : OlderForm) (s : OfficeState) → older_tables form s Offi
 unfolding older_tables
 older_office form s = refl
 
--- all rows but the office's are those of the maps and of the tabulation
+-- all rows except the office's are those of the maps and of the tabulation
 older_entries : (form : OlderForm) (s : OfficeState) (t : Table) → has_entries t ≡ true → older_tables form s t ≡ tables_with s (tabulation_in form s) t
 unfolding older_tables
 older_entries form s Ward has = refl
@@ -74,7 +74,7 @@ older_entries form s Vote has = refl
 older_entries form s Third has = refl
 older_entries form s Office has = absurd (true≢false (sym has))
 
--- in the tables that exist, they are also those of this version
+-- the rows in the existing tables are also those of this version
 first_entries : (form : OlderForm) (s : OfficeState) (t : Table) → place_of t < tables_in form → tables_with s (tabulation_in form s) t ≡ tables_of s t
 unfolding tables_of tables_with
 first_entries WithCounts s t low = refl
@@ -90,7 +90,7 @@ first_entries WithoutCounts s Bundle low = absurd (omega (arith, low))
 first_entries WithoutCounts s Vote low = absurd (omega (arith, low))
 first_entries WithoutCounts s Third low = absurd (omega (arith, low))
 
--- for tables that do not exist, the maps and the tabulation have no row
+-- the maps and the tabulation have no rows for the tables that don't exist
 later_none : (form : OlderForm) (s : OfficeState) (t : TabulationEntries) → IsBare form s t → (u : Table) → tables_in form ≤ place_of u → tables_with s t u ≡ []
 unfolding tables_with
 later_none form s t bare Third up = rw bare.no_thirds refl
@@ -115,7 +115,7 @@ later_none WithoutCounts s t bare Verdict up = absurd (omega (arith, up))
 later_none WithoutCounts s t bare Lot up = absurd (omega (arith, up))
 later_none WithoutCounts s t bare Receipt up = absurd (omega (arith, up))
 
--- a state of the older version, with its tabulation
+-- a state of the older version has no third clerks and, in the form without counts, no tabulation
 bare_state : (form : OlderForm) (s : OfficeState) → IsOlderState s → IsBare form s (tabulation_in form s)
 bare_state WithCounts s is = record { no_thirds = is.no_thirds; no_counts = λ other. absurd cc }
 bare_state WithoutCounts s is = record { no_thirds = is.no_thirds; no_counts = λ _. refl }
@@ -142,7 +142,7 @@ same_older form s x is also same = equal_maps s x (tabulation_in form s) (tabula
     each Vote = same Vote
     each Third = same Third
 
--- what an older office contains
+-- the contents of an older office
 pub at_first : (form : OlderForm) (db : Database) (s : OfficeState) → HoldsOlder form db s → FirstAt (tables_in form) (older_tables form s) db
 at_first form db s held = first_at (tables_in form) (older_tables form s) db held.first
 
@@ -196,12 +196,12 @@ older_once db form other s x first second =
     let same = one_form form other db s x first second in
     (same, one_older form db s x first (subst (λ (f : OlderForm). HoldsOlder f db x) (sym same) second))
 
--- ---- what is reported when it is opened
+-- ---- what opening an older office reports
 
-lacks_table : (form : OlderForm) (s : Schema) → s ≡ schema_from (tables_in form) [] [] [] → has_every_table s ≡ false
+misses_table : (form : OlderForm) (s : Schema) → s ≡ schema_from (tables_in form) [] [] [] → has_every_table s ≡ false
 unfolding same_name
-lacks_table WithCounts s is = subst (λ (x : Schema). has_every_table x ≡ false) (sym is) refl
-lacks_table WithoutCounts s is = subst (λ (x : Schema). has_every_table x ≡ false) (sym is) refl
+misses_table WithCounts s is = subst (λ (x : Schema). has_every_table x ≡ false) (sym is) refl
+misses_table WithoutCounts s is = subst (λ (x : Schema). has_every_table x ≡ false) (sym is) refl
 
 has_office : (form : OlderForm) (s : Schema) → s ≡ schema_from (tables_in form) [] [] [] → has_table Office s ≡ true
 unfolding same_name
@@ -209,9 +209,9 @@ has_office WithCounts s is = subst (λ (x : Schema). has_table Office x ≡ true
 has_office WithoutCounts s is = subst (λ (x : Schema). has_table Office x ≡ true) (sym is) refl
 
 pub older_ours : (form : OlderForm) (s : Schema) → s ≡ schema_from (tables_in form) [] [] [] → IsOurs s
-older_ours form s is = record { office = λ _. first_begins (tables_in form) s is Office (some_tables form); every = λ all. absurd (true≢false (sym all ∙ lacks_table form s is)) }
+older_ours form s is = record { office = λ _. first_begins (tables_in form) s is Office (some_tables form); every = λ all. absurd (true≢false (sym all ∙ misses_table form s is)) }
 
--- a schema with such a name has the tables of the form
+-- a schema with the table names of a form has that form's tables
 pub form_schema : (form : OlderForm) (s : Schema) → IsOlderSchema s → tables_present s ≡ name_of form → s ≡ schema_from (tables_in form) [] [] []
 form_schema WithCounts s is same = is.without_third same
 form_schema WithoutCounts s is same = is.without_counts same
@@ -225,7 +225,7 @@ older_version form db s held = subst (λ rows. HoldsTable Office rows db.trees) 
 
 -- ---- from the rows that were read
 
--- the rows of an older state, with the office row of its version, make an older office
+-- the rows of an older state, along with the office row of its version, form an older office
 pub older_held : (form : OlderForm) (db : Database) (s : OfficeState) (t : TabulationEntries) → db.schema ≡ schema_from (tables_in form) [] [] []
     → IsDatabase db → HasVersion 1 db → IsOlderOf form s t → ListsFirst (tables_in form) db s t → HoldsOlder form db s
 older_held form db s t schema sound office is lists = record { is = is.is; first = first_from (tables_in form) (older_tables form s) db (record { schema = schema; sound = sound; holds = each }) }
@@ -268,7 +268,7 @@ unfolding tables_of
 older_tabulated WithCounts s x t is bare each same = tabulated_same s x t is each same
 older_tabulated WithoutCounts s x t is bare each same = bare.no_counts refl
 
--- such a state has exactly these maps and this tabulation
+-- such a state has exactly the listed maps and tabulation
 pub older_are : (form : OlderForm) (db : Database) (s x : OfficeState) (t : TabulationEntries) → ListsFirst (tables_in form) db s t → MapsAreSorted s
     → IsBare form s t → HoldsOlder form db x → IsOlderOf form s t
 older_are form db s x t lists rise bare held =
@@ -331,7 +331,7 @@ older_told form db s held =
     )
 
 -- a fault reported when an office is opened is also reported by a migration, unless it is `OlderSchema`
-pub told_at_once : (db : Database) (f : Fault) → IsToldBy db f → f ≢ OlderSchema → IsToldInMigration db f
+pub told_at_once : (db : Database) (f : Fault) → IsFaultOf db f → f ≢ OlderSchema → IsToldInMigration db f
 told_at_once db Memory told other = tt
 told_at_once db Store told other = tt
 told_at_once db Damaged told other = record {
@@ -346,7 +346,7 @@ told_at_once db WrongDatabase told other = told
 told_at_once db NewerSchema told other = told
 told_at_once db OlderSchema told other = absurd (other refl)
 
--- so is a fault reported for the rows of an older office
+-- a fault reported for the rows of an older office is also reported by a migration
 pub told_later : (db : Database) → (¬ HasNoOffice db) × HasVersion 1 db → (f : Fault) → TellsOlder db f → IsToldInMigration db f
 told_later db office Memory told = tt
 told_later db office Store told = tt
@@ -385,12 +385,12 @@ bundles_none s is = older_none WithoutCounts s is Bundle (omega arith)
 pub figures_none : (s : OfficeState) → IsOlderState s → older_tables WithoutCounts s Vote ≡ []
 figures_none s is = older_none WithoutCounts s is Vote (omega arith)
 
--- with what it lacked, an older office has the whole tabulation
-pub lacks_filled : (form : OlderForm) (s : OfficeState) (a : AdditionEntries) → Lacks form s a → tables_with s (with_addition a (tabulation_in form s)) ≡ tables_of s
+-- once the part it lacked is added, an older office has the whole tabulation
+pub completed_filled : (form : OlderForm) (s : OfficeState) (a : AdditionEntries) → IsCompletedBy form s a → tables_with s (with_addition a (tabulation_in form s)) ≡ tables_of s
 unfolding tables_of
-lacks_filled form s a lacks = ap (tables_with s) lacks
+completed_filled form s a lacks = ap (tables_with s) lacks
 
--- ---- at a connection
+-- ---- on a connection
 
 pub rests_older : (form : OlderForm) (db : Database) (s : OfficeState) (st : State) → RestsAt db st → HoldsOlder form db s → RestsOlder form s st
 rests_older form db s st rests held = record {
@@ -409,11 +409,11 @@ older_rests form s st older = (
   record { is = older.is; first = older.rests.first },
 )
 
--- what a stop left of an older office is found again
+-- what a stop left of an older office is recognized again after reopening
 pub older_again : (form : OlderForm) (s : OfficeState) (db : Database) → IsDatabase db → StoresOlder form s db.trees → HoldsOlder form db s
 older_again form s db sound left = record { is = left.is; first = first_found (tables_in form) (older_tables form s) db sound left.stores }
 
--- a stop in the transaction leaves what it could leave before, or the tables of the state
+-- a stop in the transaction leaves what it could have left before, or the tables of the state
 pub older_leaves : (form : OlderForm) (db : Database) (s : OfficeState) (old mid new : State) → HoldsOlder form db s → OnlyReads old mid → HasCleanDisk mid
     → HasCleanDisk new → Survives mid new (Stores (tables_of s)) → LeavesOlderOr db old new
 older_leaves form db s old mid new held reads before clean survives trees may = elim (survives.crash clean trees may) [
@@ -440,7 +440,7 @@ unfolding IsOffice
 state_ours db s held = record { office = λ _. begins_to Office db.schema held.office.begins; every = λ _. held.office.begins }
 
 module _ (r : Result Migrated Fault) (old new : State) where
-  -- what a migration guarantees for any database, about what it opened, about a fault, and about what a stop leaves
+  -- the clauses of a migration for any database: what it opened, which fault it reports, and what a stop leaves
   abbrev Opens : Type 0
   Opens = (db : Database) → IsOurs db.schema → IsOlderSchema db.schema → RestsAt db old → IfOk r (λ m. (x : OfficeState) × WasAt db m x × IsAt x new)
 
@@ -515,7 +515,7 @@ if_failed_later (Err f) db a b c first clean counts (inr held) = inr held
 
 -- ---- the parts of a read
 
--- a receipt about a third clerk, among those that were read
+-- whether any receipt that was read is about a third clerk
 asked_mapped : (rs : List ReceiptValue) → list_any (λ (r : ReceiptEntry). is_about_third r.subject) (map receipt_entry rs) ≡ list_any
     (λ (r : ReceiptValue). is_about_third (receipt_entry r).subject) rs
 asked_mapped [] = refl
@@ -524,11 +524,11 @@ asked_mapped (r ∷ rs) = ap (λ b. is_about_third (receipt_entry r).subject || 
 pub asked : (rows : Rows) (form : OlderForm) → list_any (λ (r : ReceiptValue). is_about_third (receipt_entry r).subject) rows.receipts.items ≡ true → ¬ IsOlderOf form (state_of rows) (tabulated rows)
 asked rows form hit is = true≢false (sym hit ∙ sym (asked_mapped rows.receipts.items) ∙ is.is.unasked)
 
--- what an older office lacks of the tabulation that was counted
+-- the part of the computed tabulation that an older office lacks
 pub if_lacking : (o : Option Addition) (rows : Rows) (form : OlderForm) (u : TabulationEntries) → list_any (λ (r : ReceiptValue). is_about_third (receipt_entry r).subject) rows.receipts.items ≡ false
     → IsBare form (state_of rows) (tabulated rows) → IsTabulatedAs (state_of rows) u
-    → IfSome o (λ a. IsTabulatedAs (state_of rows) u → (tabulated rows ≡ tabulation_in form (state_of rows)) × Lacks form (state_of rows) (addition_entries a))
-    → IfSome o (λ a. IsOlderOf form (state_of rows) (tabulated rows) × Lacks form (state_of rows) (addition_entries a))
+    → IfSome o (λ a. IsTabulatedAs (state_of rows) u → (tabulated rows ≡ tabulation_in form (state_of rows)) × IsCompletedBy form (state_of rows) (addition_entries a))
+    → IfSome o (λ a. IsOlderOf form (state_of rows) (tabulated rows) × IsCompletedBy form (state_of rows) (addition_entries a))
 if_lacking None rows form u unasked bare is lacks = tt
 if_lacking (Some a) rows form u unasked bare is lacks =
     let it = lacks is in
@@ -539,13 +539,13 @@ pub if_all_made : {X E : Type 0} (r : Result X E) (c : Contents) (st : State) �
 if_all_made (Ok x) c st made = all_made c st made
 if_all_made (Err e) c st made = tt
 
--- ---- exits of a migration
+-- ---- the results of a migration
 
 pub store_older : (db : Database) (f : Fault) → (f ≡ Memory) ⊎ (f ≡ Store) → TellsOlder db f
 store_older db f (inl same) = subst (TellsOlder db) (sym same) tt
 store_older db f (inr same) = subst (TellsOlder db) (sym same) tt
 
--- what a fault in the transaction leaves, and what one before it leaves
+-- what a fault in the transaction leaves, and what a fault before it leaves
 abbrev pub LeavesUnlessBroken : State → State → Fault → Type 0
 LeavesUnlessBroken old new f = (f ≡ Memory) ⊎ ((f ≡ Store) ⊎ OnlyReads old new)
 

@@ -1,8 +1,8 @@
--- The parts of a state, field by field.
+-- The inputs of commands, field by field.
 use Rattle.std.proofs.Common.{◌≡◌, ap, ◌∙◌}
 use Rattle.register.specs.CommandInputs.{CommandInputEntries}
 
--- parts with the same fields are equal
+-- inputs with the same fields are equal
 pub same_part : (x y : CommandInputEntries) → x.ward ≡ y.ward → x.candidate ≡ y.candidate → x.candidates ≡ y.candidates → x.batch ≡ y.batch → x.third ≡ y.third
     → x.own ≡ y.own → x.keyings ≡ y.keyings → x.verdict ≡ y.verdict → x.poll ≡ y.poll → x.due ≡ y.due → x.elected ≡ y.elected → x ≡ y
 same_part x y ward candidate candidates batch third own keyings verdict poll due elected =

@@ -18,14 +18,14 @@ use Rattle.store.specs.Piles.{ReadView, view_by, read_view_of, is_pile, numbers_
 
 -- ---- lists
 
--- the numbers, with one more batch
+-- the numbers of batches, with another batch added
 pub numbers_more : (rs : List ReadView) (r : ReadView) (q : List ℕ) → numbers_with rs q ++ numbers_with (r ∷ []) q ≡ numbers_with (rs ++ r ∷ []) q
 numbers_more rs r q =
     let has = λ (x : ReadView). is_pile q x.pile in
     let number = λ (x : ReadView). x.number in
     sym (ap (map number) (filter-append has rs (r ∷ [])) ∙ map-append number (filter has rs) (filter has (r ∷ [])))
 
--- the overviews, with one more batch
+-- the overviews of batches, with another batch added
 pub one_paired : (numbers : List ℕ → List ℕ) (before : List BatchOverview) (found : Option BatchOverview) (rs : List ReadView) (r : ReadView)
     → map batch_view before ≡ all_paired numbers rs → option_map batch_view found ≡ paired numbers r
     → map batch_view (before ++ option_to_list found) ≡ all_paired numbers (rs ++ r ∷ [])
@@ -50,12 +50,12 @@ group_told {A = A} numbers text group found = ap (λ (o : Option (Vec ℕ A)). o
 -- ---- twins
 
 module _ (s : OfficeState) (ward : ℕ) where
-  -- a batch has this pile if it is taken with these papers
+  -- a batch has the given pile if it is taken with the same papers
   has_pile : (text own : List ℕ) (taken : Bool) → is_pile text (cond taken (Some own) None) ≡ (taken && bytes_eq text own)
   has_pile text own true = refl
   has_pile text own false = refl
 
-  -- the first other number with a batch's pile is that of the first batch that is its twin
+  -- the first number with the same pile, other than the batch's own, is that of the first twin
   first_twin : (b : BatchEntry) (cs : List BatchEntry)
       → find (λ n. not (n == b.number)) (numbers_with (map (read_view_of s ward) cs) (pile_text_of s b)) ≡ option_map (λ (c : BatchEntry). c.number) (find (is_twin s b) cs)
   first_twin b [] = refl
@@ -107,7 +107,7 @@ module _ (s : OfficeState) (ward : ℕ) where
         go true later = ap (λ (t : Option ℕ). batch_view_with s b t ∷ others) (twin_found b) ∙ ap (λ (vs : List BatchView). batch_view_of s b ∷ vs) later
         go false later = later
 
-    -- the overviews from all batches that were read are those of the ward's batches
+    -- the overviews computed from all batches that were read are those of the ward's batches
     batches_paired : all_paired numbers (map (read_view_of s ward) s.batches) ≡ batch_views s ward
     batches_paired = each_paired s.batches
 
@@ -118,7 +118,7 @@ module _ (s : OfficeState) (ward : ℕ) where
 
 -- ---- one batch
 
--- the overview of a batch, from what was read of it
+-- the overview of a batch, from the data read for it
 pub view_told : (s : OfficeState) (b : BatchEntry) (clerks : List (ℕ × Bool)) (keyings : List (List KeyedEntry)) (verdicts : List JudgedEntry)
     → clerks ≡ map (clerk_view_of s b) (clerks_of s b) → keyings ≡ keyings_now s b → verdicts ≡ verdicts_of s b.number
     → view_by b clerks keyings verdicts ≡ batch_view_with s b None
@@ -127,7 +127,7 @@ view_told s b clerks keyings verdicts by_clerk now judged =
     ∙ ap (λ (ks : List (List KeyedEntry)). view_by b (map (clerk_view_of s b) (clerks_of s b)) ks verdicts) now
     ∙ ap (λ (vs : List JudgedEntry). view_by b (map (clerk_view_of s b) (clerks_of s b)) (keyings_now s b) vs) judged
 
--- the text of the papers of a batch that is taken
+-- the text of the papers of a taken batch
 pub pile_told : (s : OfficeState) (b : BatchEntry) (columns text : List ℕ) (papers : List KeyedEntry) (keyings : List (List KeyedEntry))
     → text ≡ pile_text columns papers → columns ≡ columns_of (candidates_of s b.ward) → papers ≡ agreed keyings → keyings ≡ keyings_now s b
     → is_keyed papers ≡ true → Some text ≡ pile_in s b
@@ -141,6 +141,6 @@ pub no_pile : (s : OfficeState) (b : BatchEntry) (papers : List KeyedEntry) (key
     → keyings ≡ keyings_now s b → is_keyed papers ≡ false → None ≡ pile_in s b
 no_pile s b papers keyings taken now there = sym (cond-false (is_taken s b) (Some (pile_text_of s b)) None (ap is_keyed (sym (taken ∙ ap agreed now)) ∙ there))
 
--- batches that were read with the same fields are equal
+-- values of `ReadView` with the same fields are equal
 pub same_read_view : (x y : ReadView) → x.number ≡ y.number → x.pile ≡ y.pile → x.overview ≡ y.overview → x ≡ y
 same_read_view x y number pile overview = ap (λ v. record x { number = v }) number ∙ ap (λ v. record x { number = y.number; pile = v }) pile ∙ ap (λ v. record y { overview = v }) overview

@@ -1,4 +1,4 @@
--- A database that a stop left reopens, at the state whose tables it contains.
+-- A database left by a stop can be reopened in the state whose tables it contains.
 use Rattle.std.proofs.Common.{◌≡◌, ◌⊎◌, inl, inr, true, [], ◌∷◌, refl, sym, ap₂, subst, IsTrue}
 use Rattle.std.specs.List.Sorted.{IsStrictlySortedBy}
 use Rattle.std.specs.declared.cmp.Ordering.{Ordering}
@@ -25,7 +25,7 @@ use Rattle.tables.specs.Presence.{has_table, IsOurs}
 use Rattle.tables.specs.Reading.{SharesRowids, FailsToList, FailsBy}
 use Rattle.store.specs.EntryRows.{this_version, office_row}
 use Rattle.store.specs.StateTables.{tables_of, HoldsState, IsAt}
-use Rattle.store.specs.Openings.{HasNoOffice, IsNewer, IsOlder, IsLeftAt, IsToldBy}
+use Rattle.store.specs.Openings.{HasNoOffice, IsNewer, IsOlder, IsLeftAt, IsFaultOf}
 use Rattle.tables.proofs.ListingLemmas.{begins_to}
 use Rattle.tables.proofs.HoldLemmas.{own_rowids}
 use Rattle.tables.proofs.ReadLemmas.{rests_at}
@@ -36,11 +36,11 @@ sound : (c : Contents) (db : Database) → IsOffice c db → IsDatabase db
 unfolding IsOffice
 sound c db office = office.sound
 
-begins : (c : Contents) (db : Database) → IsOffice c db → IsOfficeSchema db.schema
+pub begins : (c : Contents) (db : Database) → IsOffice c db → IsOfficeSchema db.schema
 unfolding IsOffice
 begins c db office = office.begins
 
--- the trees determine the schema, so the database is the one with these tables
+-- the trees determine the schema, so the database is the one with the state's tables
 pub left_holds : (s : OfficeState) (db : Database) → IsLeftAt s db → HoldsState db s
 left_holds s db left =
     let it = left.stores in
@@ -63,11 +63,11 @@ holds_office : (s : OfficeState) (db : Database) → HoldsState db s → (¬ Has
 unfolding IsOffice
 holds_office s db held = this_office db (office_there db.schema held.office.begins) (state_version db s held)
 
--- no fault is reported for it but those that may be reported for any database
-pub left_told : (s : OfficeState) (db : Database) (f : Fault) → IsLeftAt s db → IsToldBy db f → (f ≡ Memory) ⊎ (f ≡ Store)
+-- the only faults reported for it are those that may be reported for any database
+pub left_told : (s : OfficeState) (db : Database) (f : Fault) → IsLeftAt s db → IsFaultOf db f → (f ≡ Memory) ⊎ (f ≡ Store)
 left_told s db f left told = go f told
   where
-    go : (f : Fault) → IsToldBy db f → (f ≡ Memory) ⊎ (f ≡ Store)
+    go : (f : Fault) → IsFaultOf db f → (f ≡ Memory) ⊎ (f ≡ Store)
     go Memory told = inl refl
     go Store told = inr refl
     go Damaged told = absurd (told.no_state s (left_holds s db left))
@@ -76,7 +76,7 @@ left_told s db f left told = go f told
     go NewerSchema told = absurd ((holds_office s db (left_holds s db left)).1 told)
     go OlderSchema told = absurd ((holds_office s db (left_holds s db left)).2 (one_permutation (office_row 1) (tuples Office db.trees) told.1.same))
 
--- one row is in ascending order
+-- a single row is in ascending order
 one_rises : (by : Row → Row → Ordering) (row : Row) → IsStrictlySortedBy by (row ∷ [])
 unfolding IsStrictlySortedBy
 one_rises by row = (tt, tt)
@@ -89,20 +89,20 @@ all_rise s is t = elim (which_kind t) [
   | inr has ↦ tables_rise s is t has
 ]
 
--- if a database contains a state, rowids are distinct integers; so if a fault of the store is reported, the store failed
+-- if a database contains a state, its rowids are distinct integers; a `Store` fault therefore means that the store failed
 own_there : (s : OfficeState) (db : Database) → HoldsState db s → ¬ SharesRowids db
 unfolding IsOffice
 own_there s db held shared =
     let t = shared.0 in
     own_rowids t (tables_of s t) db.trees (held.office.holds t) (all_rise s held.is t) shared.1 shared.2
 
-pub left_failed : (s : OfficeState) (db : Database) (old new : State) (f : Fault) → IsLeftAt s db → IsToldBy db f → FailsToList db old new f → FailsBy old new f
+pub left_failed : (s : OfficeState) (db : Database) (old new : State) (f : Fault) → IsLeftAt s db → IsFaultOf db f → FailsToList db old new f → FailsBy old new f
 left_failed s db old new f left told fails = elim (left_told s db f left told) [
   | inl memory ↦ inl memory
   | inr store ↦ inr (store, elim (fails store) [ inl failed ↦ failed | inr shared ↦ absurd (own_there s db (left_holds s db left) shared) ])
 ]
 
--- an office that is open at a state rests at the database that a stop leaves of it
+-- an office that is open in a given state rests at the database that a stop would leave of it
 pub at_left : (s : OfficeState) (st : State) → IsAt s st → IsTrue st.is_open → RestsAt st.now st × IsLeftAt s st.now
 at_left s st at is_open =
     let rests = at.rests is_open in

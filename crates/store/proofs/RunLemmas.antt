@@ -1,4 +1,4 @@
--- Adjacent papers are a keying if they have its numbers.
+-- Adjacent papers form a keying if they have its numbers.
 use Rattle.std.proofs.Common.{◌≡◌, ℕ, zero, suc, ◌+◌, Bool, true, cond, ◌&&◌, ◌==◌, List, [], ◌∷◌, map, filter, length, Option, Some, None, IfSome}
 use Rattle.std.proofs.Common.{Result, Ok, Err, IfOk, IfErr, OnOk, IsTrue, inl, inr, refl, sym, ap, subst, ◌∙◌, arith, Ordering, Less, Equal, nat_cmp}
 use Rattle.std.specs.Prelude.{⊤}
@@ -28,9 +28,9 @@ use Rattle.store.proofs.FitLemmas.{keyings_fit}
 use Rattle.store.proofs.KeepLemmas.{is_at_read}
 use Rattle.store.proofs.KeyingLemmas.{HasNumbers, has_numbers, there_whole_of}
 
--- ---- what occurs once in a state
+-- ---- elements that occur once in a state
 
--- two elements of a strictly ascending list that compare as equal are the same
+-- two elements of a strictly ascending list are the same if they compare as equal
 once : {X : Type 0} (cmp : X → X → Ordering) (xs : List X) → IsStrictlySortedBy cmp xs → (a b : X) → Has xs a → Has xs b → cmp a b ≡ Equal → cmp b a ≡ Equal → a ≡ b
 once cmp [] up a b here there one other = absurd here
 once cmp (x ∷ xs) up a b (inl first) (inl also) one other = first ∙ sym also
@@ -52,7 +52,7 @@ same_place j k batch round clerk paper =
 
 -- ---- keyings
 
--- a paper of a state and of a keying
+-- a paper of a state that belongs to a keying
 record IsIn (s : OfficeState) (batch round clerk : ℕ) (k : KeyedEntry) : Type 0 where
   there : Has s.keyings k
   own : is_paper_of batch round clerk k ≡ true
@@ -88,7 +88,7 @@ module _ (s : OfficeState) (is : IsState s) (batch round clerk : ℕ) where
   keying_in = all_from (IsIn s batch round clerk) (keying_of s batch round clerk)
       (λ k h. let both = has_filtered (is_paper_of batch round clerk) s.keyings k h in record { there = both.0; own = both.1 })
 
-  -- papers of the state that are whole, and all of one keying, are that keying
+  -- if papers of the state form a whole keying, it is that keying
   run_is_keying : (b : BatchEntry) → batch_at s batch ≡ Some b → (ks : List KeyedEntry) → AllByRecursion (Has s.keyings) ks → is_whole b.size ks ≡ true
       → list_all (is_paper_of batch round clerk) ks ≡ true
       → ks ≡ keying_of s batch round clerk
@@ -117,14 +117,14 @@ all_mapped : {A X : Type 0} (p : X → Bool) (f : A → X) (xs : List A) → lis
 all_mapped p f [] = refl
 all_mapped p f (x ∷ xs) = ap (λ b. p (f x) && b) (all_mapped p f xs)
 
--- papers found to be a keying are that keying
+-- papers that are recognized as a keying are that keying
 pub seen_keying : (s : OfficeState) → IsState s → (batch round clerk : ℕ) (b : BatchEntry) → batch_at s batch ≡ Some b → (ks : List KeyedPaper) → AllByRecursion (Has s.keyings) (map keyed_entry ks)
     → is_whole b.size (map keyed_entry ks) && list_all (λ k. is_paper_of batch round clerk (keyed_entry k)) ks ≡ true → map keyed_entry ks ≡ keying_of s batch round clerk
 seen_keying s is batch round clerk b found ks there seen =
     let both = and_parts _ _ seen in
     run_is_keying s is batch round clerk b found (map keyed_entry ks) there both.0 (sym (all_mapped (is_paper_of batch round clerk) keyed_entry ks) ∙ both.1)
 
--- papers whose rows are in the table are the state's
+-- papers whose rows are in the table belong to the state
 there_each : (all : List KeyedEntry) (ks : List KeyedPaper) → AllByRecursion (Has (map row_of_keyed all)) (map (λ k. row_of_keyed (keyed_entry k)) ks) → AllByRecursion (Has all) (map keyed_entry ks)
 there_each all [] rows = tt
 there_each all (k ∷ ks) rows =
@@ -143,7 +143,7 @@ pub if_any : {W F : Type 0} (r : Result W F) → IfOk r (λ w. ⊤)
 if_any (Ok w) = tt
 if_any (Err f) = tt
 
--- a read whose result the state does not determine
+-- a read whose result isn't determined by the state
 pub loads_any : {X : Type 0} {old new : State} {r : Result X Fault} → (HasCleanDisk new → (c : Contents) → RestsIfOpen c old → IfErr r (FailsBy old new))
     → (HasCleanDisk new → OnOk r (IsTrue new.is_open)) → OnlyReads old new
     → LoadsAt old new r (λ s x. ⊤)
@@ -155,7 +155,7 @@ loads_any {old = old} {new = new} {r = r} fails opens reads = record {
   keeps = λ clean s at. is_at_read s old new reads clean at;
 }
 
--- a read of papers of the table
+-- a read of papers that are in the table
 pub loads_there : {W : Type 0} {old new : State} {r : Result W Fault} (items : W → List KeyedPaper)
     → (HasCleanDisk new → (c : Contents) → RestsIfOpen c old → IfOk r (λ w. AllByRecursion (Has (c Keying)) (map (λ k. row_of_keyed (keyed_entry k)) (items w))))
     → (HasCleanDisk new → (c : Contents) → RestsIfOpen c old → AllByRecursion IsKeyedRow (c Keying) → IfErr r (FailsBy old new)) → (HasCleanDisk new → OnOk r (IsTrue new.is_open)) → OnlyReads old new

@@ -150,7 +150,7 @@ bundles_alike a b = number_and_bytes a.ward b.ward a.list b.list
 figures_alike : (a b : FigureEntry) → row_cmp Vote (row_of_figure a) (row_of_figure b) ≡ figure_cmp a b
 figures_alike a b = three_numbers a.ward a.stage a.candidate b.ward b.stage b.candidate
 
--- the tables of the maps of a state
+-- the tables that represent maps of a state
 abbrev has_map : Table → Bool
 has_map Office = false
 has_map Bundle = false
@@ -187,7 +187,7 @@ tables_rise s is Verdict has = maps_up s (tabulation_of s) is.rise Verdict refl
 tables_rise s is Lot has = maps_up s (tabulation_of s) is.rise Lot refl
 tables_rise s is Receipt has = maps_up s (tabulation_of s) is.rise Receipt refl
 
--- maps whose rows are in ascending order are in ascending order
+-- maps are in ascending order if their rows are
 pub maps_rise : (s : OfficeState) (t : TabulationEntries) → ((u : Table) → has_entries u ≡ true → IsStrictlySortedBy (row_cmp u) (tables_with s t u)) → MapsAreSorted s
 unfolding tables_with
 maps_rise s t each = record {
@@ -203,7 +203,7 @@ maps_rise s t each = record {
 
 -- ---- states
 
--- maps in ascending order with the same rows are equal, whatever the tabulation
+-- maps in ascending order with the same rows are equal, whichever tabulation accompanies them
 pub equal_maps : (s x : OfficeState) (t u : TabulationEntries) → MapsAreSorted s → MapsAreSorted x → SameContents (tables_with s t) (tables_with x u) → s ≡ x
 unfolding tables_with
 equal_maps s x t u rise also same =
@@ -230,12 +230,12 @@ pub equal_states : (s t : OfficeState) → IsState s → IsState t → SameConte
 unfolding tables_of
 equal_states s t is also same = equal_maps s t (tabulation_of s) (tabulation_of t) is.rise also.rise same
 
--- a database represents one state
+-- a database represents at most one state
 pub one_state : (db : Database) (s t : OfficeState) → HoldsState db s → HoldsState db t → s ≡ t
 unfolding IsOffice
 one_state db s t first second = equal_states s t first.is second.is (one_contents (tables_of s) (tables_of t) db.trees first.office.holds second.office.holds)
 
--- a tabulation whose rows are in ascending order, and those of a state, is the tabulation of its counts
+-- if the rows of a tabulation are in ascending order and equal those of a state, it is the tabulation of the state's counts
 pub tabulated_same : (s x : OfficeState) (t : TabulationEntries) → IsState x → ((u : Table) → has_entries u ≡ true → IsStrictlySortedBy (row_cmp u) (tables_with s t u))
     → SameContents (tables_of x) (tables_with s t) → t ≡ tabulation_of x
 unfolding tables_of tables_with

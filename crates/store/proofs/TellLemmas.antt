@@ -26,17 +26,17 @@ use Rattle.tables.specs.Presence.{has_table, has_every_table}
 use Rattle.tables.specs.Reading.{Lists, ListsKeyed, HoldsNone}
 use Rattle.store.specs.EntryRows.{this_version, office_row}
 use Rattle.store.specs.StateTables.{HoldsState, tables_of, tables_with}
-use Rattle.store.specs.Openings.{HasNoOffice, IsNewer, IsOlder, HoldsNoState, IsToldBy, TellsNoState, IsVersion, TellsRow}
-use Rattle.store.specs.Openings.{TellsRows, HasVersion, TellsOffice, has_entries, ListsMaps, IsTabulatedAs, HoldsEntries}
+use Rattle.store.specs.Openings.{HasNoOffice, IsNewer, IsOlder, HoldsNoState, IsFaultOf, TellsNoState, IsVersion, FaultOfRow}
+use Rattle.store.specs.Openings.{FaultOfRows, HasVersion, FaultOfOfficeTable, has_entries, ListsMaps, IsTabulatedAs, HoldsEntries}
 use Rattle.store.specs.Listings.{TellsStrange}
 use Rattle.tables.proofs.ListLemmas.{mapped_length}
 use Rattle.tables.proofs.HoldLemmas.{lists_all, shown_rows, rows_held, held_listed}
 use Rattle.tables.proofs.ListingLemmas.{begins_to}
 use Rattle.store.proofs.StateLemmas.{tables_rise, maps_rise, equal_maps, tabulated_same}
 
--- ---- the tables, as an opening reads them
+-- ---- the tables read when an office is opened
 
--- a table is the office's, or one of entries
+-- a table is the office's, or one that contains entries
 pub which_kind : (t : Table) → (t ≡ Office) ⊎ (has_entries t ≡ true)
 which_kind Office = inl refl
 which_kind Ward = inr refl
@@ -64,7 +64,7 @@ strange_store : (n : ℕ) (db : Database) (f : Fault) → (f ≡ Memory) ⊎ (f 
 strange_store n db f (inl same) = subst (TellsStrange n db) (sym same) tt
 strange_store n db f (inr same) = subst (TellsStrange n db) (sym same) tt
 
--- rows that are not a list of entries are those of no state
+-- no state has rows that are not a list of entries
 pub told_strange : (n : ℕ) (t : Table) (IsRow : Row → Type 0) → has_entries t ≡ true → place_of t < n → ((s : OfficeState) → IsState s → AllByRecursion IsRow (tables_of s t))
     → (db : Database) (f : Fault)
     → (f ≡ Memory) ⊎ ((f ≡ Store) ⊎ ((f ≡ Damaged) × HoldsNone t IsRow db)) → TellsStrange n db f
@@ -82,7 +82,7 @@ strange_more n m up db WrongDatabase told = told
 strange_more n m up db NewerSchema told = told
 strange_more n m up db OlderSchema told = told
 
--- so the rows are not the tables of any state
+-- if one of the first tables has rows that no state has, the rows don't form the tables of any state
 pub strange_told : (n : ℕ) (db : Database) (f : Fault) → TellsStrange n db f → TellsNoState db f
 unfolding IsOffice
 strange_told n db Memory told = tt
@@ -95,7 +95,7 @@ strange_told n db OlderSchema told = told
 
 -- ---- the entries of a state
 
--- listed maps and a listed tabulation have the same rows as each state that the database contains
+-- listed maps and a listed tabulation have the same rows as any state that the database contains
 maps_same : (db : Database) (s x : OfficeState) (t : TabulationEntries) → ListsMaps db s t → HoldsState db x → SameContents (tables_of x) (tables_with s t)
 unfolding IsOffice
 maps_same db s x t lists holds u = elim (which_kind u) [
@@ -107,7 +107,7 @@ maps_same db s x t lists holds u = elim (which_kind u) [
 pub lists_rise : (db : Database) (s : OfficeState) (t : TabulationEntries) → ListsMaps db s t → MapsAreSorted s
 lists_rise db s t lists = maps_rise s t (λ u has. (lists u has).rise)
 
--- such a state has exactly these maps, and this tabulation is that of its counts
+-- such a state has exactly the listed maps, and the listed tabulation is that of its counts
 pub maps_are : (db : Database) (s x : OfficeState) (t : TabulationEntries) → ListsMaps db s t → HoldsState db x → IsTabulatedAs s t
 unfolding tables_of
 maps_are db s x t lists holds =
@@ -159,7 +159,7 @@ head_same a b same = ap first same
     first [] = []
     first (x ∷ xs) = x
 
--- the columns of a row that a query of the office table returns
+-- the columns of a row that a query on the office table returns
 pub version_shown : (row : Row) (one version : ℤ) (n : ℕ) → column row 0 ≡ Int one → column row 1 ≡ Int version → one ≡ pos 1 → version ≡ pos n → IsVersion n row
 version_shown row one version n first second is_one is_version = rw (first, second, is_one, is_version) refl
 
@@ -174,7 +174,7 @@ one_row [] r len is = absurd (omega (arith, len))
 one_row (x ∷ []) r len is = ap (λ y. y ∷ []) (sym is)
 one_row (x ∷ y ∷ more) r len is = absurd (omega (arith, len))
 
-pub row_told : (rows : List Row) (r : Row) → rows ≡ r ∷ [] → (f : Fault) → TellsRow r f → TellsRows rows f
+pub row_told : (rows : List Row) (r : Row) → rows ≡ r ∷ [] → (f : Fault) → FaultOfRow r f → FaultOfRows rows f
 row_told rows r is Memory told = tt
 row_told rows r is Store told = told
 row_told rows r is Damaged told = (
@@ -198,7 +198,7 @@ version_listed : (n : ℕ) (db : Database) (rows : List Row) → Lists Office (b
     → IsPermutation (office_row n ∷ []) (map (at (column_places Office)) (tuples Office db.trees)) → rows ≡ office_row n ∷ []
 version_listed n db rows lists same = one_permutation (office_row n) rows (IsPermutation-trans _ _ _ same (lists_all Office db rows lists))
 
-pub office_told : (db : Database) → BeginsTo Office db.schema → IsDatabase db → (rows : List Row) → ListsKeyed Office db rows → (f : Fault) → TellsRows rows f → TellsOffice db f
+pub office_told : (db : Database) → BeginsTo Office db.schema → IsDatabase db → (rows : List Row) → ListsKeyed Office db rows → (f : Fault) → FaultOfRows rows f → FaultOfOfficeTable db f
 office_told db begins sound rows keyed Memory told = tt
 office_told db begins sound rows keyed Store told = tt
 office_told db begins sound rows keyed Damaged told = (
@@ -227,7 +227,7 @@ office_told db begins sound rows keyed NewerSchema told =
     (pos n, omega (arith, ints, up), one_permutation (office_row n) (tuples Office db.trees) holds.same)
 office_told db begins sound rows keyed OlderSchema told = version_held 1 db begins sound rows keyed told.0 told.1 told.2
 
--- ---- the whole opening
+-- ---- a whole opening
 
 -- an office of this version has an office row, and is neither newer nor older
 pub this_office : (db : Database) → has_table Office db.schema ≡ true → HasVersion this_version db → (¬ HasNoOffice db) × (¬ IsNewer db) × (¬ IsOlder db)
@@ -268,8 +268,8 @@ pub state_version : (db : Database) (s : OfficeState) → HoldsState db s → Ha
 unfolding IsOffice
 state_version db s holds = subst (λ rows. HoldsTable Office rows db.trees) (office_rows s) (holds.office.holds Office)
 
--- the faults of an opening, from those of its parts
-pub told_office : (db : Database) → has_table Office db.schema ≡ true → (f : Fault) → TellsOffice db f → IsToldBy db f
+-- the faults reported by an opening, from those of its parts
+pub told_office : (db : Database) → has_table Office db.schema ≡ true → (f : Fault) → FaultOfOfficeTable db f → IsFaultOf db f
 told_office db there Memory told = tt
 told_office db there Store told = tt
 told_office db there Damaged told = record {
@@ -290,7 +290,7 @@ told_office db there OlderSchema told = (
   told,
 )
 
-pub told_tables : (db : Database) → has_table Office db.schema ≡ true → HasVersion this_version db → (f : Fault) → TellsNoState db f → IsToldBy db f
+pub told_tables : (db : Database) → has_table Office db.schema ≡ true → HasVersion this_version db → (f : Fault) → TellsNoState db f → IsFaultOf db f
 told_tables db there office Memory told = tt
 told_tables db there office Store told = tt
 told_tables db there office Damaged told = let all = this_office db there office in record { some_office = all.0; not_newer = all.1; not_older = all.2; no_state = told }
@@ -299,16 +299,16 @@ told_tables db there office WrongDatabase told = absurd told
 told_tables db there office NewerSchema told = absurd told
 told_tables db there office OlderSchema told = absurd told
 
-pub store_office : (db : Database) (f : Fault) → (f ≡ Memory) ⊎ (f ≡ Store) → TellsOffice db f
-store_office db f (inl same) = subst (TellsOffice db) (sym same) tt
-store_office db f (inr same) = subst (TellsOffice db) (sym same) tt
+pub store_office : (db : Database) (f : Fault) → (f ≡ Memory) ⊎ (f ≡ Store) → FaultOfOfficeTable db f
+store_office db f (inl same) = subst (FaultOfOfficeTable db) (sym same) tt
+store_office db f (inr same) = subst (FaultOfOfficeTable db) (sym same) tt
 
--- neither a failed allocation nor a failed store is an older office
+-- neither a failed allocation nor a failed store is reported as `OlderSchema`
 pub never_older : {X : Type 0} (f : Fault) → (f ≡ Memory) ⊎ (f ≡ Store) → f ≡ OlderSchema → X
 never_older f (inl memory) same = absurd cc
 never_older f (inr store) same = absurd cc
 
--- ---- what a connection returns of the database at which it rests
+-- ---- what a connection returns about the database at which it rests
 
 pub answered : (p : Schema → Bool) (db : Database) (s : State) → RestsAt db s → (b r : Bool) → b ≡ p s.now.schema → b ≡ r → p db.schema ≡ r
 answered p db s rests b r is same = subst (λ (d : Database). p d.schema ≡ b) rests.now (sym is) ∙ same

@@ -9,7 +9,7 @@ use Rattle.register.specs.Offices.{WardEntry, CandidateEntry, BatchEntry, ThirdE
 use Rattle.register.specs.Tabulated.{PlacedEntry, FigureEntry}
 use Rattle.tables.specs.RowValues.{IsNumber, IsAmount, IsText, IsBytes}
 
--- the number of a phase
+-- the value is a phase's number
 abbrev pub IsPhase : Value → Type 0
 IsPhase v = (p : Phase) × (v ≡ Int (pos (phase_number p)))
 
@@ -17,7 +17,7 @@ IsPhase v = (p : Phase) × (v ≡ Int (pos (phase_number p)))
 abbrev pub this_version : ℕ
 this_version = 2
 
--- the row of the office, with a schema version
+-- the row of the office, with the given schema version
 abbrev pub office_row : ℕ → Row
 office_row version = Int (pos 1) ∷ Int (pos version) ∷ []
 
@@ -89,7 +89,7 @@ IsReceiptRow r = IsNumber (column r 0) × IsText (column r 1) × IsText (column 
 abbrev pub row_of_placed : PlacedEntry → Row
 row_of_placed b = Int (pos b.ward) ∷ Blob b.list ∷ Int (pos b.papers) ∷ Int (pos b.holder) ∷ Int (pos b.value) ∷ []
 
--- a row that represents such a bundle
+-- a row that represents a bundle and its place
 abbrev pub IsPlacedRow : Row → Type 0
 IsPlacedRow r = IsNumber (column r 0) × IsBytes (column r 1) × IsNumber (column r 2) × IsNumber (column r 3) × IsAmount (column r 4)
 

@@ -3,6 +3,7 @@ pub mod StateTables
 pub mod Openings
 pub mod Listings
 pub mod Keyings
+pub mod EarlierKeyings
 pub mod Tallies
 pub mod Elections
 pub mod Loads
@@ -12,3 +13,4 @@ pub mod Overviews
 pub mod Piles
 pub mod Copies
 pub mod Whole
+pub mod Memories

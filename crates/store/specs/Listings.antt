@@ -1,4 +1,4 @@
--- The parts in which the entries of a database are listed when an office is opened.
+-- How the entries of a database are listed, part by part, when an office is opened.
 use Rattle.std.specs.Prelude.{◌≡◌, ◌<◌, ℕ, true, false, map, ⊤, Result, IfOk, IfErr, OnOk, IsTrue}
 use Rattle.std.specs.List.Sorted.{IsStrictlySortedBy}
 use Rattle.sqlite_trees.specs.declared.store.Store.{Ghosts}
@@ -25,8 +25,8 @@ use Rattle.store.specs.EntryRows.{row_of_batch, row_of_keyed, row_of_judged}
 use Rattle.store.specs.StateTables.{tables_of, tables_with}
 use Rattle.store.specs.Openings.{has_entries}
 
--- A listing of rows, for any database of this kind at which the connection rests: what it finds there, which fault is reported for the rows, and why it fails.
--- It changes nothing, and the connection is open if it succeeds.
+-- A listing of rows, for any database of the given kind at which the connection rests: what it finds there, which fault is reported for the rows, and why it
+-- fails. It changes nothing, and the connection is open if it succeeds.
 pub record ListsAt {X : Type 0} (old new : State) (result : Result X Fault) (IsKind : Database → Type 0) (IsTold : Database → X → Type 0) (Gives : Database → Fault → Type 0) : Type 0 where
   pub lists : HasCleanDisk new → (db : Database) → IsKind db → RestsAt db old → IfOk result (IsTold db)
   pub told : HasCleanDisk new → (db : Database) → IsKind db → RestsAt db old → IfErr result (Gives db)
@@ -45,14 +45,14 @@ abbrev pub BeginsFirst : ℕ → Schema → Type 0
 BeginsFirst n s = (t : Table) → place_of t < n → BeginsTo t s
 
 -- one of the first `n` tables contains rows that no state has
-abbrev pub HoldsStrange : ℕ → Database → Type 0
-HoldsStrange n db = (t : Table) × (has_entries t ≡ true) × (place_of t < n) × ((s : OfficeState) → IsState s → ¬ HoldsTable t (tables_of s t) db.trees)
+abbrev pub HoldsUnrepresentable : ℕ → Database → Type 0
+HoldsUnrepresentable n db = (t : Table) × (has_entries t ≡ true) × (place_of t < n) × ((s : OfficeState) → IsState s → ¬ HoldsTable t (tables_of s t) db.trees)
 
 -- the fault reported for the rows of the first `n` tables
 abbrev pub TellsStrange : ℕ → Database → Fault → Type 0
 TellsStrange n db Memory = ⊤
 TellsStrange n db Store = ⊤
-TellsStrange n db Damaged = HoldsStrange n db
+TellsStrange n db Damaged = HoldsUnrepresentable n db
 TellsStrange n db Closed = ⊥
 TellsStrange n db WrongDatabase = ⊥
 TellsStrange n db NewerSchema = ⊥
@@ -62,13 +62,13 @@ TellsStrange n db OlderSchema = ⊥
 abbrev pub ListsFirst : ℕ → Database → OfficeState → TabulationEntries → Type 0
 ListsFirst n db s t = (u : Table) → has_entries u ≡ true → place_of u < n → ListsEntries u db (tables_with s t u)
 
--- all rows of the batches, of the keyed papers and of the judged ones
+-- all rows for batches, keyed papers and judged papers
 pub record ListsPapers (db : Database) (papers : Papers) : Type 0 where
   pub batches : ListsEntries Batch db (map (λ (b : BatchValue). row_of_batch (batch_entry b)) papers.batches.items)
   pub keyings : ListsEntries Keying db (map (λ (k : KeyedPaper). row_of_keyed (keyed_entry k)) papers.keyings.items)
   pub verdicts : ListsEntries Verdict db (map (λ (v : JudgedPaper). row_of_judged (judged_entry v)) papers.verdicts.items)
 
--- each row's key is above that of the row before
+-- the rows of each table are in strictly ascending key order
 pub record PapersRise (papers : Papers) : Type 0 where
   pub batches : IsStrictlySortedBy (row_cmp Batch) (map (λ (b : BatchValue). row_of_batch (batch_entry b)) papers.batches.items)
   pub keyings : IsStrictlySortedBy (row_cmp Keying) (map (λ (k : KeyedPaper). row_of_keyed (keyed_entry k)) papers.keyings.items)

@@ -1,4 +1,4 @@
--- What is found when an office is opened.
+-- What an opening may find.
 use Rattle.std.specs.Prelude.{◌≡◌, ◌≢◌, ◌⊎◌, ◌<◌, ℕ, ℤ, pos, ◌<ℤ◌, Bool, true, false, List, [], ◌∷◌, ⊤, IsTrue}
 use Rattle.sqlite.specs.declared.types.Value.TheVariants.{Int}
 use Rattle.sqlite.specs.Order.{Row}
@@ -19,44 +19,44 @@ use Rattle.tables.specs.Reading.{ListsEntries}
 use Rattle.store.specs.EntryRows.{this_version, office_row}
 use Rattle.store.specs.StateTables.{tables_of, tables_with, HoldsState}
 
--- there is no office table, or no row in it
+-- there is no office table, or it has no row
 abbrev pub HasNoOffice : Database → Type 0
 HasNoOffice db = (has_table Office db.schema ≡ false) ⊎ (tuples Office db.trees ≡ [])
 
--- the one office row has a version above this program's
+-- the only row of the office table has a version above this program's
 abbrev pub IsNewer : Database → Type 0
 IsNewer db = (version : ℤ) × (pos this_version <ℤ version) × (tuples Office db.trees ≡ (Int (pos 1) ∷ Int version ∷ []) ∷ [])
 
--- the one office row has the first version, which precedes this program's
+-- the only row of the office table has the first version, which precedes this program's
 abbrev pub IsOlder : Database → Type 0
 IsOlder db = tuples Office db.trees ≡ office_row 1 ∷ []
 
--- the office table has exactly one row, that of an office of this version
+-- the office table has exactly one row, that of an office of the given version
 abbrev pub HasVersion : ℕ → Database → Type 0
 HasVersion version db = HoldsTable Office (office_row version ∷ []) db.trees
 
--- the rows are not the tables of any state
+-- the rows don't form the tables of any state
 abbrev pub HoldsNoState : Database → Type 0
 HoldsNoState db = (s : OfficeState) → ¬ HoldsState db s
 
--- an office, of this version, whose rows are not the tables of any state
+-- an office of this version whose rows don't form the tables of any state
 pub record IsDamaged (db : Database) : Type 0 where
   pub some_office : ¬ HasNoOffice db
   pub not_newer : ¬ IsNewer db
   pub not_older : ¬ IsOlder db
   pub no_state : HoldsNoState db
 
--- the database is one for which opening an office reports this fault; a failed allocation or a failed store may be reported for any
-abbrev pub IsToldBy : Database → Fault → Type 0
-IsToldBy db Memory = ⊤
-IsToldBy db Store = ⊤
-IsToldBy db Damaged = IsDamaged db
-IsToldBy db Closed = ⊥
-IsToldBy db WrongDatabase = HasNoOffice db
-IsToldBy db NewerSchema = IsNewer db
-IsToldBy db OlderSchema = (¬ HasNoOffice db) × HasVersion 1 db
+-- the database is one for which opening an office reports this fault; a failed allocation or a failed store may be reported for any database
+abbrev pub IsFaultOf : Database → Fault → Type 0
+IsFaultOf db Memory = ⊤
+IsFaultOf db Store = ⊤
+IsFaultOf db Damaged = IsDamaged db
+IsFaultOf db Closed = ⊥
+IsFaultOf db WrongDatabase = HasNoOffice db
+IsFaultOf db NewerSchema = IsNewer db
+IsFaultOf db OlderSchema = (¬ HasNoOffice db) × HasVersion 1 db
 
--- a sound database that contains exactly the tables of this state, as a stop leaves it
+-- a sound database that contains exactly the tables of the given state, as a stop leaves it
 pub record IsLeftAt (s : OfficeState) (db : Database) : Type 0 where
   pub is : IsState s
   pub sound : IsDatabase db
@@ -72,7 +72,7 @@ pub record IsBlank (st : State) : Type 0 where
 
 -- ---- the parts of an opening
 
--- the fault reported for the rows of a table: `Damaged` only if they are not those of any state
+-- the fault reported for the rows of a table: `Damaged` only if no state has them
 abbrev pub TellsNoState : Database → Fault → Type 0
 TellsNoState db Memory = ⊤
 TellsNoState db Store = ⊤
@@ -82,39 +82,39 @@ TellsNoState db WrongDatabase = ⊥
 TellsNoState db NewerSchema = ⊥
 TellsNoState db OlderSchema = ⊥
 
--- the row is that of an office of this version
+-- the row is that of an office of the given version
 abbrev pub IsVersion : ℕ → Row → Type 0
 IsVersion version row = at (column_places Office) row ≡ office_row version
 
 -- the fault reported for a row of the office table
-abbrev pub TellsRow : Row → Fault → Type 0
-TellsRow row Memory = ⊤
-TellsRow row Store = ⊥
-TellsRow row Damaged = (version : ℕ) → 0 < version → ¬ IsVersion version row
-TellsRow row Closed = ⊥
-TellsRow row WrongDatabase = ⊥
-TellsRow row NewerSchema = (version : ℕ) × (this_version < version) × IsVersion version row
-TellsRow row OlderSchema = IsVersion 1 row
+abbrev pub FaultOfRow : Row → Fault → Type 0
+FaultOfRow row Memory = ⊤
+FaultOfRow row Store = ⊥
+FaultOfRow row Damaged = (version : ℕ) → 0 < version → ¬ IsVersion version row
+FaultOfRow row Closed = ⊥
+FaultOfRow row WrongDatabase = ⊥
+FaultOfRow row NewerSchema = (version : ℕ) × (this_version < version) × IsVersion version row
+FaultOfRow row OlderSchema = IsVersion 1 row
 
 -- the fault reported for the rows of the office table
-abbrev pub TellsRows : List Row → Fault → Type 0
-TellsRows rows Memory = ⊤
-TellsRows rows Store = ⊥
-TellsRows rows Damaged = (rows ≢ []) × ((row : Row) → rows ≡ row ∷ [] → (version : ℕ) → 0 < version → ¬ IsVersion version row)
-TellsRows rows Closed = ⊥
-TellsRows rows WrongDatabase = rows ≡ []
-TellsRows rows NewerSchema = (row : Row) × (rows ≡ row ∷ []) × ((version : ℕ) × (this_version < version) × IsVersion version row)
-TellsRows rows OlderSchema = (row : Row) × (rows ≡ row ∷ []) × IsVersion 1 row
+abbrev pub FaultOfRows : List Row → Fault → Type 0
+FaultOfRows rows Memory = ⊤
+FaultOfRows rows Store = ⊥
+FaultOfRows rows Damaged = (rows ≢ []) × ((row : Row) → rows ≡ row ∷ [] → (version : ℕ) → 0 < version → ¬ IsVersion version row)
+FaultOfRows rows Closed = ⊥
+FaultOfRows rows WrongDatabase = rows ≡ []
+FaultOfRows rows NewerSchema = (row : Row) × (rows ≡ row ∷ []) × ((version : ℕ) × (this_version < version) × IsVersion version row)
+FaultOfRows rows OlderSchema = (row : Row) × (rows ≡ row ∷ []) × IsVersion 1 row
 
 -- the fault reported for the office table
-abbrev pub TellsOffice : Database → Fault → Type 0
-TellsOffice db Memory = ⊤
-TellsOffice db Store = ⊤
-TellsOffice db Damaged = (tuples Office db.trees ≢ []) × ((¬ IsNewer db) × ((¬ IsOlder db) × ¬ HasVersion this_version db))
-TellsOffice db Closed = ⊥
-TellsOffice db WrongDatabase = tuples Office db.trees ≡ []
-TellsOffice db NewerSchema = IsNewer db
-TellsOffice db OlderSchema = HasVersion 1 db
+abbrev pub FaultOfOfficeTable : Database → Fault → Type 0
+FaultOfOfficeTable db Memory = ⊤
+FaultOfOfficeTable db Store = ⊤
+FaultOfOfficeTable db Damaged = (tuples Office db.trees ≢ []) × ((¬ IsNewer db) × ((¬ IsOlder db) × ¬ HasVersion this_version db))
+FaultOfOfficeTable db Closed = ⊥
+FaultOfOfficeTable db WrongDatabase = tuples Office db.trees ≡ []
+FaultOfOfficeTable db NewerSchema = IsNewer db
+FaultOfOfficeTable db OlderSchema = HasVersion 1 db
 
 -- the tables whose rows are the entries of a state and of the tabulation of its counts
 abbrev pub has_entries : Table → Bool
@@ -130,15 +130,15 @@ has_entries Vote = true
 has_entries Third = true
 has_entries Office = false
 
--- all rows of each table of entries are those of these maps and of this tabulation
+-- all rows of each table of entries are those of the given maps and tabulation
 abbrev pub ListsMaps : Database → OfficeState → TabulationEntries → Type 0
 ListsMaps db s t = (u : Table) → has_entries u ≡ true → ListsEntries u db (tables_with s t u)
 
--- maps are a state, and this is the tabulation of its counts
+-- the given maps form a state, and the given tabulation is that of its counts
 abbrev pub IsTabulatedAs : OfficeState → TabulationEntries → Type 0
 IsTabulatedAs s t = IsState s × IsTabulationOf t s
 
--- each table of entries contains those of the state
+-- each table of entries contains the entries of the state
 pub record HoldsEntries (db : Database) (s : OfficeState) : Type 0 where
   pub is : IsState s
   pub entries : (t : Table) → has_entries t ≡ true → HoldsTable t (tables_of s t) db.trees

@@ -1,4 +1,4 @@
--- Overviews for the office alone: its wards, the batches of a ward, their papers as they count, the doubtful ones, differences between keyings, and receipts.
+-- Overviews for the office only: its wards; the batches of a ward, and their papers as counted; doubtful papers; differences between keyings; and receipts.
 use Rattle.std.specs.Prelude.{ℕ, Bool, not, ◌==◌, ◌&&◌, ◌++◌, if◌then◌else◌, List, [], ◌∷◌, map, find, codes, Option, Some, None, option_map}
 use Rattle.std.specs.List.{filter, flat_map, list_any}
 use Rattle.std.specs.Fmt.{decimal}
@@ -24,73 +24,73 @@ use Rattle.store.specs.declared.overviews.differences.Differences.{Differences}
 
 -- ---- the wards
 
--- a ward, its status, and, once it is declared, those elected and all its candidates
+-- a ward and its status; and, once it has been declared, the elected candidates and all candidates
 pub record WardView : Type 0 where
   pub ward : WardEntry
   pub status : StatusEntry
   pub elected : Option (List ℕ)
   pub candidates : List CandidateEntry
 
--- those elected in a ward, once it is declared
+-- the elected candidates of a ward, once it has been declared
 abbrev pub declared_in : OfficeState → WardEntry → Option (List ℕ)
 declared_in s w = if is_declared w.phase then Some (elected_of (election_of s w)) else None
 
--- the candidates of a ward, once it is declared
+-- the candidates of a ward, once it has been declared
 abbrev pub candidates_told : OfficeState → WardEntry → List CandidateEntry
 candidates_told s w = if is_declared w.phase then candidates_of s w.number else []
 
 abbrev pub ward_view_of : OfficeState → WardEntry → WardView
 ward_view_of s w = record { ward = w; status = status_of s w; elected = declared_in s w; candidates = candidates_told s w }
 
--- all wards, in the order of their numbers
+-- all wards, ordered by number
 abbrev pub ward_views : OfficeState → List WardView
 ward_views s = map (ward_view_of s) s.wards
 
 -- ---- the batches of a ward
 
--- a batch is taken, or it differs; otherwise it waits for keyings
+-- the standing of a batch: taken, differing, or else waiting for keyings
 abbrev pub standing_by : List (List KeyedEntry) → BatchStanding
 standing_by keyings = if are_taken keyings then Taken else if differ keyings then Differing else Waiting
 
 abbrev pub standing_of : OfficeState → BatchEntry → BatchStanding
 standing_of s b = standing_by (keyings_now s b)
 
--- a clerk of a batch, and whether the clerk has keyed its current round
+-- a clerk of a batch, and whether that clerk has keyed the batch's current round
 abbrev pub clerk_view_of : OfficeState → BatchEntry → ℕ → ℕ × Bool
 clerk_view_of s b clerk = (clerk, is_keyed (keying_of s b.number b.round clerk))
 
--- a text, followed by a line end
+-- a text, followed by a newline
 abbrev pub in_a_line : List ℕ → List ℕ
 in_a_line text = text ++ codes "\n"
 
--- candidates' numbers, and the marks of papers, one per line
+-- candidate numbers, one per line; and the marks of papers, one paper per line
 abbrev pub candidate_lines : List ℕ → List ℕ
 candidate_lines columns = flat_map (λ c. in_a_line (decimal c)) columns
 
 abbrev pub paper_lines : List KeyedEntry → List ℕ
 paper_lines papers = flat_map (λ (k : KeyedEntry). in_a_line k.marks) papers
 
--- The papers of a batch that is taken, as one text: the numbers of the ward's candidates, one per line; an empty line; and the marks of the papers, one paper
--- per line. Neither numbers nor marks contain a line end. So two such texts are equal if and only if the candidates' numbers and all papers are.
+-- The papers of a taken batch, as one text: the numbers of the ward's candidates, one per line; an empty line; and the marks of the papers, one paper per
+-- line. Neither numbers nor marks contain a newline, so two such texts are equal if and only if the candidate numbers and all papers are equal.
 unfoldable pub pile_text : List ℕ → List KeyedEntry → List ℕ
 pile_text columns papers = candidate_lines columns ++ (codes "\n" ++ paper_lines papers)
 
 abbrev pub pile_text_of : OfficeState → BatchEntry → List ℕ
 pile_text_of s b = pile_text (columns_of (candidates_of s b.ward)) (taken_papers s b)
 
--- the text of its papers, if it is taken
+-- the text of a batch's papers, if it is taken
 abbrev pub pile_in : OfficeState → BatchEntry → Option (List ℕ)
 pile_in s b = if is_taken s b then Some (pile_text_of s b) else None
 
--- another batch is taken with exactly the same papers, in a ward with the same candidates' numbers
+-- another batch is taken with exactly the same papers, in a ward with the same candidate numbers
 abbrev pub is_twin : OfficeState → BatchEntry → BatchEntry → Bool
 is_twin s b c = not (c.number == b.number) && (is_taken s c && bytes_eq (pile_text_of s b) (pile_text_of s c))
 
--- the number of the first such batch
+-- the number of the first twin of a batch, if the batch is taken and has one
 abbrev pub twin_of : OfficeState → BatchEntry → Option ℕ
 twin_of s b = if is_taken s b then option_map (λ (c : BatchEntry). c.number) (find (is_twin s b) s.batches) else None
 
--- a batch, its clerks in the order of their numbers, its standing, how many of its doubtful papers have no verdict, and its twin
+-- a batch, its clerks ordered by number, its standing, how many of its doubtful papers have no verdict, and its twin
 pub record BatchView : Type 0 where
   pub batch : BatchEntry
   pub clerks : List (ℕ × Bool)
@@ -104,15 +104,15 @@ batch_view_with s b twin = record { batch = b; clerks = map (clerk_view_of s b) 
 abbrev pub batch_view_of : OfficeState → BatchEntry → BatchView
 batch_view_of s b = batch_view_with s b (twin_of s b)
 
--- the batches of a ward, in the order of their numbers
+-- the batches of a ward, ordered by number
 abbrev pub batch_views : OfficeState → ℕ → List BatchView
 batch_views s ward = map (batch_view_of s) (batches_of s ward)
 
--- the same for the ward with this number, if there is one
+-- the batches of the ward with the given number, if there is one, ordered by number
 abbrev pub batch_views_at : OfficeState → ℕ → Option (List BatchView)
 batch_views_at s ward = option_map (λ (w : WardEntry). batch_views s w.number) (ward_at s ward)
 
--- ---- papers as they count
+-- ---- papers as they are counted
 
 -- a ballot paper of a batch, and the judgement by which it is counted
 pub record PaperView : Type 0 where
@@ -123,7 +123,7 @@ pub record PaperView : Type 0 where
 abbrev pub paper_view_of : List ℕ → List JudgedEntry → KeyedEntry → PaperView
 paper_view_of columns verdicts k = record { batch = k.batch; paper = k.paper; judgement = judgement_on columns verdicts k }
 
--- the papers that a batch is taken with, each as it counts; none if it isn't taken
+-- the papers on which the keyings agree, each as counted; empty if the batch isn't taken
 abbrev pub papers_in : List ℕ → Pile → List PaperView
 papers_in columns pile = map (paper_view_of columns pile.verdicts) (agreed pile.keyings)
 
@@ -139,33 +139,33 @@ papers_by candidates pile = record { taken = are_taken pile.keyings; candidates 
 abbrev pub papers_of : OfficeState → BatchEntry → PapersView
 papers_of s b = papers_by (candidates_of s b.ward) (pile_of s b)
 
--- the judgements by which they are counted
+-- the judgements by which the papers of a batch are counted
 abbrev pub judgements_told : OfficeState → BatchEntry → List Judgement
 judgements_told s b = map (λ (p : PaperView). p.judgement) (papers_of s b).papers
 
--- the same for the batch with this number, if there is one
+-- whether the batch with the given number is taken, the candidates of its ward, and its papers; `None` if there is no such batch
 abbrev pub papers_at : OfficeState → ℕ → Option PapersView
 papers_at s batch = option_map (papers_of s) (batch_at s batch)
 
 -- ---- doubtful papers
 
--- a doubtful paper of a batch as it counts, and the verdict on it, if there is one
+-- a doubtful paper of a batch, as it is counted, and the verdict on it, if there is one
 pub record DoubtfulView : Type 0 where
   pub counted : PaperView
   pub verdict : Option JudgedEntry
 
--- the verdict on the paper with this number, among the verdicts of a batch
+-- the verdict on the paper with the given number, among the verdicts of a batch
 abbrev pub verdict_on : List JudgedEntry → ℕ → Option JudgedEntry
 verdict_on verdicts paper = find (λ (v : JudgedEntry). v.paper == paper) verdicts
 
 abbrev pub doubtful_view_of : List ℕ → List JudgedEntry → KeyedEntry → DoubtfulView
 doubtful_view_of columns verdicts k = record { counted = paper_view_of columns verdicts k; verdict = verdict_on verdicts k.paper }
 
--- the doubtful ones among the papers of a batch
+-- the doubtful papers among those of a batch
 abbrev pub doubtful_among : List ℕ → List JudgedEntry → List KeyedEntry → List DoubtfulView
 doubtful_among columns verdicts papers = map (doubtful_view_of columns verdicts) (filter is_doubtful papers)
 
--- the doubtful papers of a batch, if it is taken, by the columns of its ward
+-- the doubtful papers of a batch, if it is taken; the columns are those of its ward
 abbrev pub doubtful_in : OfficeState → List ℕ → BatchEntry → List DoubtfulView
 doubtful_in s columns b = doubtful_among columns (verdicts_of s b.number) (taken_papers s b)
 
@@ -181,48 +181,48 @@ pub record DoubtfulPapersView : Type 0 where
 abbrev pub doubtful_papers : OfficeState → ℕ → DoubtfulPapersView
 doubtful_papers s ward = record { candidates = candidates_of s ward; papers = doubtful_views s ward }
 
--- the same for the ward with this number, if there is one
+-- the candidates and the doubtful papers of the ward with the given number, if there is one
 abbrev pub doubtful_at : OfficeState → ℕ → Option DoubtfulPapersView
 doubtful_at s ward = option_map (λ (w : WardEntry). doubtful_papers s w.number) (ward_at s ward)
 
 -- ---- differences
 
--- a keying has this paper with these marks
+-- whether a keying has the given paper with the same marks
 abbrev pub has_alike : KeyedEntry → List KeyedEntry → Bool
 has_alike k keying = list_any (λ (j : KeyedEntry). (j.paper == k.paper) && bytes_eq j.marks k.marks) keying
 
--- some of the other keyings have it with other marks
-abbrev pub is_apart : List (List KeyedEntry) → KeyedEntry → Bool
-is_apart others k = list_any (λ keying. not (has_alike k keying)) others
+-- whether another keying has the paper with different marks
+abbrev pub differs_in : List (List KeyedEntry) → KeyedEntry → Bool
+differs_in others k = list_any (λ keying. not (has_alike k keying)) others
 
--- the numbers of such papers of a keying
-abbrev pub apart_among : List (List KeyedEntry) → List KeyedEntry → List ℕ
-apart_among others keying = map (λ (k : KeyedEntry). k.paper) (filter (is_apart others) keying)
+-- the numbers of the papers in a keying that another keying has with different marks
+abbrev pub differing_among : List (List KeyedEntry) → List KeyedEntry → List ℕ
+differing_among others keying = map (λ (k : KeyedEntry). k.paper) (filter (differs_in others) keying)
 
--- the numbers of the papers on which some keyings of a round differ: those that the first keying has with other marks than another one
-abbrev pub papers_apart : List (List KeyedEntry) → List ℕ
-papers_apart [] = []
-papers_apart (keying ∷ others) = apart_among others keying
+-- the numbers of the papers on which keyings of a round differ: those that another keying has with marks different from the first
+abbrev pub differing_papers : List (List KeyedEntry) → List ℕ
+differing_papers [] = []
+differing_papers (keying ∷ others) = differing_among others keying
 
--- a batch, whether its keyings differ, and on which papers those of its current round do
+-- a batch, whether its keyings differ, and the papers on which the keyings of its current round differ
 pub record DifferencesView : Type 0 where
   pub batch : BatchEntry
   pub differs : Bool
   pub papers : List ℕ
 
 abbrev pub differences_by : BatchEntry → List (List KeyedEntry) → DifferencesView
-differences_by b keyings = record { batch = b; differs = differ keyings; papers = papers_apart keyings }
+differences_by b keyings = record { batch = b; differs = differ keyings; papers = differing_papers keyings }
 
 abbrev pub differences_of : OfficeState → BatchEntry → DifferencesView
 differences_of s b = differences_by b (keyings_now s b)
 
--- the same for the batch with this number, if there is one
+-- the batch with the given number, if there is one, and its differences
 abbrev pub differences_at : OfficeState → ℕ → Option DifferencesView
 differences_at s batch = option_map (differences_of s) (batch_at s batch)
 
 -- ---- receipts
 
--- the receipts of an actor, or of all, by actor and id
+-- the receipts of one actor, or of all, ordered by actor and id
 abbrev pub receipts_of : OfficeState → Option ℕ → List ReceiptEntry
 receipts_of s None = s.receipts
 receipts_of s (Some actor) = filter (λ (r : ReceiptEntry). r.actor == actor) s.receipts

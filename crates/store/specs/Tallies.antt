@@ -1,4 +1,4 @@
--- The tallies of the batches of a ward.
+-- The tallies of a ward's batches.
 use Rattle.std.specs.Prelude.{◌≡◌, ◌<◌, ◌^◌, if◌then◌else◌, List, map, length}
 use Rattle.std.specs.List.{filter}
 use Rattle.register.specs.declared.verdicts.JudgedPaper.{JudgedPaper}
@@ -8,7 +8,7 @@ use Rattle.store.specs.declared.status.Tally.{Tally}
 use Rattle.store.specs.declared.views.papers.Keyings.{Keyings}
 use Rattle.store.specs.Keyings.{keyings_by}
 
--- the tally of a batch, by its keyings and the verdicts on its papers
+-- the tally of a batch, from its keyings and the verdicts on its papers
 abbrev pub tally_by : Keyings → List JudgedPaper → Tally
 tally_by keyings verdicts =
     record {
@@ -17,7 +17,8 @@ tally_by keyings verdicts =
       doubtful_open = length (filter (is_open (map judged_entry verdicts)) (agreed (keyings_by keyings)));
     }
 
--- how many of these batches are taken, how many differ, and how many doubtful papers of the taken ones have no verdict, each exact if it is below 2^64
+-- how many of the given batches are taken, how many differ, and how many doubtful papers in the taken batches have no verdict; each number is exact if it is
+-- below 2^64
 pub record IsTally (s : OfficeState) (batches : List BatchEntry) (tally : Tally) : Type 0 where
   pub taken : length (filter (is_taken s) batches) < 2 ^ 64 → tally.taken ≡ length (filter (is_taken s) batches)
   pub differing : length (filter (is_differing s) batches) < 2 ^ 64 → tally.differing ≡ length (filter (is_differing s) batches)

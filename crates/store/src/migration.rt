@@ -1,4 +1,4 @@
-//! The migration of an office that an earlier program made.
+//! Migrates an office made by an earlier program.
 
 ghost use Rattle.std.specs.Prelude.{◌≡◌, ◌⊎◌, false, Err, IfOk, IfErr};
 ghost use Rattle.sqlite.specs.Effect.{Database, IsDatabase};
@@ -12,7 +12,7 @@ ghost use Rattle.tables.specs.Reading.{OnlyReads};
 ghost use Rattle.store.specs.declared.older.OlderForm.{OlderForm};
 ghost use Rattle.store.specs.StateTables.{tables_of, HoldsState, IsAt, Commits, KeepsConnection};
 ghost use Rattle.store.specs.Openings.{HasVersion};
-ghost use Rattle.store.specs.Migrations.{older_tables, IsOlderState, HoldsOlder, RestsOlder, StoresOlder, WasAt, IsToldInMigration, FailsToMigrate, Lacks, TellsOlder, LeavesOlderOr, Migrates};
+ghost use Rattle.store.specs.Migrations.{older_tables, IsOlderState, HoldsOlder, RestsOlder, StoresOlder, WasAt, IsToldInMigration, FailsToMigrate, IsCompletedBy, TellsOlder, LeavesOlderOr, Migrates};
 
 use crate::older::{Older, read_older};
 use crate::opening::check;
@@ -30,7 +30,7 @@ pub enum Migrated {
     Already,
 }
 
-/// Writes what an older office lacks, and the version, in one transaction.
+/// Writes the tables and rows that an older office lacks, and the version, in one transaction.
 fn commit_migration<S: Alter>(
     alloc: Global,
     conn: &mut Connection<S>,
@@ -38,7 +38,7 @@ fn commit_migration<S: Alter>(
 ) -> Result<(), Fault>
     requires { conn.old.in_transaction ≡ false }
     ensures { Commits (state S.Store conn.old) (state S.Store conn.new) result
-        (λ (s : OfficeState) st. RestsOlder older.now.form s st × Lacks older.now.form s (addition_entries older.now.missing)) tables_of }
+        (λ (s : OfficeState) st. RestsOlder older.now.form s st × IsCompletedBy older.now.form s (addition_entries older.now.missing)) tables_of }
 {
     let mut tx = conn.transaction();
     write_migration(alloc, &mut tx, older)?;
@@ -46,7 +46,7 @@ fn commit_migration<S: Alter>(
     Ok(())
 }
 
-/// Migrates an office of the first version to this program's.
+/// Migrates an office of the first version to this program's version.
 fn migrate_older<S: Alter>(alloc: Global, conn: &mut Connection<S>) -> Result<Migrated, Fault>
     requires { conn.old.in_transaction ≡ false }
     ensures opened { HasCleanDisk (state S.Store conn.new) → (db : Database) → IsOlderSchema db.schema → HasVersion 1 db → RestsAt db (state S.Store conn.old)
@@ -67,7 +67,7 @@ fn migrate_older<S: Alter>(alloc: Global, conn: &mut Connection<S>) -> Result<Mi
     Ok(Migrated::Done)
 }
 
-/// Opens an office as `open_from` does, and migrates it if `open_from` finds that an earlier program made it.
+/// Opens an office as `open_from` does, and migrates it if it turns out to have been made by an earlier program.
 fn open_or_migrate<S: Alter>(alloc: Global, conn: &mut Connection<S>) -> Result<Migrated, Fault>
     requires { conn.old.in_transaction ≡ false }
     ensures opened { HasCleanDisk (state S.Store conn.new) → (db : Database) → IsOurs db.schema → IsOlderSchema db.schema → RestsAt db (state S.Store conn.old)
@@ -94,28 +94,30 @@ fn open_or_migrate<S: Alter>(alloc: Global, conn: &mut Connection<S>) -> Result<
     }
 }
 
-/// Older rows determine their state: states with equal older tables of the same form are equal, so a database
-/// represents one of them. What a stop left of an older office is found again.
-fn older_tables_tell_states()
+/// Does nothing; it is a lemma for callers. Older rows determine their state: states with equal older tables of the
+/// same form are equal, so a database represents at most one of them. What a stop has left of an older office can be
+/// identified again.
+fn older_tables_determine_states()
     ensures equal { (form : OlderForm) (s t : OfficeState) → IsOlderState s → IsOlderState t → SameContents (older_tables form s) (older_tables form t) → s ≡ t }
     ensures alone { (db : Database) (form other : OlderForm) (s t : OfficeState) → HoldsOlder form db s → HoldsOlder other db t → (form ≡ other) × (s ≡ t) }
     ensures again { (form : OlderForm) (s : OfficeState) (db : Database) → IsDatabase db → StoresOlder form s db.trees → HoldsOlder form db s }
 {}
 
-/// Migrates an office that an earlier program made to this program's version. One transaction creates the tables that
-/// the office lacks, inserts the rows of the tabulation of its counts, and sets the version. Whatever was accepted
-/// stays, with its receipts. No office is open afterwards.
+/// Migrates an office made by an earlier program to this program's version. One transaction creates the tables that the
+/// office lacks, inserts the rows of the tabulation of its counts, and sets the version. Everything that was accepted
+/// remains, with its receipts. No office is open afterwards.
 ///
-/// The rows are checked first, as by `Store::open_from`; those of an older office by the conditions that held for it.
-/// If the office already has this program's version, nothing else is done and nothing is changed. `WrongDatabase` and
-/// `NewerSchema` are those of `open_from`. `Damaged` if the rows are not the tables of any state, or if a table is
-/// missing or there is one too many; then nothing is changed. After `Memory` and `Store` either the older office is
-/// unchanged, or it is the whole new one; if there was no older office, nothing is changed. `Store` if the store
-/// failed, if rowids aren't distinct integers, or if the connection is inside a transaction.
+/// The rows are first checked as in `Store::open_from`; those of an older office are checked against the conditions
+/// that applied to it. If the office already has this program's version, nothing else is done and nothing is changed.
+/// `WrongDatabase` and `NewerSchema` are returned just as `open_from` returns them. Returns `Damaged` if the rows don't
+/// form the tables of any state, if a table is missing, or if there is an extra one; in that case nothing is changed.
+/// After `Memory` or `Store` an older office is either unchanged or completely migrated; if there was no older office,
+/// nothing is changed. Returns `Store` if the store failed, if rowids aren't distinct integers, or if the connection is
+/// inside a transaction.
 pub fn migrate<S: Alter>(alloc: Global, conn: &mut Connection<S>) -> Result<Migrated, Fault>
     ensures { Migrates S.Store conn.old conn.new result }
 {
-    older_tables_tell_states();
+    older_tables_determine_states();
     if !conn.is_autocommit() {
         return Err(Fault::Store);
     }

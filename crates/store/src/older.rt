@@ -1,4 +1,4 @@
-//! An office that an earlier program made: which tables it has, and the state that they represent.
+//! An office made by an earlier program: its tables, and the state they represent.
 
 ghost use Rattle.std.specs.Prelude.{◌≡◌, ◌≢◌, false, [], IfOk, IfErr, IfSome, IfNone, OnOk, IsTrue};
 ghost use Rattle.std.specs.List.{list_any};
@@ -16,7 +16,7 @@ ghost use Rattle.register.specs.declared.receipt.Receipt.{Receipt as ReceiptValu
 ghost use Rattle.store.specs.declared.older.OlderForm.{OlderForm};
 ghost use Rattle.store.specs.Openings.{HasVersion, IsTabulatedAs};
 ghost use Rattle.store.specs.Listings.{Lists, BeginsFirst, TellsStrange, ListsFirst};
-ghost use Rattle.store.specs.Migrations.{tables_in, name_of, tabulation_in, is_about_third, IsBare, IsOlderOf, Lacks, FoundOlder, TellsOlder};
+ghost use Rattle.store.specs.Migrations.{tables_in, name_of, tabulation_in, is_about_third, IsBare, IsOlderOf, IsCompletedBy, FoundOlder, TellsOlder};
 
 use crate::listing::{counted_rows, first_rows};
 use crate::opening::tabulation_of_state;
@@ -27,23 +27,23 @@ use std::alloc::Global;
 use tables::Fault;
 use tables::presence::{TablesPresent, tables_present};
 
-/// Which tables an older office has.
+/// The set of tables that an older office has.
 #[derive(Clone, Copy, PartialEq, Eq)]
 pub enum OlderForm {
-    /// All but the table of third clerks.
+    /// All tables except the one for third clerks.
     WithCounts,
-    /// As in `WithCounts`, but also without the two tables of the tabulation of the counts.
+    /// Like `WithCounts`, but also without the two tables for the tabulation of the counts.
     WithoutCounts,
 }
 
-/// An older office, and the part of the tabulation of its counts that it lacks.
+/// The form of an older office, and the part of the tabulation of its counts that it lacks.
 #[derive(Drop)]
 pub(crate) struct Older {
     pub(crate) form: OlderForm,
     pub(crate) missing: Addition,
 }
 
-/// Returns which tables the database of an older office has, if it has those of one.
+/// Returns which of the tables a database has, if they are those of an older office.
 fn older_form<S: Alter>(conn: &Connection<S>) -> Option<OlderForm>
     ensures some { IfSome result (λ form. tables_present (state S.Store conn.now).now.schema ≡ name_of form) }
     ensures none { IfNone result ((form : OlderForm) → tables_present (state S.Store conn.now).now.schema ≢ name_of form) }
@@ -57,8 +57,8 @@ fn older_form<S: Alter>(conn: &Connection<S>) -> Option<OlderForm>
     }
 }
 
-/// Returns the entries of the tables of an older office, those of each table in key order. `Damaged` if the rows are
-/// not those of any state.
+/// Returns the entries of an older office's tables, each table's in key order. Returns `Damaged` if no state has these
+/// rows.
 fn older_rows<S: Alter>(
     alloc: Global,
     conn: &mut Connection<S>,
@@ -76,14 +76,14 @@ fn older_rows<S: Alter>(
     }
 }
 
-/// Returns whether a receipt is about a third clerk, a subject that no program before this one had.
+/// Returns whether a receipt is about a third clerk, a subject that no earlier program had.
 fn is_about_third(subject: &str) -> bool
     ensures { result ≡ is_about_third subject.now }
 {
     subject.as_bytes().starts_with(b"third ")
 }
 
-/// Returns whether some receipt is about a third clerk.
+/// Returns whether any receipt is about a third clerk.
 fn are_about_thirds(receipts: &[Receipt]) -> bool
     ensures { result ≡ list_any (λ (r : ReceiptValue). is_about_third (receipt_entry r).subject) receipts.now }
 {
@@ -92,11 +92,16 @@ fn are_about_thirds(receipts: &[Receipt]) -> bool
         .any(|receipt| is_about_third(&receipt.subject))
 }
 
-/// Returns the part of the tabulation that an office of this form lacks, if the part that it has is right.
-fn lacking(alloc: Global, form: OlderForm, rows: &Rows, counted: Tabulation) -> Option<Addition>
+/// Returns the part of the tabulation that an office of the given form lacks, if the part it has is correct.
+fn missing_tabulation(
+    alloc: Global,
+    form: OlderForm,
+    rows: &Rows,
+    counted: Tabulation,
+) -> Option<Addition>
     requires { IsBare form (state_of rows.now) (tabulated rows.now) }
     ensures some { IfSome result (λ a. IsTabulatedAs (state_of rows.now) (tabulation_entries counted)
-        → (tabulated rows.now ≡ tabulation_in form (state_of rows.now)) × Lacks form (state_of rows.now) (addition_entries a)) }
+        → (tabulated rows.now ≡ tabulation_in form (state_of rows.now)) × IsCompletedBy form (state_of rows.now) (addition_entries a)) }
     ensures none { IfNone result (IsTabulatedAs (state_of rows.now) (tabulation_entries counted) → ¬ (tabulated rows.now ≡ tabulation_in form (state_of rows.now))) }
 {
     match form {
@@ -115,12 +120,12 @@ fn lacking(alloc: Global, form: OlderForm, rows: &Rows, counted: Tabulation) -> 
     }
 }
 
-/// Returns what an older office lacks, if its rows, in key order, are those of a state: they meet every condition, and
-/// no receipt is about a third clerk. An error is `Memory`.
+/// Returns what an older office lacks, if its rows, which are in key order, are those of a state, that is, if they meet
+/// every condition and no receipt is about a third clerk. The only error is `Memory`.
 fn missing_of(alloc: Global, form: OlderForm, rows: &Rows) -> Result<Option<Addition>, Fault>
     requires rise { MapsAreSorted (state_of rows.now) }
     requires bare { IsBare form (state_of rows.now) (tabulated rows.now) }
-    ensures some { IfOk result (λ found. IfSome found (λ a. IsOlderOf form (state_of rows.now) (tabulated rows.now) × Lacks form (state_of rows.now) (addition_entries a))) }
+    ensures some { IfOk result (λ found. IfSome found (λ a. IsOlderOf form (state_of rows.now) (tabulated rows.now) × IsCompletedBy form (state_of rows.now) (addition_entries a))) }
     ensures none { IfOk result (λ found. IfNone found (¬ IsOlderOf form (state_of rows.now) (tabulated rows.now))) }
     ensures cause { IfErr result (λ f. f ≡ Fault.Memory) }
 {
@@ -128,13 +133,13 @@ fn missing_of(alloc: Global, form: OlderForm, rows: &Rows) -> Result<Option<Addi
         return Ok(None);
     }
     match tabulation_of_state(alloc, rows) {
-        Ok(Some(counted)) => Ok(lacking(alloc, form, rows, counted)),
+        Ok(Some(counted)) => Ok(missing_tabulation(alloc, form, rows, counted)),
         Ok(None) => Ok(None),
         Err(fault) => Err(fault),
     }
 }
 
-/// Reads an older office of this form, and checks its rows.
+/// Reads an older office of the given form, and checks its rows.
 fn read_form<S: Alter>(
     alloc: Global,
     conn: &mut Connection<S>,
@@ -159,8 +164,8 @@ fn read_form<S: Alter>(
     }
 }
 
-/// Reads an older office, and changes nothing. `Damaged` if the tables that the database has are not those of an older
-/// office, or if the rows are not those of any state.
+/// Reads an older office, and changes nothing. Returns `Damaged` if the database's tables are not those of an older
+/// office, or if no state has these rows.
 pub(crate) fn read_older<S: Alter>(alloc: Global, conn: &mut Connection<S>) -> Result<Older, Fault>
     requires { conn.old.in_transaction ≡ false }
     ensures found { HasCleanDisk (state S.Store conn.new) → (db : Database) → IsOlderSchema db.schema → HasVersion 1 db → RestsAt db (state S.Store conn.old)

@@ -14,7 +14,7 @@ ghost use Rattle.tables.specs.Presence.{IsOurs};
 ghost use Rattle.tables.specs.Reading.{OnlyReads, FailsToList};
 ghost use Rattle.store.specs.EntryRows.{this_version};
 ghost use Rattle.store.specs.StateTables.{HoldsState};
-ghost use Rattle.store.specs.Openings.{IsToldBy, TellsNoState, IsVersion, TellsRow, TellsRows, HasVersion, TellsOffice, IsTabulatedAs, HoldsEntries};
+ghost use Rattle.store.specs.Openings.{IsFaultOf, TellsNoState, IsVersion, FaultOfRow, FaultOfRows, HasVersion, FaultOfOfficeTable, IsTabulatedAs, HoldsEntries};
 
 use crate::listing::all_rows;
 use crate::writing::VERSION;
@@ -30,10 +30,10 @@ use tables::presence::{has_every_table, has_table};
 use tables::value_conversion::integer_at;
 use tables::{Fault, Table};
 
-/// Checks that the row is that of an office of this program's version.
+/// Checks that the row is that of an office with this program's version.
 fn check_row(row: &Row) -> Result<(), Fault>
     ensures version { OnOk result (IsVersion this_version row.now) }
-    ensures told { IfErr result (TellsRow row.now) }
+    ensures told { IfErr result (FaultOfRow row.now) }
 {
     let one = integer_at(row, 0)?;
     let version = integer_at(row, 1)?;
@@ -52,10 +52,10 @@ fn check_row(row: &Row) -> Result<(), Fault>
     Ok(())
 }
 
-/// Checks that there is one row, that of an office of this program's version.
+/// Checks that there is exactly one row, that of an office with this program's version.
 fn check_rows(rows: &[Row]) -> Result<(), Fault>
     ensures version { OnOk result ((row : _) × (rows.now ≡ row ∷ []) × IsVersion this_version row) }
-    ensures told { IfErr result (TellsRows rows.now) }
+    ensures told { IfErr result (FaultOfRows rows.now) }
 {
     if rows.is_empty() {
         return Err(Fault::WrongDatabase);
@@ -67,14 +67,14 @@ fn check_rows(rows: &[Row]) -> Result<(), Fault>
     Ok(())
 }
 
-/// Checks that the office table has the row of this version; faults are returned in the order in which opening an
-/// office reports them.
-fn check_office<S: Alter>(conn: &mut Connection<S>) -> Result<(), Fault>
+/// Checks that the office table has the row of this version, and returns faults in the order in which opening an office
+/// reports them.
+fn check_office<S: Alter>(alloc: Global, conn: &mut Connection<S>) -> Result<(), Fault>
     requires { conn.old.in_transaction ≡ false }
     ensures holds { HasCleanDisk (state S.Store conn.new) → (db : Database) → BeginsTo Table.Office db.schema → IsDatabase db → RestsAt db (state S.Store conn.old)
         → OnOk result (HasVersion this_version db) }
     ensures told { HasCleanDisk (state S.Store conn.new) → (db : Database) → BeginsTo Table.Office db.schema → IsDatabase db → RestsAt db (state S.Store conn.old)
-        → IfErr result (TellsOffice db) }
+        → IfErr result (FaultOfOfficeTable db) }
     ensures fails { HasCleanDisk (state S.Store conn.new) → (db : Database) → BeginsTo Table.Office db.schema → RestsAt db (state S.Store conn.old)
         → IfErr result (FailsToList db (state S.Store conn.old) (state S.Store conn.new)) }
     ensures older { HasCleanDisk (state S.Store conn.new) → (db : Database) → BeginsTo Table.Office db.schema → RestsAt db (state S.Store conn.old)
@@ -83,12 +83,13 @@ fn check_office<S: Alter>(conn: &mut Connection<S>) -> Result<(), Fault>
     ensures reads { OnlyReads (state S.Store conn.old) (state S.Store conn.new) }
     ensures outside { conn.new.in_transaction ≡ false }
 {
-    let rows = keyed_rows(conn, Table::Office)?;
+    let rows = keyed_rows(alloc, conn, Table::Office)?;
     check_rows(&rows)?;
     Ok(())
 }
 
-/// Returns the tabulation of the counts of maps in key order, if they are a state. An error is `Memory`.
+/// Returns the tabulation of the counts if the given maps, which are in key order, form a state. The only error is
+/// `Memory`.
 pub(crate) fn tabulation_of_state(alloc: Global, rows: &Rows) -> Result<Option<Tabulation>, Fault>
     requires { MapsAreSorted (state_of rows.now) }
     ensures some { IfOk result (λ found. IfSome found (λ t. IsTabulatedAs (state_of rows.now) (tabulation_entries t))) }
@@ -120,7 +121,8 @@ pub(crate) fn tabulation_of_state(alloc: Global, rows: &Rows) -> Result<Option<T
     }
 }
 
-/// Returns whether maps in key order are a state with this tabulation of its counts. An error is `Memory`.
+/// Returns whether the given maps, which are in key order, form a state with the given tabulation of its counts. The
+/// only error is `Memory`.
 fn are_of_state(alloc: Global, rows: &Rows) -> Result<bool, Fault>
     requires { MapsAreSorted (state_of rows.now) }
     ensures some { IfOk result (λ yes. yes ≡ true → IsTabulatedAs (state_of rows.now) (tabulated rows.now)) }
@@ -134,7 +136,7 @@ fn are_of_state(alloc: Global, rows: &Rows) -> Result<bool, Fault>
     }
 }
 
-/// Returns the rows of all tables but the office table, once they are checked to be those of a state.
+/// Returns the rows of all tables except the office table, after checking that they are those of a state.
 fn checked_tables<S: Alter>(alloc: Global, conn: &mut Connection<S>) -> Result<Rows, Fault>
     requires { conn.old.in_transaction ≡ false }
     ensures holds { HasCleanDisk (state S.Store conn.new) → (db : Database) → IsOfficeSchema db.schema → IsDatabase db → RestsAt db (state S.Store conn.old)
@@ -157,13 +159,13 @@ fn checked_tables<S: Alter>(alloc: Global, conn: &mut Connection<S>) -> Result<R
     }
 }
 
-/// Returns the rows of the office in the database, checked as by `check`.
+/// Returns the rows of the office in the database, checked as `check` does.
 pub(crate) fn checked_rows<S: Alter>(alloc: Global, conn: &mut Connection<S>) -> Result<Rows, Fault>
     requires { conn.old.in_transaction ≡ false }
     ensures holds { HasCleanDisk (state S.Store conn.new) → (db : Database) → IsOurs db.schema → RestsAt db (state S.Store conn.old)
         → IfOk result (λ rows. HoldsState db (state_of rows) × IsTabulationOf (tabulated rows) (state_of rows)) }
     ensures told { HasCleanDisk (state S.Store conn.new) → (db : Database) → IsOurs db.schema → RestsAt db (state S.Store conn.old)
-        → IfErr result (IsToldBy db) }
+        → IfErr result (IsFaultOf db) }
     ensures fails { HasCleanDisk (state S.Store conn.new) → (db : Database) → IsOurs db.schema → RestsAt db (state S.Store conn.old)
         → IfErr result (FailsToList db (state S.Store conn.old) (state S.Store conn.new)) }
     ensures older { HasCleanDisk (state S.Store conn.new) → (db : Database) → IsOurs db.schema → RestsAt db (state S.Store conn.old)
@@ -176,7 +178,7 @@ pub(crate) fn checked_rows<S: Alter>(alloc: Global, conn: &mut Connection<S>) ->
     if !has_table(conn, Table::Office) {
         return Err(Fault::WrongDatabase);
     }
-    check_office(conn)?;
+    check_office(alloc, conn)?;
     if !has_every_table(conn) {
         return Err(Fault::Damaged);
     }
@@ -187,14 +189,14 @@ pub(crate) fn checked_rows<S: Alter>(alloc: Global, conn: &mut Connection<S>) ->
 /// Checks that the database is the office of a state, by its rows alone, and changes nothing. Faults are returned in
 /// this order. `WrongDatabase` if there is no office table or no row in it. `Damaged` if that table is not an office's.
 /// `OlderSchema` if its version is 1, and `NewerSchema` if it is above 2, before any other table is read. Then
-/// `Damaged` if a table is missing or the rows are not those of any state. `Memory` may be returned at any point, and
-/// so may `Store`, if the store failed or rowids aren't distinct integers.
+/// `Damaged` if a table is missing or no state has these rows. `Memory` may be returned at any point, and so may
+/// `Store`, if the store failed or rowids aren't distinct integers.
 pub fn check<S: Alter>(alloc: Global, conn: &mut Connection<S>) -> Result<(), Fault>
     requires { conn.old.in_transaction ≡ false }
     ensures holds { HasCleanDisk (state S.Store conn.new) → (db : Database) → IsOurs db.schema → RestsAt db (state S.Store conn.old)
         → OnOk result ((s : OfficeState) × HoldsState db s) }
     ensures told { HasCleanDisk (state S.Store conn.new) → (db : Database) → IsOurs db.schema → RestsAt db (state S.Store conn.old)
-        → IfErr result (IsToldBy db) }
+        → IfErr result (IsFaultOf db) }
     ensures fails { HasCleanDisk (state S.Store conn.new) → (db : Database) → IsOurs db.schema → RestsAt db (state S.Store conn.old)
         → IfErr result (FailsToList db (state S.Store conn.old) (state S.Store conn.new)) }
     ensures older { HasCleanDisk (state S.Store conn.new) → (db : Database) → IsOurs db.schema → RestsAt db (state S.Store conn.old)

@@ -14,10 +14,10 @@ ghost use Rattle.tables.specs.Presence.{has_some_table, has_every_table, IsOurs}
 ghost use Rattle.tables.specs.Reading.{OnlyReads, FailsToList, FailsBy};
 ghost use Rattle.store.specs.Copies.{CopiesTo};
 ghost use Rattle.store.specs.StateTables.{tables_of, ChangesTo, HoldsState, IsAt, LeavesState, KeepsConnection};
-ghost use Rattle.store.specs.Openings.{IsBlank, IsToldBy, IsLeftAt};
+ghost use Rattle.store.specs.Openings.{IsBlank, IsFaultOf, IsLeftAt};
 ghost use Rattle.store.specs.Whole.{ReadsOffice};
 
-use crate::copying::{CopyFault, Holdings, copy as copy_between};
+use crate::copying::{CopyFault, OfficeCounts, copy as copy_between};
 use crate::opening::check;
 use crate::whole::read_office;
 use crate::writing::{write_change, write_new_office};
@@ -29,7 +29,7 @@ use std::marker::Model;
 use tables::Fault;
 use tables::presence::{has_every_table, has_some_table};
 
-/// A connection between two transactions, to the tables of an office. Contracts see it as that connection.
+/// A connection, between transactions, to the tables of an office. Contracts see the store as that connection.
 pub struct Store<S: Alter> {
     pub(crate) conn: Connection<S>,
     pub(crate) alloc: Global,
@@ -70,8 +70,8 @@ fn commit_change<S: Alter>(
     Ok(())
 }
 
-/// Creates the tables of an empty office in one transaction. If there are other tables, nothing in `sqlite`'s clauses
-/// guarantees which tables the statements made, so this checks that each exists.
+/// Creates the tables of an empty office in one transaction. If the database already has other tables, nothing in
+/// `sqlite`'s clauses guarantees which tables the statements created, so this function checks that each of ours exists.
 fn commit_new_office<S: Alter>(conn: &mut Connection<S>) -> Result<(), Fault>
     requires { conn.old.in_transaction ≡ false }
     ensures done { HasCleanDisk (state S.Store conn.new) → IsBlank (state S.Store conn.old) → OnOk result (Rests (tables_of empty_office) (state S.Store conn.new)) }
@@ -91,8 +91,9 @@ fn commit_new_office<S: Alter>(conn: &mut Connection<S>) -> Result<(), Fault>
     Ok(())
 }
 
-/// Rows determine their state: states with equal tables are equal, so a database represents one state.
-fn tables_tell_states()
+/// Does nothing; it is a lemma for callers. Rows determine their state: states with equal tables are equal, so a
+/// database represents at most one state.
+fn tables_determine_states()
     ensures equal { (s t : OfficeState) → IsState s → IsState t → SameContents (tables_of s) (tables_of t) → s ≡ t }
     ensures alone { (db : Database) → (s t : OfficeState) → HoldsState db s → HoldsState db t → s ≡ t }
 {}
@@ -100,8 +101,9 @@ fn tables_tell_states()
 impl<S: Alter> Store<S> {
     /// Creates the tables of an empty office in the connection's database.
     ///
-    /// `WrongDatabase` if a table with the name of one of ours already exists; then nothing is changed. `Store` also if
-    /// the connection is inside a transaction. After any other fault there are either all tables or none.
+    /// Returns `WrongDatabase` if a table with the name of one of ours already exists; in that case nothing is changed.
+    /// Also returns `Store` if the connection is inside a transaction. After any other fault, either all the tables
+    /// exist or none do.
     pub fn create(alloc: Global, mut conn: Connection<S>) -> Result<Self, (Fault, Connection<S>)>
         ensures made { IfOk result (λ store. HasCleanDisk (state S.Store store) → IsBlank (state S.Store conn) → IsAt empty_office (state S.Store store)) }
         ensures stops { IfErr result (λ e. HasCleanDisk (state S.Store e.1) → IsBlank (state S.Store conn)
@@ -128,14 +130,14 @@ impl<S: Alter> Store<S> {
 
     /// Opens the office in the connection's database, and changes nothing.
     ///
-    /// `WrongDatabase` if there is no office table or no row in it. `OlderSchema` if an earlier program made the
-    /// office, and `NewerSchema` if a later one did. `Damaged` if the rows are not the tables of any state. `Store` if
-    /// the store failed, if rowids aren't distinct integers, or if the connection is inside a transaction. With a fault
-    /// the connection is returned, its database unchanged.
+    /// Returns `WrongDatabase` if there is no office table or no row in it; `OlderSchema` if an earlier program made
+    /// the office, and `NewerSchema` if a later one did. Returns `Damaged` if the rows don't form the tables of any
+    /// state, and `Store` if the store failed, if rowids aren't distinct integers, or if the connection is inside a
+    /// transaction. The connection is returned with the fault, its database unchanged.
     pub fn open_from(alloc: Global, mut conn: Connection<S>) -> Result<Self, (Fault, Connection<S>)>
         ensures opened { IfOk result (λ store. HasCleanDisk (state S.Store store) → (db : Database) → IsOurs db.schema → RestsAt db (state S.Store conn)
             → (s : OfficeState) × HoldsState db s × IsAt s (state S.Store store)) }
-        ensures told { IfErr result (λ e. HasCleanDisk (state S.Store e.1) → (db : Database) → IsOurs db.schema → RestsAt db (state S.Store conn) → IsToldBy db e.0) }
+        ensures told { IfErr result (λ e. HasCleanDisk (state S.Store e.1) → (db : Database) → IsOurs db.schema → RestsAt db (state S.Store conn) → IsFaultOf db e.0) }
         ensures reopens { IfOk result (λ store. HasCleanDisk (state S.Store store) → (db : Database) → RestsAt db (state S.Store conn)
             → (s : OfficeState) → IsLeftAt s db → IsAt s (state S.Store store)) }
         ensures refuses { IfErr result (λ e. HasCleanDisk (state S.Store e.1) → (db : Database) → RestsAt db (state S.Store conn)
@@ -150,7 +152,7 @@ impl<S: Alter> Store<S> {
         ensures alone { (db : Database) → (s t : OfficeState) → HoldsState db s → HoldsState db t → s ≡ t }
         ensures equal { (s t : OfficeState) → IsState s → IsState t → SameContents (tables_of s) (tables_of t) → s ≡ t }
     {
-        tables_tell_states();
+        tables_determine_states();
         if !conn.is_autocommit() {
             return Err((Fault::Store, conn));
         }
@@ -160,8 +162,9 @@ impl<S: Alter> Store<S> {
         }
     }
 
-    /// Writes a change in one transaction, entirely or not at all. After a fault either the old tables or the new ones
-    /// may be found. Every fault occurs inside the transaction: the first call begins it, allocates nothing and can't fail.
+    /// Writes a change in one transaction, entirely or not at all. After a fault, either the old tables or the new ones
+    /// may be found. Every fault occurs inside the transaction, because the first call, which begins it, allocates
+    /// nothing and can't fail.
     pub fn commit(&mut self, change: &Change) -> Result<(), Fault>
         ensures done { HasCleanDisk (state S.Store self.new) → IsTrue (state S.Store self.old).is_open → (s : OfficeState) → IsAt s (state S.Store self.old)
             → IsTabulated s change.now → IsState (with_change (change_entry change.now) s) → OnOk result (IsAt (with_change (change_entry change.now) s) (state S.Store self.new)) }
@@ -178,20 +181,20 @@ impl<S: Alter> Store<S> {
 
     /// Copies the office into another database, which must be empty, in one transaction, and returns how much the copy
     /// contains. The office itself is only read.
-    pub fn copy_to<T: Alter>(&mut self, copy: &mut Connection<T>) -> Result<Holdings, CopyFault>
+    pub fn copy_to<T: Alter>(&mut self, copy: &mut Connection<T>) -> Result<OfficeCounts, CopyFault>
         ensures { CopiesTo S.Store T.Store self.old self.new copy.old copy.new result }
     {
         copy_between(self.alloc, &mut self.conn, copy)
     }
 
-    /// Returns all entries of the office, those of each table in key order. The office is only read.
+    /// Returns all entries of the office, each table's in key order. The office is only read.
     pub fn rows(&mut self) -> Result<Rows, Fault>
         ensures { ReadsOffice (state S.Store self.old) (state S.Store self.new) result }
     {
         read_office(self.alloc, &mut self.conn)
     }
 
-    /// Returns the allocator for what is read.
+    /// Returns the allocator used for everything that is read.
     pub(crate) fn allocator(&self) -> Global {
         self.alloc
     }

@@ -32,7 +32,7 @@ use sqlite::Alter;
 use tables::Fault;
 
 impl<S: Alter> Store<S> {
-    /// Returns the part of the state that an actor's command needs, and the count that a stage is to be added to.
+    /// Returns the part of the state that an actor's command needs, and the count to which a stage will be added.
     fn find_part(&mut self, actor: u32, command: &Command) -> Result<CommandInput, Fault>
         ensures { Loads S.Store self.old self.new result (λ s part. (input_entries part ≡ part_of s actor command.now) × IsCountFor s command.now part.count) }
     {
@@ -69,7 +69,8 @@ impl<S: Alter> Store<S> {
         }
     }
 
-    /// Returns what the machine sees of the tables for one request. If the request has a receipt, only that is read.
+    /// Returns what the machine sees of the tables for one request. If the request already has a receipt, only that
+    /// receipt is read.
     fn view_of<'a>(&mut self, actor: u32, id: &'a str, command: &Command) -> Result<View<'a>, Fault>
         ensures told { Loads S.Store self.old self.new result (λ s. IsViewOf s command.now) }
         ensures asked { IfOk result (λ view. (view.actor ≡ actor) × (view.id.now ≡ id.now)) }
@@ -92,8 +93,8 @@ impl<S: Alter> Store<S> {
         })
     }
 
-    /// Returns what the machine sees of the state for one request. Changes nothing, and adds nothing to what a stop may
-    /// leave. `Memory` or `Store` if a row can't be read.
+    /// Returns what the machine sees of the state for one request. Changes nothing, and doesn't add to the states that
+    /// a stop may leave behind. Returns `Memory` or `Store` if a row can't be read.
     pub fn load_view<'a>(
         &mut self,
         actor: u32,

@@ -1,4 +1,4 @@
-//! Changes, written inside a transaction.
+//! Writes changes inside a transaction.
 
 ghost use Rattle.std.specs.Prelude.{⊤};
 ghost use Rattle.register.specs.Offices.{empty_office};

@@ -1,23 +1,24 @@
-//! What the officer's console reads, of an office whose batch differs, and of the same office once the batch is taken and judged.
+//! What the officer's console reads from an office with a batch that differs, and from the same office once the batch
+//! has been taken and its doubtful paper judged.
 
 use super::begun::{DIFFERING, FOUR_COMES_LATE, GIVEN_OUT, NOMINATED, PAPER_BY_PAPER, SET};
 use super::clients::{Evening, TestClient};
 use super::disks::Disks;
 use super::steps::{Case, Step};
-use super::test_host::{Act, TestHost, do_act, hear_one_unchanged, play_acts};
+use super::test_host::{Act, TestHost, do_act, hear_one_unchanged, run_parts};
 use std::alloc::{AllocError, Global};
 use std::process::Abort;
 use std::test::Fail;
 
-/// A file of codes, with the office's.
+/// A file of codes that includes the office's.
 const CODES: &str = "4 kf7m-2wxt\noffice abcd-efgh-jkmn-prst\n";
 
-/// What the office sends with its code, and what clerk 4 sends.
+/// The credentials that the office sends, and those of clerk 4.
 const OFFICE: &str = "Basic b2ZmaWNlOmFiY2QtZWZnaC1qa21uLXByc3Q=";
 
 const FOUR: &str = "Basic NDprZjdtLTJ3eHQ=";
 
-/// A target, the code that is sent, and the status line and the body of the response.
+/// A target, the code sent with it, and the status line and body of the response.
 type Read = (&'static str, &'static str, &'static str, &'static str);
 
 const READ: &str = "200 OK";
@@ -26,7 +27,7 @@ const REFUSED: &str = "409 Conflict";
 
 const NOT_FOUND: &str = "404 Not Found";
 
-/// Batch 12 differs on paper 1.
+/// The responses while batch 12 differs on paper 1.
 const WHILE_IT_DIFFERS: [Read; 12] = [
     (
         "/office/wards",
@@ -102,7 +103,7 @@ const WHILE_IT_DIFFERS: [Read; 12] = [
     ),
 ];
 
-/// Batch 12 is taken, and its doubtful paper is accepted.
+/// The responses once batch 12 has been taken and its doubtful paper accepted.
 const ONCE_IT_IS_TAKEN: [Read; 7] = [
     (
         "/office/wards",
@@ -148,7 +149,7 @@ const ONCE_IT_IS_TAKEN: [Read; 7] = [
     ),
 ];
 
-/// A request with this code, or without one.
+/// Returns a request with the given code, or without one if the code is empty.
 fn request_of(alloc: Global, target: &str, code: &str) -> Result<String, AllocError> {
     if code.is_empty() {
         return format!(in alloc; "GET {target} HTTP/1.1\r\n\r\n");
@@ -156,7 +157,7 @@ fn request_of(alloc: Global, target: &str, code: &str) -> Result<String, AllocEr
     format!(in alloc; "GET {target} HTTP/1.1\r\nAuthorization: {code}\r\n\r\n")
 }
 
-/// A response.
+/// Returns a response with the given status and body.
 fn response_of(alloc: Global, status: &str, body: &str) -> Result<String, AllocError> {
     let asks = if status == "401 Unauthorized" {
         "WWW-Authenticate: Basic realm=\"office\", charset=\"UTF-8\"\r\n"
@@ -169,7 +170,7 @@ fn response_of(alloc: Global, status: &str, body: &str) -> Result<String, AllocE
     )
 }
 
-/// The step in which these clients come, and get this response.
+/// Returns the step in which the given clients connect and get the given response.
 fn case_of<'a>(
     clients: &'a [Option<TestClient<'a>>],
     codes: &'a str,
@@ -182,7 +183,7 @@ fn case_of<'a>(
     (Step::Serve(evening), (0, response, "Ok(())"))
 }
 
-/// Reads one thing, with these codes; the response must be this, and no row may change.
+/// Reads one target while the given codes are in force; the response must be the given one, and no row may change.
 fn read_one<M: TestHost + Drop>(
     rt: &(impl Abort + AllocGlobal),
     host: M,
@@ -196,7 +197,7 @@ fn read_one<M: TestHost + Drop>(
     hear_one_unchanged(rt, host, case_of(&clients, codes, response.as_str()))
 }
 
-/// Reads each of these.
+/// Reads each of the given targets.
 fn read_all<M: TestHost + Drop>(
     rt: &(impl Abort + AllocGlobal),
     host: M,
@@ -209,7 +210,8 @@ fn read_all<M: TestHost + Drop>(
     Ok(host)
 }
 
-/// A clerk's code isn't the office's; and without a line of the office nothing is there.
+/// A clerk's code isn't accepted in place of the office's; and if the file of codes has no line for the office, the target
+/// isn't found.
 fn are_kept_out<M: TestHost + Drop>(rt: &(impl Abort + AllocGlobal), host: M) -> Result<M, Fail> {
     let by_a_clerk = (
         "/office/wards",
@@ -233,7 +235,7 @@ fn console_reads<M: TestHost + Drop>(rt: &(impl Abort + AllocGlobal)) -> Result<
         Act::Typed(GIVEN_OUT),
         Act::Typed(DIFFERING),
     ];
-    let host: M = play_acts(rt, &begun)?;
+    let host: M = run_parts(rt, &begun)?;
     let mut host = read_all(rt, host, &WHILE_IT_DIFFERS)?;
     for then in [SET, PAPER_BY_PAPER, FOUR_COMES_LATE] {
         host = do_act(rt, host, &Act::Typed(then))?;

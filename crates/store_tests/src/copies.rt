@@ -1,33 +1,33 @@
-//! A copy of the office in other files: nothing or the whole of it, whenever its own files stop.
+//! Copies of the office to other files: if those files stop at any call, they contain either nothing or the whole office.
 
 use super::begun::{DIFFERING, GIVEN_OUT, NOMINATED};
 use super::disks::Disks;
 use super::steps::{Case, Step};
-use super::test_host::{Act, File, TestHost, are_same, hear_unchanged, lasting, play_acts, rows};
+use super::test_host::{Act, File, TestHost, are_same, expect_unchanged, lasting, rows, run_parts};
 use std::process::Abort;
 use std::test::Fail;
 
-/// A ward of which a batch differs.
+/// A ward with a batch that differs.
 const OFFICE: [Act; 3] = [
     Act::Typed(NOMINATED),
     Act::Typed(GIVEN_OUT),
     Act::Typed(DIFFERING),
 ];
 
-/// More calls than a copy makes of either file.
+/// More calls than a copy makes on either file.
 const CALLS: u64 = 2000;
 
-/// The output of a copy whose files stop.
+/// The output of a copy whose files stopped.
 const NOT_WRITTEN: (u8, &str, &str) = (3, "", "fault 110: copy not written\n");
 
-/// The output for empty files.
+/// The output on empty files.
 const NOTHING: Case<'static> = (
     Step::Order(&["DB", "wards"]),
     (3, "", "fault 105: wrong database\n"),
 );
 
-/// Copies an office to files that may stop, and checks what is found of the copy: all of it, or nothing unless the copy was
-/// acknowledged. Returns whether it was.
+/// Copies an office to files that may stop, and checks what they contain afterwards: the whole office, or nothing,
+/// which is allowed only if the copy wasn't acknowledged. Returns whether the copy was acknowledged.
 fn copy_once<M: TestHost + Drop>(
     rt: &(impl Abort + AllocGlobal),
     office: M,
@@ -45,7 +45,7 @@ fn copy_once<M: TestHost + Drop>(
     };
     let (found, copy) = rows(rt.alloc(), copy.restarted())?;
     if found.as_str().is_empty() {
-        hear_unchanged(rt, copy, &[NOTHING])?;
+        expect_unchanged(rt, copy, &[NOTHING])?;
     }
     let is_none = !is_told && found.as_str().is_empty();
     assert!(rt;
@@ -55,9 +55,10 @@ fn copy_once<M: TestHost + Drop>(
     Ok((is_told, office))
 }
 
-/// Stops a copy at each call of one of its files in turn, until a run has no stop. The office is unchanged.
+/// Stops a copy at each call on one of its files in turn, until it finishes without a stop. The office must stay
+/// unchanged.
 fn copy_each<M: TestHost + Drop>(rt: &(impl Abort + AllocGlobal), file: File) -> Result<(), Fail> {
-    let (whole, mut office): (String, M) = rows(rt.alloc(), play_acts(rt, &OFFICE)?)?;
+    let (whole, mut office): (String, M) = rows(rt.alloc(), run_parts(rt, &OFFICE)?)?;
     let blank: M = lasting(rt.alloc());
     for calls in 0..CALLS {
         let onto = blank.copied(rt.alloc(), file, calls)?;

@@ -1,18 +1,18 @@
-//! Clients that connect at the same time: their requests arrive in parts, their connections break, they are silent, or they are too
-//! many; and the work of clerks whose numbers no client can send.
+//! Clients that connect at the same time: requests arrive in parts, connections break, clients stay silent, or too many
+//! connect. There are also requests for the work of clerks whose numbers no client can send.
 
 use super::begun::{BAD_REQUEST, BEGUN, KEYED, KEYING};
 use super::clients::{Evening, TestClient, TestClients};
 use super::disks::Disks;
 use super::steps::Step;
-use super::test_host::{TestHost, hear, hear_unchanged, play_acts};
+use super::test_host::{TestHost, expect, expect_unchanged, run_parts};
 use office::texts_are_there;
 use register::elections::elections_are_fair;
 use std::alloc::{AllocError, Global};
 use std::process::Abort;
 use std::test::Fail;
 
-/// The work of clerk 4 after keying.
+/// Clerk 4's work after keying.
 const FOUR_KEYED: &str = "batch 12 ward 7 [1, 2, 3] size 2 round 1: keyed\n";
 
 /// The output for a number that isn't a clerk's.
@@ -38,7 +38,7 @@ const NINE_TO_KEY: &str =
 const WRONG_PHASE: &str =
     "HTTP/1.1 409 Conflict\r\nContent-Type: application/json\r\nContent-Length: 34\r\nConnection: close\r\n\r\n{\"refusal\":9,\"text\":\"wrong phase\"}";
 
-/// The clients, the response that each must get, and how serving must end.
+/// The clients, the response each must get, and how serving must end.
 #[derive(Clone, Copy)]
 struct Case<'a> {
     evening: Evening<'a>,
@@ -46,7 +46,7 @@ struct Case<'a> {
     end: &'a str,
 }
 
-/// The responses that clients get, with a line feed between each two.
+/// Returns the responses that clients get, separated by line feeds.
 fn taken(alloc: Global, texts: &[&str]) -> Result<String, Fail> {
     let mut all = String::new(alloc);
     for (place, text) in texts.iter().enumerate() {
@@ -58,7 +58,7 @@ fn taken(alloc: Global, texts: &[&str]) -> Result<String, Fail> {
     Ok(all)
 }
 
-/// Serves clients, and compares the responses that they get.
+/// Serves clients, and checks the responses that they get.
 fn serve<M: TestHost + Drop>(
     rt: &(impl Abort + AllocGlobal),
     host: M,
@@ -66,10 +66,10 @@ fn serve<M: TestHost + Drop>(
 ) -> Result<M, Fail> {
     let out = taken(rt.alloc(), case.texts)?;
     let told = (0, out.as_str(), case.end);
-    hear(rt, host, &[(Step::Serve(case.evening), told)])
+    expect(rt, host, &[(Step::Serve(case.evening), told)])
 }
 
-/// All clients of an evening connect and are closed.
+/// Serves an evening; all its clients connect and are disconnected.
 fn serve_all<M: TestHost + Drop>(
     rt: &(impl Abort + AllocGlobal),
     host: M,
@@ -88,8 +88,8 @@ fn serve_all<M: TestHost + Drop>(
     )
 }
 
-/// Clients that connect at the same time send their requests in parts. Each request is processed once it is complete: one for a
-/// clerk's work before the clerk's keying is complete, and one after it.
+/// Clients that connect at the same time send their requests in parts. Each request is processed once it is complete:
+/// one request for clerk 4's work before that clerk's keying is complete, and another afterwards.
 fn have_their_turns<M: TestHost + Drop>(
     rt: &(impl Abort + AllocGlobal),
     host: M,
@@ -119,8 +119,8 @@ fn have_their_turns<M: TestHost + Drop>(
     serve_all(rt, host, Evening::of(&clients), &texts)
 }
 
-/// Connections break at each byte of the request, of which nothing is stored. They break at each byte of the response: to the
-/// keying of the first of those clients, and to its repetition by the others.
+/// Connections break at each byte of the request, and none of it is stored. They then break at each byte of the
+/// response: to the keying for the first of those clients, and to its repetition for the others.
 fn break_at_each_byte<M: TestHost + Drop>(
     rt: &(impl Abort + AllocGlobal),
     host: M,
@@ -141,12 +141,12 @@ fn break_at_each_byte<M: TestHost + Drop>(
         fronts.push(KEYED.get(..takes).unwrap_or(""))?;
     }
     let unheard = Step::Serve(Evening::of(&unheard));
-    let host = hear_unchanged(rt, host, &[(unheard, (0, nothing.as_str(), "Ok(())"))])?;
+    let host = expect_unchanged(rt, host, &[(unheard, (0, nothing.as_str(), "Ok(())"))])?;
     serve_all(rt, host, Evening::of(&untold), &fronts)
 }
 
-/// A client that is silent, one that sends a byte now and then, and one that accepts nothing of its response are closed by a clock
-/// that jumps by ten seconds. The others get their responses meanwhile.
+/// A silent client, one that sends a byte now and then, and one that accepts none of its response are closed when the
+/// clock jumps by ten seconds. The others get their responses meanwhile.
 fn are_let_go<M: TestHost + Drop>(rt: &(impl Abort + AllocGlobal), host: M) -> Result<M, Fail> {
     let clients = [
         Some(TestClient::silent()),
@@ -164,7 +164,7 @@ fn are_let_go<M: TestHost + Drop>(rt: &(impl Abort + AllocGlobal), host: M) -> R
     serve_all(rt, host, evening, &["", "", "", NINE_TO_KEY])
 }
 
-/// The clients, the number of them after which serving ends, and how it must end.
+/// Returns a case: the clients, the number of clients after which serving ends, and how it must end.
 fn wanted<'a>(
     clients: TestClients<'a>,
     connections: Option<u64>,
@@ -183,7 +183,8 @@ fn wanted<'a>(
     }
 }
 
-/// Connections that can't be accepted don't count. A network that fails ends serving, and earlier responses remain valid.
+/// Connections that fail while being accepted don't count. If the network fails, serving ends, and responses already
+/// sent remain valid.
 fn are_not_let_in<M: TestHost + Drop>(rt: &(impl Abort + AllocGlobal), host: M) -> Result<M, Fail> {
     let work = Some(TestClient::whole(FOUR));
     let (one, late, between) = ([work], [None, work], [work, None, work]);
@@ -201,15 +202,16 @@ fn are_not_let_in<M: TestHost + Drop>(rt: &(impl Abort + AllocGlobal), host: M) 
     Ok(host)
 }
 
-/// The number of clients that connect at the same time, and the most that may be connected.
+/// The number of clients that connect at the same time, and the most that may be connected at once.
 const CROWD: usize = 600;
 
 const MOST: usize = 512;
 
-/// Of the crowd, these ask for a clerk's work, three bytes at a time, and the network reports only them as ready.
+/// The clients in the crowd that request a clerk's work. They send three bytes at a time, and the network reports only
+/// them as ready.
 const ASKING: &[usize] = &[0, CROWD - MOST - 1, CROWD - MOST, MOST, CROWD - 1];
 
-/// A crowd of clients; those that send nothing are silent.
+/// Returns a crowd of clients, all silent except those in `ASKING`.
 fn crowd<'a>(alloc: Global) -> Result<Vec<Option<TestClient<'a>>>, Fail> {
     let mut clients = Vec::new(alloc);
     for place in 0..CROWD {
@@ -225,7 +227,7 @@ fn crowd<'a>(alloc: Global) -> Result<Vec<Option<TestClient<'a>>>, Fail> {
     Ok(clients)
 }
 
-/// The responses to a crowd of which only these places get one.
+/// Returns the responses to a crowd in which only the clients at the given indices get one.
 fn crowds_texts(alloc: Global, answered: &[usize]) -> Result<Vec<&'static str>, Fail> {
     let mut texts = Vec::new(alloc);
     for place in 0..CROWD {
@@ -239,8 +241,9 @@ fn crowds_texts(alloc: Global, answered: &[usize]) -> Result<Vec<&'static str>, 
     Ok(texts)
 }
 
-/// If more clients connect than may, those that have waited longest are closed, of a crowd of 600 the first 88. None is closed for
-/// that reason before it has waited a second: if no time passes, a new connection waits until another is closed.
+/// If more clients connect than are allowed at once, those that have waited longest are closed: the first 88 of a crowd
+/// of 600. No client is closed for that reason before it has waited a second: if no time passes, a new connection waits
+/// until another is closed.
 fn are_too_many<M: TestHost + Drop>(rt: &(impl Abort + AllocGlobal), host: M) -> Result<M, Fail> {
     let alloc = rt.alloc();
     let clients = crowd(alloc)?;
@@ -269,7 +272,7 @@ fn are_too_many<M: TestHost + Drop>(rt: &(impl Abort + AllocGlobal), host: M) ->
     )
 }
 
-/// A file of codes; and requests for the work of clerk 4 with the clerk's code, with a wrong one, and with none.
+/// A file of codes; and requests for clerk 4's work with that clerk's code, with a wrong code, and with no code.
 const CODES: &str = "4 kf7m-2wxt\n9 w3hd-4psn\n";
 
 const BY_HIS_CODE: &[u8] =
@@ -278,12 +281,12 @@ const BY_HIS_CODE: &[u8] =
 const BY_A_WRONG_ONE: &[u8] =
     b"GET /clerks/4/work HTTP/1.1\r\nAuthorization: Basic OTp3M2hkLTRwc24=\r\n\r\n";
 
-/// The response to the last two.
+/// The response to the last two requests.
 const UNAUTHORIZED: &str =
     "HTTP/1.1 401 Unauthorized\r\nContent-Type: application/json\r\nContent-Length: 24\r\nWWW-Authenticate: Basic realm=\"clerk 4\", charset=\"UTF-8\"\r\nConnection: close\r\n\r\n{\"error\":\"unauthorized\"}";
 
-/// Requests and their responses: clerk 4's work only for that clerk's code, also when the response was cached, and after wrong
-/// codes too. A sheet is public.
+/// Requests and their responses. Clerk 4's work is returned only for that clerk's code, even if the response was
+/// cached, and even after wrong codes have been sent. A sheet is public.
 const AT_THE_GATE: [(&[u8], &str); 18] = [
     (BY_HIS_CODE, FOUR_TO_KEY),
     (BY_HIS_CODE, FOUR_TO_KEY),
@@ -305,8 +308,8 @@ const AT_THE_GATE: [(&[u8], &str); 18] = [
     (SHEET, WRONG_PHASE),
 ];
 
-/// The clients of an office with codes.
-fn knocking<'a>(alloc: Global) -> Result<Vec<Option<TestClient<'a>>>, AllocError> {
+/// Returns the clients of an office with codes.
+fn clients_with_codes<'a>(alloc: Global) -> Result<Vec<Option<TestClient<'a>>>, AllocError> {
     let mut clients = Vec::new(alloc);
     for (sends, _) in &AT_THE_GATE {
         clients.push(Some(TestClient::whole(*sends)))?;
@@ -314,8 +317,8 @@ fn knocking<'a>(alloc: Global) -> Result<Vec<Option<TestClient<'a>>>, AllocError
     Ok(clients)
 }
 
-/// The responses to them.
-fn told_at_the_gate(alloc: Global) -> Result<Vec<&'static str>, AllocError> {
+/// Returns the responses to those clients.
+fn responses_at_gate(alloc: Global) -> Result<Vec<&'static str>, AllocError> {
     let mut texts = Vec::new(alloc);
     for (_, told) in &AT_THE_GATE {
         texts.push(*told)?;
@@ -323,13 +326,13 @@ fn told_at_the_gate(alloc: Global) -> Result<Vec<&'static str>, AllocError> {
     Ok(texts)
 }
 
-/// An evening with codes: only a clerk's own code gets that clerk's work.
+/// Serves an office with codes: only a clerk's own code gets that clerk's work.
 fn come_with_codes<M: TestHost + Drop>(
     rt: &(impl Abort + AllocGlobal),
     host: M,
 ) -> Result<M, Fail> {
-    let clients = knocking(rt.alloc())?;
-    let texts = told_at_the_gate(rt.alloc())?;
+    let clients = clients_with_codes(rt.alloc())?;
+    let texts = responses_at_gate(rt.alloc())?;
     let evening = Evening {
         codes: Some(CODES),
         ..Evening::of(&clients)
@@ -337,8 +340,8 @@ fn come_with_codes<M: TestHost + Drop>(
     serve_all(rt, host, evening, &texts)
 }
 
-/// Of bodies of a megabyte each, 63 may be in memory at once. If one more arrives, the client that has waited longest is closed,
-/// and no other.
+/// If bodies are a megabyte each, 63 of them may be in memory at once. When another arrives, the client that has waited
+/// longest is closed, and no other.
 fn hold_too_much<M: TestHost + Drop>(rt: &(impl Abort + AllocGlobal), host: M) -> Result<M, Fail> {
     let alloc = rt.alloc();
     let head = b"POST /clerks/4/batches/12/keying HTTP/1.1\r\nContent-Length: 1048576\r\n\r\n";
@@ -346,7 +349,7 @@ fn hold_too_much<M: TestHost + Drop>(rt: &(impl Abort + AllocGlobal), host: M) -
     body.resize(body.len() + (1 << 20), 0xff)?;
     let all_but_one = body.len().saturating_sub(1);
     let slow_client = TestClient::slow(body.as_slice(), all_but_one);
-    // Most never send their last byte.
+    // Most clients never send their last byte.
     let waits = TestClient {
         sends: body.get(..all_but_one).unwrap_or(&[]),
         closes_after_sending: false,
@@ -362,9 +365,9 @@ fn hold_too_much<M: TestHost + Drop>(rt: &(impl Abort + AllocGlobal), host: M) -
     serve(rt, host, wanted(&clients, None, &texts, "Err(Network)"))
 }
 
-/// Requests for work that no client can send.
+/// Requests work under numbers that no client can send.
 fn works<M: TestHost + Drop>(rt: &(impl Abort + AllocGlobal), host: M) -> Result<M, Fail> {
-    hear(
+    expect(
         rt,
         host,
         &[
@@ -376,14 +379,14 @@ fn works<M: TestHost + Drop>(rt: &(impl Abort + AllocGlobal), host: M) -> Result
 }
 
 fn come_at_once<M: TestHost + Drop>(rt: &(impl Abort + AllocGlobal)) -> Result<(), Fail> {
-    let host: M = play_acts(rt, BEGUN)?;
+    let host: M = run_parts(rt, BEGUN)?;
     let host = are_let_go(rt, host)?;
     let host = are_not_let_in(rt, host)?;
     let host = are_too_many(rt, host)?;
     let host = hold_too_much(rt, host)?;
     let host = come_with_codes(rt, host)?;
     have_their_turns(rt, host)?;
-    let host: M = play_acts(rt, BEGUN)?;
+    let host: M = run_parts(rt, BEGUN)?;
     let host = break_at_each_byte(rt, host)?;
     works(rt, host)?;
     Ok(())

@@ -1,14 +1,14 @@
-//! A list of requests, handed to an office at once.
+//! A list of requests that an office processes in one call.
 
 use super::disks::Disks;
 use super::steps::Step;
-use super::test_host::{TestHost, hear, lasting};
+use super::test_host::{TestHost, expect, lasting};
 use register::{Command, Request, WardCommand};
 use std::alloc::{AllocError, Global};
 use std::process::Abort;
 use std::test::Fail;
 
-/// A request of an actor with an id.
+/// Returns a request by the given actor, with the given id.
 fn asked(alloc: Global, actor: u32, id: &str, command: WardCommand) -> Result<Request, AllocError> {
     Ok(Request {
         actor,
@@ -17,7 +17,7 @@ fn asked(alloc: Global, actor: u32, id: &str, command: WardCommand) -> Result<Re
     })
 }
 
-/// Ward 7, of two seats.
+/// Returns the command that adds ward 7, with two seats.
 fn harbour(alloc: Global) -> Result<WardCommand, AllocError> {
     Ok(WardCommand::Add {
         ward: 7,
@@ -26,8 +26,8 @@ fn harbour(alloc: Global) -> Result<WardCommand, AllocError> {
     })
 }
 
-/// The answers to the office for this command, for its repetition, and for the same under another id; to a clerk, since only the
-/// office may send it; and to the office for closing a ward without candidates.
+/// The answers: to the office, for this command, for its repetition, and for the same command under a different id; to
+/// a clerk, because only the office may send it; and to the office, for closing a ward without candidates.
 const ANSWERS: &str = "done: ward 7 added
 kept: ward 7 added
 refused 6: ward exists
@@ -52,7 +52,7 @@ fn is_answered_in_turn<M: TestHost + Drop>(rt: &(impl Abort + AllocGlobal)) -> R
         (Step::Order(&["DB", "status", "7"]), (0, STATUS, "")),
     ];
     let host: M = lasting(alloc);
-    hear(rt, host, &cases)?;
+    expect(rt, host, &cases)?;
     Ok(())
 }
 

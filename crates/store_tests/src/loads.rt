@@ -1,11 +1,11 @@
-//! The papers and the count of a ward as the store reads them, call by call.
+//! A ward's papers and count, as the store reads them, call by call.
 
 use super::begun::{
     DIFFERING, FOUR_COMES_LATE, GIVEN_OUT, NOMINATED, PAPER_BY_PAPER, SEALED, SET, TWO_STAGES,
 };
 use super::disks::Disks;
 use super::steps::{Step, StepPrinted};
-use super::test_host::{Act, TestHost, do_act, follow, hear, play_acts};
+use super::test_host::{Act, TestHost, do_act, expect, follow, run_parts};
 use sqlite::{Alter, Connection};
 use std::alloc::Global;
 use std::fmt::Write;
@@ -13,7 +13,7 @@ use std::process::Abort;
 use std::test::Fail;
 use store::{Fault, Store};
 
-/// Returns the value that a call read.
+/// Returns the value that a call has read.
 fn read<T>(loaded: Result<T, Fault>) -> Result<T, Fail> {
     match loaded {
         Ok(found) => Ok(found),
@@ -21,7 +21,7 @@ fn read<T>(loaded: Result<T, Fault>) -> Result<T, Fail> {
     }
 }
 
-/// Appends one line per bundle: its list, and its number of papers.
+/// Appends one line per bundle: its list, and the number of its papers.
 fn write_bundles<S: Alter>(text: &mut String, store: &mut Store<S>, ward: u32) -> Result<(), Fail> {
     let ballots = read(store.load_bundles(ward))?;
     for (list, papers) in ballots.papers.iter() {
@@ -68,10 +68,10 @@ pub fn loads<S: Alter + Drop>(
     };
     let text = told(alloc, &mut store, ward);
     let conn = store.into_connection();
-    Ok((StepPrinted::quietly(alloc, text?), conn))
+    Ok((StepPrinted::printed_only(alloc, text?), conn))
 }
 
-/// The worked ward before its first stage, and after its second.
+/// The worked ward before its first stage and after its second.
 const SEALED_LOADS: &str = "9 papers
 [1, 2] 4
 [1, 3] 2
@@ -96,7 +96,7 @@ rejected [0, 0, 0, 0, 0]
 lots []
 ";
 
-/// Two batches of as many equal papers as one may have.
+/// Two batches, each with as many papers as a batch may have, all equal.
 const TWO_BATCHES: &str = "$ close 7 --id n1
 ward 7 polled
 $ batch 12 7 500 4 9 --id b1
@@ -112,7 +112,7 @@ no book
 lots []
 ";
 
-/// A batch on which clerks 5 and 9 agree, but not clerk 4, who has the lowest number.
+/// A batch on which clerks 5 and 9 agree, but not clerk 4, whose number is the lowest.
 const LATE_LOADS: &str = "2 papers
 [1, 2] 1
 [3] 1
@@ -130,7 +130,8 @@ const LATE: &[Act] = &[
     Act::Typed(FOUR_COMES_LATE),
 ];
 
-/// Compares what is read of ward 7 before it is sealed and after: the papers are then read in another order.
+/// Reads ward 7 before it is sealed and afterwards, when papers are read in a different order; the results must be
+/// equal.
 fn read_twice<M: TestHost + Drop>(
     rt: &(impl Abort + AllocGlobal),
     host: M,
@@ -138,19 +139,19 @@ fn read_twice<M: TestHost + Drop>(
     told: &str,
 ) -> Result<(), Fail> {
     let read = [(Step::Loads(7), (0, told, ""))];
-    let host = hear(rt, host, &read)?;
+    let host = expect(rt, host, &read)?;
     let host = follow(rt, host, seal)?;
-    hear(rt, host, &read)?;
+    expect(rt, host, &read)?;
     Ok(())
 }
 
-/// Both clerks of both batches key the same list on each paper.
+/// Both clerks of both batches key the same list on every paper.
 fn thousand_papers<M: TestHost + Drop>(rt: &(impl Abort + AllocGlobal)) -> Result<M, Fail> {
     let mut rows = String::from_str(rt.alloc(), "< paper,1,2,3\n")?;
     for paper in 1..=500 {
         writeln!(rows, "< {paper},1,2,")?;
     }
-    let mut host: M = play_acts(rt, &[Act::Typed(NOMINATED), Act::Typed(TWO_BATCHES)])?;
+    let mut host: M = run_parts(rt, &[Act::Typed(NOMINATED), Act::Typed(TWO_BATCHES)])?;
     for (clerk, batch) in [(4, 12), (9, 12), (4, 13), (9, 13)] {
         let keyed = format!(in rt.alloc();
             "$ import-keying {clerk} {batch} 1 FILE --id k{batch}\n{rows}batch {batch} round 1 keyed\n"
@@ -160,18 +161,18 @@ fn thousand_papers<M: TestHost + Drop>(rt: &(impl Abort + AllocGlobal)) -> Resul
     Ok(host)
 }
 
-/// Compares what is read of the worked ward before its first stage, and after its second.
+/// Checks what is read for the worked ward before its first stage and after its second.
 fn read_in_count<M: TestHost + Drop>(rt: &(impl Abort + AllocGlobal)) -> Result<(), Fail> {
-    let host: M = play_acts(rt, SEALED)?;
-    let host = hear(rt, host, &[(Step::Loads(7), (0, SEALED_LOADS, ""))])?;
+    let host: M = run_parts(rt, SEALED)?;
+    let host = expect(rt, host, &[(Step::Loads(7), (0, SEALED_LOADS, ""))])?;
     let host = do_act(rt, host, &TWO_STAGES)?;
-    hear(rt, host, &[(Step::Loads(7), (0, STAGED_LOADS, ""))])?;
+    expect(rt, host, &[(Step::Loads(7), (0, STAGED_LOADS, ""))])?;
     Ok(())
 }
 
 fn are_read_back<M: TestHost + Drop>(rt: &(impl Abort + AllocGlobal)) -> Result<(), Fail> {
     read_in_count::<M>(rt)?;
-    let late: M = play_acts(rt, LATE)?;
+    let late: M = run_parts(rt, LATE)?;
     read_twice(
         rt,
         late,

@@ -1,11 +1,11 @@
-//! Clients that send what a seeded generator makes: random bytes, requests with changed bytes, and the beginning of one request
-//! joined to the end of another.
+//! Clients that send the output of a seeded generator: random bytes, requests with changed bytes, and the beginning of one
+//! request joined to the end of another.
 
 use super::begun::{BEGUN, KEYED, KEYING};
 use super::clients::{Evening, TestClient};
 use super::disks::Disks;
 use super::steps::{SERVER_SETTINGS, Step, StepPrinted};
-use super::test_host::{TestHost, hear, play_acts, rows};
+use super::test_host::{TestHost, expect, rows, run_parts};
 use rand_core::utils::NextWord;
 use rand_pcg::Pcg32;
 use std::alloc::{AllocError, Global};
@@ -16,7 +16,7 @@ use wire::{HttpRequest, RequestError, read_request};
 
 const CLIENTS: usize = 10_000;
 
-/// The requests from which others are made.
+/// The requests from which the others are made.
 const REQUESTS: [&str; 5] = [
     KEYING,
     "GET /clerks/4/work HTTP/1.1\r\nHost: localhost\r\n\r\n",
@@ -25,16 +25,16 @@ const REQUESTS: [&str; 5] = [
     "PUT /clerks/9/batches/12/keying HTTP/1.1\r\nContent-Length: 2\r\n\r\n{}",
 ];
 
-/// Clerk 9 keys the batch as clerk 4.
+/// Clerk 9's keying of the batch, with the same papers as clerk 4's keying.
 const NINE: &str =
     "POST /clerks/9/batches/12/keying HTTP/1.1\r\nContent-Length: 43\r\n\r\n{\"id\":\"h1\",\"round\":1,\"papers\":[\"1,2,\",\"D\"]}";
 
-/// Both clerks key the batch, so that it accepts no other keying.
+/// Both clerks key the batch, so it accepts no further keying.
 fn keyed_by_both<M: TestHost + Drop>(rt: &(impl Abort + AllocGlobal)) -> Result<M, Fail> {
-    let mut host: M = play_acts(rt, BEGUN)?;
+    let mut host: M = run_parts(rt, BEGUN)?;
     for keying in [KEYING, NINE] {
         let client = [Some(TestClient::whole(keying.as_bytes()))];
-        host = hear(
+        host = expect(
             rt,
             host,
             &[(Step::Serve(Evening::of(&client)), (0, KEYED, "Ok(())"))],
@@ -43,20 +43,20 @@ fn keyed_by_both<M: TestHost + Drop>(rt: &(impl Abort + AllocGlobal)) -> Result<
     Ok(host)
 }
 
-/// Returns a number below a bound, or 0 if there is none.
+/// Returns a random number below a bound, or 0 if the bound is 0.
 fn below(numbers: &mut Pcg32, bound: usize) -> usize {
     (numbers.next_word() as usize)
         .checked_rem(bound)
         .unwrap_or(0)
 }
 
-/// A byte.
+/// Returns a random byte.
 fn byte(numbers: &mut Pcg32) -> u8 {
     let [byte, ..] = numbers.next_word().to_le_bytes();
     byte
 }
 
-/// One of the requests.
+/// Returns one of the requests, chosen at random.
 fn request(numbers: &mut Pcg32) -> &'static [u8] {
     match REQUESTS.get(below(numbers, REQUESTS.len())) {
         Some(request) => request.as_bytes(),
@@ -64,7 +64,7 @@ fn request(numbers: &mut Pcg32) -> &'static [u8] {
     }
 }
 
-/// Up to two hundred bytes of noise.
+/// Returns up to two hundred random bytes.
 fn noise(alloc: Global, numbers: &mut Pcg32) -> Result<Vec<u8>, AllocError> {
     let mut bytes = Vec::new(alloc);
     for _ in 0..below(numbers, 200) {
@@ -73,7 +73,7 @@ fn noise(alloc: Global, numbers: &mut Pcg32) -> Result<Vec<u8>, AllocError> {
     Ok(bytes)
 }
 
-/// A request of which one to four bytes are changed.
+/// Returns a request with one to four bytes changed.
 fn changed(alloc: Global, numbers: &mut Pcg32) -> Result<Vec<u8>, AllocError> {
     let mut bytes = Vec::from_slice(alloc, request(numbers))?;
     for _ in 0..=below(numbers, 4) {
@@ -94,7 +94,7 @@ fn spliced(alloc: Global, numbers: &mut Pcg32) -> Result<Vec<u8>, AllocError> {
     Ok(bytes)
 }
 
-/// What a client sends.
+/// Returns what a client sends.
 fn sent(alloc: Global, numbers: &mut Pcg32) -> Result<Vec<u8>, AllocError> {
     match below(numbers, 4) {
         0 => noise(alloc, numbers),
@@ -103,7 +103,7 @@ fn sent(alloc: Global, numbers: &mut Pcg32) -> Result<Vec<u8>, AllocError> {
     }
 }
 
-/// Returns whether a client that sends these bytes may get this status.
+/// Returns whether a client that sends the given bytes may get the given status.
 fn may_be_told(alloc: Global, bytes: &[u8], status: &str) -> bool {
     match read_request(alloc, SERVER_SETTINGS.http, &mut Counted::new(bytes)) {
         Ok(HttpRequest::Denied(RequestError::BadRequest)) => status == "400",
@@ -116,7 +116,7 @@ fn may_be_told(alloc: Global, bytes: &[u8], status: &str) -> bool {
     }
 }
 
-/// Returns the status of the first response, and what follows it and its line feed, if it has one.
+/// Returns the status of the first response, and the text after it, without the line feed that separates them.
 fn first_answer(page: &str) -> Option<(&str, &str)> {
     let (head, behind) = page.split_once("\r\n\r\n")?;
     let status = head.strip_prefix("HTTP/1.1 ")?.get(..3)?;

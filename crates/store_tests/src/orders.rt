@@ -1,27 +1,27 @@
-//! Orders that are sent to an office while it serves clients. They arrive at once or byte by byte, their connections break, they
-//! are for another file or from another program, or they aren't orders.
+//! Orders sent to an office while it serves clients. They arrive at once or byte by byte, their connections break, they
+//! are meant for a different file or sent by a different program, or they aren't orders at all.
 
 use super::begun::{BEGUN, KEYED, KEYING};
 use super::clients::{Evening, TestClient};
 use super::disks::Disks;
 use super::steps::{Case, SERVER_SETTINGS, Step};
-use super::test_host::{TestHost, hear, hear_unchanged, play_acts};
+use super::test_host::{TestHost, expect, expect_unchanged, run_parts};
 use desk::version::VERSION;
 use std::alloc::Global;
 use std::process::Abort;
 use std::test::Fail;
 
-/// The papers of a keying, as a file.
+/// A keying's papers, as a file.
 const PAPERS: &[u8] = b"paper,1,2,3\n1,1,2,\n2,,,1\n";
 
-/// Orders that are sent.
+/// The words of the orders that are sent.
 const STATUS: &[&str] = &["DB", "status", "7"];
 
 const IMPORT: &[&str] = &["DB", "import-keying", "9", "12", "1", "FILE", "--id", "k1"];
 
 const SCRIPT: &[&str] = &["DB", "replay", "SCRIPT"];
 
-/// A script whose first line names a file, and whose last is refused.
+/// A script whose first line names a file and whose last line is refused.
 const LINES: &[u8] =
     b"import-keying 9 12 1 FILE --id k1\ncandidate 7 4 Dee --id d1\nseal 7 --id s1\n";
 
@@ -37,15 +37,15 @@ const JUDGE: &[&str] = &["DB", "judge", "12", "1", "maybe", "--id", "j1"];
 
 const ELSEWHERE: &[&str] = &["DB", "status", "8"];
 
-/// The files that are sent with them.
+/// The files sent with those orders.
 const KEYED_FILE: &[(&str, &[u8])] = &[("FILE", PAPERS)];
 
 const SCRIPTED: &[(&str, &[u8])] = &[("SCRIPT", LINES), ("FILE", PAPERS)];
 
-/// Their output.
+/// The output of those orders.
 const IMPORTED: &[&str] = &["batch 12 round 1 keyed", "\n"];
 
-/// An order, the file that it is for, and the program that sends it.
+/// An order, the file it is meant for, and the program that sends it.
 #[derive(Clone, Copy)]
 struct HandedOrder<'a> {
     version: &'a str,
@@ -55,7 +55,7 @@ struct HandedOrder<'a> {
 }
 
 impl<'a> HandedOrder<'a> {
-    /// Returns an order as this program sends it, for the file that is served.
+    /// Returns an order as this program sends it, for the file that is being served.
     fn of(words: &'a [&'a str]) -> HandedOrder<'a> {
         HandedOrder {
             version: VERSION,
@@ -65,7 +65,7 @@ impl<'a> HandedOrder<'a> {
         }
     }
 
-    /// Returns its message, built here byte by byte.
+    /// Returns the order's message, built here byte by byte.
     fn message(&self, alloc: Global) -> Result<Vec<u8>, Fail> {
         let mut spelling = Vec::new(alloc);
         put_string(&mut spelling, self.version.as_bytes())?;
@@ -97,19 +97,19 @@ fn put_count(out: &mut Vec<u8>, count: usize) -> Result<(), Fail> {
     Ok(out.extend_from_slice(&count.to_be_bytes())?)
 }
 
-/// Appends the number of bytes, and the bytes.
+/// Appends the number of bytes, then the bytes.
 fn put_string(out: &mut Vec<u8>, bytes: &[u8]) -> Result<(), Fail> {
     put_count(out, bytes.len())?;
     Ok(out.extend_from_slice(bytes)?)
 }
 
-/// Appends a frame of a kind, built here byte by byte.
+/// Appends a frame of the given kind, built here byte by byte.
 fn put_frame(out: &mut Vec<u8>, kind: u8, bytes: &[u8]) -> Result<(), Fail> {
     out.push(kind)?;
     put_string(out, bytes)
 }
 
-/// Returns the output of an order in frames: each of these texts, then the text of the error output, and at the end the status.
+/// Returns an order's output in frames: one per text, then one with the error output, then the status.
 fn frames(alloc: Global, told: &[&str], status: u8, err: &str) -> Result<String, Fail> {
     let mut bytes = Vec::new(alloc);
     for text in told {
@@ -122,7 +122,7 @@ fn frames(alloc: Global, told: &[&str], status: u8, err: &str) -> Result<String,
     Ok(String::from_utf8(bytes)?)
 }
 
-/// Returns a step in which orders arrive at the same time, with their output.
+/// Returns a step in which orders arrive at the same time, with their expected output.
 fn told_of<'a>(orders: &'a [Option<TestClient<'a>>], told: &'a str) -> Case<'a> {
     let evening = Evening {
         connections: Some(0),
@@ -131,28 +131,28 @@ fn told_of<'a>(orders: &'a [Option<TestClient<'a>>], told: &'a str) -> Case<'a> 
     (Step::Serve(evening), (0, told, "Ok(())"))
 }
 
-/// Orders arrive at the same time, and have this output.
+/// Checks that orders arriving at the same time have the given output.
 fn are_told<'a, M: TestHost + Drop>(
     rt: &(impl Abort + AllocGlobal),
     host: M,
     orders: &'a [Option<TestClient<'a>>],
     told: &'a str,
 ) -> Result<M, Fail> {
-    hear(rt, host, &[told_of(orders, told)])
+    expect(rt, host, &[told_of(orders, told)])
 }
 
-/// The same, and they change nothing.
+/// Does the same as `are_told`, and checks that no row changes.
 fn are_told_unchanged<'a, M: TestHost + Drop>(
     rt: &(impl Abort + AllocGlobal),
     host: M,
     orders: &'a [Option<TestClient<'a>>],
     told: &'a str,
 ) -> Result<M, Fail> {
-    hear_unchanged(rt, host, &[told_of(orders, told)])
+    expect_unchanged(rt, host, &[told_of(orders, told)])
 }
 
-/// Orders that are refused, each with its status and the reason: from another program, for another file, not possible while the
-/// office is served, or invalid. They change nothing.
+/// Orders that are refused, each with its status and the reason: sent by a different program, meant for a different
+/// file, impossible while the office is being served, or invalid. They change nothing.
 fn are_refused<M: TestHost + Drop>(rt: &(impl Abort + AllocGlobal), host: M) -> Result<M, Fail> {
     let alloc = rt.alloc();
     let older = HandedOrder {
@@ -205,8 +205,8 @@ fn are_refused<M: TestHost + Drop>(rt: &(impl Abort + AllocGlobal), host: M) -> 
     are_told_unchanged(rt, host, &orders, told.as_str())
 }
 
-/// Messages that aren't orders. If one is too long or ends too early, its connection is closed; one that can't be decoded gets the
-/// fault of a file that another program has locked.
+/// Messages that aren't orders. If one is too long or ends too early, its connection is closed; one that can't be
+/// decoded gets the fault for a file locked by another program.
 fn are_none<M: TestHost + Drop>(rt: &(impl Abort + AllocGlobal), host: M) -> Result<M, Fail> {
     let mut told = frames(rt.alloc(), &[], 3, "fault 102: store\n")?;
     told.push_str("\n\n")?;
@@ -222,7 +222,7 @@ fn are_none<M: TestHost + Drop>(rt: &(impl Abort + AllocGlobal), host: M) -> Res
     are_told_unchanged(rt, host, &orders, told.as_str())
 }
 
-/// An order, a client's keying, and an order that arrives a few bytes at a time.
+/// Returns an order, a client's keying, and an order that arrives a few bytes at a time.
 fn around_a_keying<'a>(
     before: &'a [u8],
     keying: &'a [u8],
@@ -240,7 +240,7 @@ fn around_a_keying<'a>(
     ]
 }
 
-/// One client connects, and orders arrive along with it; they get this.
+/// Orders arrive while one client connects; they and the client get the given responses.
 fn with_one_client<'a, M: TestHost + Drop>(
     rt: &(impl Abort + AllocGlobal),
     host: M,
@@ -252,11 +252,11 @@ fn with_one_client<'a, M: TestHost + Drop>(
         ..Evening::of(clients)
     };
     let step = Step::Serve(evening);
-    hear(rt, host, &[(step, (0, told, "Ok(())"))])
+    expect(rt, host, &[(step, (0, told, "Ok(())"))])
 }
 
-/// Orders are processed in turn with clients: one before a keying and one after it print the ward's status. They arrive a few bytes
-/// at a time, and don't count as clients.
+/// Orders are processed in turn with clients: an order before a keying prints the ward's status, and one after it
+/// imports a keying. They arrive a few bytes at a time, and don't count as clients.
 fn come_among_clients<M: TestHost + Drop>(
     rt: &(impl Abort + AllocGlobal),
     host: M,
@@ -281,7 +281,7 @@ fn come_among_clients<M: TestHost + Drop>(
     with_one_client(rt, host, &clients, out.as_str())
 }
 
-/// A script is processed as a whole. A refusal is printed after the number of its line, and earlier lines remain done.
+/// A script is processed as a whole. A refusal is printed with its line number, and the effects of earlier lines remain.
 fn follow_scripts<M: TestHost + Drop>(rt: &(impl Abort + AllocGlobal), host: M) -> Result<M, Fail> {
     let given = HandedOrder {
         files: SCRIPTED,
@@ -293,8 +293,8 @@ fn follow_scripts<M: TestHost + Drop>(rt: &(impl Abort + AllocGlobal), host: M) 
     are_told(rt, host, &orders, told.as_str())
 }
 
-/// The connections of orders break at each byte that they accept. The keying is stored by the first of them, and the others get the
-/// same reply.
+/// The connections of orders break at each byte that they accept. The first order stores the keying, and the others get
+/// the same reply.
 fn break_at_each_byte<M: TestHost + Drop>(
     rt: &(impl Abort + AllocGlobal),
     host: M,
@@ -322,13 +322,13 @@ fn break_at_each_byte<M: TestHost + Drop>(
 }
 
 fn are_handed_over<M: TestHost + Drop>(rt: &(impl Abort + AllocGlobal)) -> Result<(), Fail> {
-    let host: M = play_acts(rt, BEGUN)?;
+    let host: M = run_parts(rt, BEGUN)?;
     let host = are_refused(rt, host)?;
     let host = are_none(rt, host)?;
     come_among_clients(rt, host)?;
-    let host: M = play_acts(rt, BEGUN)?;
+    let host: M = run_parts(rt, BEGUN)?;
     follow_scripts(rt, host)?;
-    let host: M = play_acts(rt, BEGUN)?;
+    let host: M = run_parts(rt, BEGUN)?;
     break_at_each_byte(rt, host)?;
     Ok(())
 }

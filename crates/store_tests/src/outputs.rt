@@ -1,18 +1,19 @@
-//! Outputs that fail: a prefix is accepted, acknowledged requests remain done, no more are sent, and the same order, repeated, has
-//! its whole output. (That this holds at every byte is proved; here is one case of each kind.)
+//! Outputs that fail: they accept a prefix, acknowledged requests remain done, no further requests are sent, and the
+//! same order, repeated, produces its whole output. (It is proved that this holds at every byte; here is one case of
+//! each kind.)
 
 use super::disks::Disks;
-use super::steps::{Rooms, Step};
-use super::test_host::{Act, TestHost, hear, play_acts};
+use super::steps::{OutputLimits, Step};
+use super::test_host::{Act, TestHost, expect, run_parts};
 use std::process::Abort;
 use std::test::Fail;
 
-/// The fault of an output that fails.
+/// The fault for an output that fails.
 const BROKEN: &str = "fault 107: socket or output\n";
 
-/// Returns outputs that accept no more than so many bytes each.
-fn rooms(out: usize, err: usize) -> Rooms {
-    Rooms { out, err }
+/// Returns outputs that accept at most `out` and `err` bytes.
+fn limits(out: usize, err: usize) -> OutputLimits {
+    OutputLimits { out, err }
 }
 
 const WARD: &[&str] = &["DB", "ward", "7", "2", "Harbour", "--id", "w1"];
@@ -26,7 +27,7 @@ const NAMES: &[u8] = b"ward,candidate,name\n7,1,Ann\n7,2,Bob\n";
 /// The output for two candidates.
 const BOTH: &str = "candidate 1 of ward 7 added\ncandidate 2 of ward 7 added\n";
 
-/// The status of the ward after one of them was added.
+/// The ward's status after only one of them was added.
 const ONE: &str =
     "ward 7 nominations: 1 candidates, 0 batches, 0 taken, 0 differing, 0 doubtful open, 0 stages\n";
 
@@ -35,36 +36,40 @@ const STATUS: &[&str] = &["DB", "status", "7"];
 fn has_taken_a_beginning<M: TestHost + Drop>(rt: &(impl Abort + AllocGlobal)) -> Result<(), Fail> {
     let every = usize::MAX;
     let cases = [
-        // A reply: the ward is added.
+        // A reply is cut off: the ward was added.
         (
-            Step::BreakingOrder(WARD, b"", rooms(5, every)),
+            Step::BreakingOrder(WARD, b"", limits(5, every)),
             (3, "ward ", BROKEN),
         ),
         (Step::Order(WARD), (0, "ward 7 added\n", "")),
-        // A reply whose fault breaks too.
-        (Step::BreakingOrder(WARD, b"", rooms(0, 4)), (3, "", "faul")),
-        // A refusal.
+        // A reply is cut off, as is the fault's message.
         (
-            Step::BreakingOrder(PIER, b"", rooms(every, 8)),
+            Step::BreakingOrder(WARD, b"", limits(0, 4)),
+            (3, "", "faul"),
+        ),
+        // A refusal is cut off.
+        (
+            Step::BreakingOrder(PIER, b"", limits(every, 8)),
             (3, "", "refused "),
         ),
         (Step::Order(PIER), (1, "", "refused 6: ward exists\n")),
-        // An import, within its first line: the second candidate isn't added; and within its second line.
+        // An import is cut off within its first line, so that the second candidate isn't added, and then within its
+        // second line.
         (
-            Step::BreakingOrder(IMPORT, NAMES, rooms(27, every)),
+            Step::BreakingOrder(IMPORT, NAMES, limits(27, every)),
             (3, "candidate 1 of ward 7 added", BROKEN),
         ),
         (Step::Order(STATUS), (0, ONE, "")),
         (
-            Step::BreakingOrder(IMPORT, NAMES, rooms(31, every)),
+            Step::BreakingOrder(IMPORT, NAMES, limits(31, every)),
             (3, "candidate 1 of ward 7 added\ncan", BROKEN),
         ),
         (Step::FileOrder(IMPORT, NAMES), (0, BOTH, "")),
         // An order that needs a socket.
         (Step::Order(&["DB", "serve", "8080", "2"]), (3, "", BROKEN)),
     ];
-    let host: M = play_acts(rt, &[Act::Typed("$ init\noffice ready\n")])?;
-    hear(rt, host, &cases)?;
+    let host: M = run_parts(rt, &[Act::Typed("$ init\noffice ready\n")])?;
+    expect(rt, host, &cases)?;
     Ok(())
 }
 

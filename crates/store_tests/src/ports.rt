@@ -1,10 +1,10 @@
-//! Connections over loopback, in one process with their clients.
+//! Connections over loopback, in the same process as their clients.
 
 use super::begun::{BAD_REQUEST, BEGUN, KEYED, KEYING};
 use super::clients::{Jumping, Port};
 use super::disks::Disks;
 use super::steps::Step;
-use super::test_host::{TestHost, hear, play_acts};
+use super::test_host::{TestHost, expect, run_parts};
 use mio::net::TcpListener;
 use sockets::{Loopback, Poller, SocketNetwork};
 use std::cell::RefCell;
@@ -13,7 +13,7 @@ use std::net::{Ipv4Addr, SocketAddr, TcpStream};
 use std::process::Abort;
 use std::test::Fail;
 
-/// Returns a client that has sent this, and stays connected.
+/// Returns a client that has sent `sends` and stays connected.
 fn connected(rt: &HostRuntime, office: SocketAddr, sends: &str) -> Result<TcpStream, Fail> {
     let mut stream = TcpStream::connect(rt, office)?;
     stream.write_all(sends.as_bytes())?;
@@ -29,12 +29,12 @@ fn received(rt: &HostRuntime, mut stream: TcpStream) -> Result<String, Fail> {
 
 /// Serves the clients of a port.
 fn serve<M: TestHost + Drop>(rt: &(impl Abort + AllocGlobal), port: &Port) -> Result<(), Fail> {
-    let host: M = play_acts(rt, BEGUN)?;
-    hear(rt, host, &[(Step::Listen(port), (0, "Ok(())", ""))])?;
+    let host: M = run_parts(rt, BEGUN)?;
+    expect(rt, host, &[(Step::Listen(port), (0, "Ok(())", ""))])?;
     Ok(())
 }
 
-/// The first of three clients is silent. It delays no other, and is closed.
+/// The first of three clients is silent. It delays neither of the other two, and is closed.
 #[test]
 fn connections_are_answered_side_by_side(rt: HostRuntime) -> Result<(), Fail> {
     let listener = TcpListener::bind(&rt, SocketAddr::from((Ipv4Addr::LOCALHOST, 0)))?;

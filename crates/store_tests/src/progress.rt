@@ -1,11 +1,11 @@
-//! The progress of a long output is printed, and doesn't change the output.
+//! A long output prints its progress, which doesn't change the output.
 
 use super::clients::LimitedWriter;
 use desk::ProgressSink;
 use std::test::Fail;
 use streams::{Counted, Sink, put_all};
 
-/// How many lines are printed.
+/// The number of lines in the output.
 const LINES: u32 = 250;
 
 #[test]

@@ -1,17 +1,17 @@
-//! Scripts on files that stop: a prefix of their requests is stored. (Their other outcomes are played in
+//! Scripts on files that stop: a prefix of their requests is stored. (Their other outcomes are covered by
 //! examples/transcripts/replays.txt.)
 
 use super::disks::Disks;
 use super::steps::{Case, STOPPED, Step, TestFiles};
 use super::stops::CALLS;
-use super::test_host::{Act, File, TestHost, hear, play_acts, rows};
+use super::test_host::{Act, File, TestHost, expect, rows, run_parts};
 use super::transcripts::read;
 use std::process::Abort;
 use std::test::Fail;
 
 const MADE: &[Act] = &[Act::Typed("$ init\noffice ready\n")];
 
-/// The requests of a script that is stopped, one order at a time.
+/// The script's requests, as one order each.
 const REQUESTS: &str = "$ ward 7 1 Harbour --id w1
 ward 7 added
 $ import-candidates FILE --id c
@@ -34,13 +34,13 @@ $ import-keying 4 12 1 FILE --id k1
 batch 12 round 1 keyed
 ";
 
-/// The files that it names.
+/// The files that the script names.
 const STOPPED_SHELF: TestFiles<'static> = &[
     ("names.csv", b"ward,candidate,name\n7,1,Ann\n7,2,Bob\n"),
     ("clerk.csv", b"paper,1,2\n1,1,2\n"),
 ];
 
-/// The script, and the same with a line that is refused.
+/// The script, and the same script with a refused line.
 const STOPPED_SCRIPTS: [Case<'static>; 2] = [
     (
         Step::Script(
@@ -84,7 +84,7 @@ candidate 2 of ward 7 added
     ),
 ];
 
-/// Returns the rows after each prefix of the requests, beginning with the empty one.
+/// Returns the rows after each prefix of the requests, beginning with the empty prefix.
 fn beginnings<M: TestHost + Drop>(
     rt: &(impl Abort + AllocGlobal),
     host: M,
@@ -93,16 +93,16 @@ fn beginnings<M: TestHost + Drop>(
     let (none, mut host) = rows(rt.alloc(), host)?;
     let mut all = vec![in rt.alloc(); none]?;
     for typed in read(rt.alloc(), REQUESTS)?.iter().take(requests) {
-        let (found, behind) = rows(rt.alloc(), hear(rt, host, &[typed.case()])?)?;
+        let (found, behind) = rows(rt.alloc(), expect(rt, host, &[typed.case()])?)?;
         all.push(found)?;
         host = behind;
     }
     Ok(all)
 }
 
-/// Runs a script on disks of which one stops after so many calls, restarts them, and checks the rows: those after the acknowledged
-/// requests, or after one more. Repeated, the script has its whole output, and the rows are those without the stop. Returns whether
-/// there was no stop.
+/// Runs a script on disks, one of which stops after a number of calls, restarts them, and checks the rows: they must be
+/// those after the acknowledged requests, or after one additional request. When repeated, the script must have its
+/// whole output, and the rows must be the same as without the stop. Returns whether nothing stopped.
 fn stop_script<M: TestHost + Drop>(
     rt: &(impl Abort + AllocGlobal),
     host: M,
@@ -129,18 +129,18 @@ fn stop_script<M: TestHost + Drop>(
         may_stand.any(|rows| *rows == found),
         "{told:?} left other rows"
     );
-    let (end, _) = rows(rt.alloc(), hear(rt, left, &[case])?)?;
+    let (end, _) = rows(rt.alloc(), expect(rt, left, &[case])?)?;
     assert!(rt; beginnings.last() == Some(&end), "{told:?} sent again");
     Ok(told == whole)
 }
 
-/// Stops each of the scripts at each call of one file.
+/// Stops each of the scripts at each call on one file.
 fn stop_scripts<M: TestHost + Drop>(
     rt: &(impl Abort + AllocGlobal),
     file: File,
 ) -> Result<(), Fail> {
     for case in STOPPED_SCRIPTS {
-        let host: M = play_acts(rt, MADE)?;
+        let host: M = run_parts(rt, MADE)?;
         let copy = host.copied(rt.alloc(), file, u64::MAX)?;
         let beginnings = beginnings(rt, copy, case.1.1.lines().count())?;
         let mut ended = false;

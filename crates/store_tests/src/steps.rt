@@ -1,4 +1,4 @@
-//! Steps on an open database, and the output of each. Nothing here names a store.
+//! Steps on an open database, and the output of each. This module names no store.
 
 ghost use Rattle.std.specs.Prelude.{◌≡◌, ◌+◌, ◌-◌, ◌^◌, ◌<◌, Some, true};
 
@@ -7,7 +7,7 @@ use super::loads::loads;
 use codes::Codes;
 use desk::perform::perform;
 use desk::{Failure, Folder, Order, copy_office, order, tell_failure, tell_words};
-use office::{Answer, Office, Run, Stop, Work};
+use office::{Answer, Office, ReadError, RunOutcome, Work};
 use register::Request;
 use server::{Destination, FileNumbers, ServeError, ServedFile, ServerSettings, serve_connections};
 use sqlite::{Alter, Connection};
@@ -20,26 +20,26 @@ use wire::{Gate, HttpSettings, Page};
 /// One step of a script.
 #[derive(Clone, Copy, Debug)]
 pub enum Step<'a> {
-    /// An order, by its words. The file that it names doesn't exist.
+    /// An order, given by its words. The file that they name doesn't exist.
     Order(&'a [&'a str]),
-    /// The same, and the file that it names has these bytes.
+    /// Like `Order`, except that the file named by the words has the given bytes.
     FileOrder(&'a [&'a str], &'a [u8]),
-    /// A script; each file that it names has the bytes next to its path, and no other file exists.
+    /// A script. Each file it names has the bytes next to its path, and no other file exists.
     Script(&'a [u8], TestFiles<'a>),
-    /// The same, and each of the two outputs accepts no more than so many bytes.
-    BreakingOrder(&'a [&'a str], &'a [u8], Rooms),
-    /// A list of requests to a new office; their answers are the output.
+    /// Like `FileOrder`, but each of the two outputs accepts a limited number of bytes.
+    BreakingOrder(&'a [&'a str], &'a [u8], OutputLimits),
+    /// A list of requests to a new office; the answers are the output.
     List(&'a [Request]),
-    /// A request to the opened office for the work of a clerk; the answer is the output.
+    /// A request to the open office for a clerk's work; the answer is the output.
     Work(u32),
-    /// Reading a ward's papers and its count from the opened store; they are the output.
+    /// Reading a ward's papers and count from the open store; the values read are the output.
     Loads(u32),
-    /// Serving clients of the opened office; each may be accepted or not, and their connections may break. The responses are the
-    /// output, with a line feed between each two. The outcome of serving is the error output.
+    /// Serving clients of the open office; accepting a client may fail, and connections may break. The responses,
+    /// separated by line feeds, are the output. The outcome of serving is the error output.
     Serve(Evening<'a>),
-    /// Serving clients of the opened office at a port, while the clock jumps by more than half a minute; the outcome is the output.
+    /// Serving clients of the open office on a port, while the clock jumps by more than half a minute; the outcome is the output.
     Listen(&'a Port),
-    /// Statements, whatever is in the database.
+    /// SQL statements that may change the database in any way.
     Change(&'a str),
     /// Every row of every table, as the output.
     Contents,
@@ -48,7 +48,7 @@ pub enum Step<'a> {
 /// Files in memory: the path and the bytes of each.
 pub type TestFiles<'a> = &'a [(&'a str, &'a [u8])];
 
-/// A folder of these files, and the file that the words name.
+/// A folder with the given files, and the file named by the words.
 #[derive(Clone, Copy)]
 struct OpenTestFiles<'a> {
     named: Option<&'a str>,
@@ -72,18 +72,18 @@ impl<'a> Folder for OpenTestFiles<'a> {
     }
 }
 
-/// The words that send a script.
+/// The words of the order that runs a script.
 const REPLAY: &[&str] = &["DB", "replay", "FILE"];
 
-/// The number of bytes that the output accepts before it fails, and the same for the error output.
+/// The number of bytes that the output accepts before it fails, and the number that the error output accepts.
 #[derive(Clone, Copy, Debug)]
-pub struct Rooms {
+pub struct OutputLimits {
     pub out: usize,
     pub err: usize,
 }
 
 /// Outputs that don't fail.
-const AMPLE: Rooms = Rooms {
+const AMPLE: OutputLimits = OutputLimits {
     out: usize::MAX,
     err: usize::MAX,
 };
@@ -94,10 +94,10 @@ pub type StepExpected<'a> = (u8, &'a str, &'a str);
 /// A step, and its expected result.
 pub type Case<'a> = (Step<'a>, StepExpected<'a>);
 
-/// The output of an order if the store stopped; it never reports that an allocation failed.
+/// The output of an order if the store stopped; this never reports a failed allocation.
 pub const STOPPED: StepExpected<'static> = (3, "", "fault 102: store\n");
 
-/// The response to a client then.
+/// The response to a client if the store stopped.
 pub const STOPPED_ANSWER: &str =
     "HTTP/1.1 503 Service Unavailable\r\nContent-Type: application/json\r\nContent-Length: 13\r\nConnection: close\r\n\r\n{\"fault\":102}";
 
@@ -110,7 +110,7 @@ pub struct StepPrinted {
 }
 
 impl StepPrinted {
-    pub fn quietly(alloc: Global, out: String) -> StepPrinted {
+    pub fn printed_only(alloc: Global, out: String) -> StepPrinted {
         StepPrinted {
             status: 0,
             out,
@@ -118,7 +118,7 @@ impl StepPrinted {
         }
     }
 
-    /// Returns whether its status is 0.
+    /// Returns whether the status is 0.
     pub fn is_done(&self) -> bool {
         self.status == 0
     }
@@ -133,7 +133,7 @@ impl StepPrinted {
     }
 }
 
-/// Performs an order with a file, and returns the status.
+/// Executes an order with a file, and returns the status.
 fn give<S: Alter + Drop, O: Sink, E: Sink>(
     alloc: Global,
     conn: Connection<S>,
@@ -162,7 +162,7 @@ fn give<S: Alter + Drop, O: Sink, E: Sink>(
     }
 }
 
-fn answered(alloc: Global, run: &Run) -> Result<String, AllocError> {
+fn answered(alloc: Global, run: &RunOutcome) -> Result<String, AllocError> {
     let mut text = String::new(alloc);
     for answer in run.answers.iter() {
         let line = match answer {
@@ -188,7 +188,10 @@ fn list<S: Alter + Drop>(
     };
     let run = office.run(requests);
     let conn = office.into_connection();
-    Ok((StepPrinted::quietly(alloc, answered(alloc, &run)?), conn))
+    Ok((
+        StepPrinted::printed_only(alloc, answered(alloc, &run)?),
+        conn,
+    ))
 }
 
 /// Returns one line per batch of a clerk's work.
@@ -221,19 +224,20 @@ fn work<S: Alter + Drop>(
     let conn = office.into_connection();
     let text = match told {
         Ok(work) => work_lines(alloc, &work)?,
-        Err(Stop::Refused(why)) => {
+        Err(ReadError::Refused(why)) => {
             format!(in alloc; "refused {}: {}\n", why.number(), why.text())?
         }
-        Err(Stop::Fault(_)) => return Err(Fail::from("no work is told")),
+        Err(ReadError::Fault(_)) => return Err(Fail::from("no work is told")),
     };
-    Ok((StepPrinted::quietly(alloc, text), conn))
+    Ok((StepPrinted::printed_only(alloc, text), conn))
 }
 
-/// The settings for the file that is served: no proxy, no codes, and no copies or journals.
+/// The settings for serving the test's file: no proxy, no codes, and no copies or journals.
 pub const SERVER_SETTINGS: ServerSettings<'static, Unaided> = ServerSettings {
     http: HttpSettings {
         origin: None,
         gate: None,
+        public: None,
     },
     file: FileNumbers {
         device: 7,
@@ -242,7 +246,7 @@ pub const SERVER_SETTINGS: ServerSettings<'static, Unaided> = ServerSettings {
     served_file: &Unaided,
 };
 
-/// Returns the codes of an evening, if it has any; no wrong code was sent before.
+/// Returns the codes of an evening, if it has any; no wrong code has been sent yet.
 fn codes_of(alloc: Global, evening: Evening<'_>) -> Result<Option<Codes>, Fail> {
     let Some(text) = evening.codes else {
         return Ok(None);
@@ -253,7 +257,7 @@ fn codes_of(alloc: Global, evening: Evening<'_>) -> Result<Option<Codes>, Fail> 
     Ok(Some(held))
 }
 
-/// Returns the settings of a server with these codes.
+/// Returns the settings of a server with the given codes.
 fn terms_of(held: &Option<Codes>) -> ServerSettings<'_, Unaided> {
     let gate = match held {
         Some(codes) => Some(Gate {
@@ -270,13 +274,17 @@ fn terms_of(held: &Option<Codes>) -> ServerSettings<'_, Unaided> {
         None => None,
     };
     ServerSettings {
-        http: HttpSettings { origin: None, gate },
+        http: HttpSettings {
+            origin: None,
+            gate,
+            public: None,
+        },
         file: SERVER_SETTINGS.file,
         served_file: SERVER_SETTINGS.served_file,
     }
 }
 
-/// A file next to which nothing can be made: no copy, and no journal.
+/// A file that can have neither a copy nor a journal.
 #[derive(Clone, Copy)]
 pub struct Unaided;
 
@@ -374,12 +382,12 @@ fn listen<S: Alter + Drop>(
     };
     let conn = office.into_connection();
     let text = format!(in alloc; "{served:?}")?;
-    Ok((StepPrinted::quietly(alloc, text), conn))
+    Ok((StepPrinted::printed_only(alloc, text), conn))
 }
 
 const TABLES: &str = "SELECT name FROM sqlite_schema WHERE type = 'table' ORDER BY name";
 
-/// Returns every row of every table, in the order of the tables' names.
+/// Returns every row of every table, ordered by table name.
 fn contents<S: Alter + Drop>(alloc: Global, conn: &mut Connection<S>) -> Result<String, Fail> {
     let mut text = String::new(alloc);
     for found in conn.query_all(TABLES, &[])? {
@@ -399,10 +407,10 @@ fn ordered<S: Alter + Drop>(
     words: &[&str],
     file: Option<&[u8]>,
     shelf: TestFiles<'_>,
-    rooms: Rooms,
+    limits: OutputLimits,
 ) -> Result<(StepPrinted, Connection<S>), Fail> {
-    let mut out = LimitedWriter::new(alloc, rooms.out);
-    let mut err = LimitedWriter::new(alloc, rooms.err);
+    let mut out = LimitedWriter::new(alloc, limits.out);
+    let mut err = LimitedWriter::new(alloc, limits.err);
     let (status, conn) = {
         let mut out = Counted::new(&mut out);
         let mut err = Counted::new(&mut err);
@@ -412,7 +420,7 @@ fn ordered<S: Alter + Drop>(
     Ok((StepPrinted { status, out, err }, conn))
 }
 
-/// Copies the office of a connection to another.
+/// Copies the office from one connection to another.
 pub fn copied<S: Alter + Drop, T: Alter + Drop>(
     alloc: Global,
     conn: &mut Connection<S>,
@@ -438,8 +446,8 @@ fn done<S: Alter + Drop>(
         Step::Order(words) => ordered(alloc, conn, words, None, &[], AMPLE),
         Step::FileOrder(words, file) => ordered(alloc, conn, words, Some(file), &[], AMPLE),
         Step::Script(script, shelf) => ordered(alloc, conn, REPLAY, Some(script), shelf, AMPLE),
-        Step::BreakingOrder(words, file, rooms) => {
-            ordered(alloc, conn, words, Some(file), &[], rooms)
+        Step::BreakingOrder(words, file, limits) => {
+            ordered(alloc, conn, words, Some(file), &[], limits)
         }
         Step::List(requests) => list(alloc, conn, requests),
         Step::Work(clerk) => work(alloc, conn, clerk),
@@ -448,16 +456,16 @@ fn done<S: Alter + Drop>(
         Step::Listen(port) => listen(alloc, conn, port),
         Step::Change(statements) => {
             conn.execute_batch(statements)?;
-            Ok((StepPrinted::quietly(alloc, String::new(alloc)), conn))
+            Ok((StepPrinted::printed_only(alloc, String::new(alloc)), conn))
         }
         Step::Contents => {
             let text = contents(alloc, &mut conn)?;
-            Ok((StepPrinted::quietly(alloc, text), conn))
+            Ok((StepPrinted::printed_only(alloc, text), conn))
         }
     }
 }
 
-/// Runs the steps in turn, up to the first that reports a stop.
+/// Runs the steps in turn, up to and including the first one that reports a stop.
 pub fn play<S: Alter + Drop>(
     alloc: Global,
     mut conn: Connection<S>,

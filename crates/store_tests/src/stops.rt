@@ -1,6 +1,6 @@
-//! A store that stops at each of its calls in turn during one order. After a restart it has either the old rows, or all changes of
-//! the order; the same order, repeated, ends as if nothing had happened. A client after the one whose request met the stop is told
-//! that the office is closed.
+//! A store that stops at each of its calls in turn while one order is executed. After a restart it has either the old
+//! rows or all the changes made by the order; the same order, repeated, ends as if the store had never stopped. A
+//! client that connects after the one whose request hit the stop gets a response saying that the office is closed.
 
 mod counts;
 
@@ -8,25 +8,25 @@ use super::begun::{BEGUN, KEYED, KEYING, NOMINATED};
 use super::clients::{Evening, TestClient};
 use super::disks::Disks;
 use super::steps::{Case, STOPPED, STOPPED_ANSWER, Step, StepExpected};
-use super::test_host::{Act, File, TestHost, hear, hear_unchanged, play_acts, rows};
+use super::test_host::{Act, File, TestHost, expect, expect_unchanged, rows, run_parts};
 use super::transcripts::read;
 use std::process::Abort;
 use std::test::Fail;
 
-/// More calls than an order makes of either file.
+/// More calls than an order makes on either file.
 pub const CALLS: u64 = 2000;
 
-/// How many papers the largest batch has.
+/// The number of papers in the largest batch.
 const PAPERS: u32 = 500;
 
-/// The output of `init` for an existing office.
+/// The output of `init` if the office already exists.
 const MADE: StepExpected<'static> = (3, "", "fault 105: wrong database\n");
 
-/// The output of `migrate` for an office of this version.
+/// The output of `migrate` for an office that already has this version.
 const MIGRATED: StepExpected<'static> = (0, "office is at version 2\n", "");
 
-/// Returns the output of an order that is repeated after all of its changes were found.
-fn told_again<'a>(case: Case<'a>, whole: bool) -> StepExpected<'a> {
+/// Returns the expected output of a repeated order, given whether all its changes had already been stored.
+fn expect_repeated<'a>(case: Case<'a>, whole: bool) -> StepExpected<'a> {
     match case {
         (Step::Order(["DB", "init"]), _) if whole => MADE,
         (Step::Order(["DB", "migrate"]), _) if whole => MIGRATED,
@@ -34,7 +34,7 @@ fn told_again<'a>(case: Case<'a>, whole: bool) -> StepExpected<'a> {
     }
 }
 
-/// The rows of every table before an order and after it, and the ward's sheet after it, if there is one.
+/// The rows of every table before and after an order, and the ward's sheet afterwards, if there is one.
 #[derive(Drop)]
 struct Sides {
     before: String,
@@ -44,17 +44,17 @@ struct Sides {
 
 const SHEET: Step<'static> = Step::Order(&["DB", "sheet", "7"]);
 
-/// Performs an order on disks that don't stop, and returns the rows before and after it, and the disks. Repeated three times, it
-/// leaves the rows unchanged.
+/// Executes an order on disks that don't stop, and returns the rows before and after it, and the disks. When repeated
+/// three times, the order must leave the rows unchanged.
 fn sides_of<M: TestHost + Drop>(
     rt: &(impl Abort + AllocGlobal),
     host: M,
     case: Case<'_>,
 ) -> Result<(Sides, M), Fail> {
     let (before, host) = rows(rt.alloc(), host)?;
-    let (after, host) = rows(rt.alloc(), hear(rt, host, &[case])?)?;
-    let again = (case.0, told_again(case, true));
-    let host = hear_unchanged(rt, host, &[again, again, again])?;
+    let (after, host) = rows(rt.alloc(), expect(rt, host, &[case])?)?;
+    let again = (case.0, expect_repeated(case, true));
+    let host = expect_unchanged(rt, host, &[again, again, again])?;
     let (said, host) = host.play(rt.alloc(), &[SHEET])?;
     let sheet = match said.as_slice() {
         [said] if said.is_done() => Some(String::from_str(rt.alloc(), said.told().1)?),
@@ -68,7 +68,8 @@ fn sides_of<M: TestHost + Drop>(
     Ok((sides, host))
 }
 
-/// Performs an order on disks of which one stops after so many calls. Returns whether it was acknowledged, and the disks.
+/// Executes an order on disks, one of which stops after a number of calls. Returns whether the order was acknowledged,
+/// and the disks.
 fn stop_under<M: TestHost + Drop>(
     rt: &(impl Abort + AllocGlobal),
     host: M,
@@ -88,9 +89,10 @@ fn stop_under<M: TestHost + Drop>(
     Ok((answered, left))
 }
 
-/// Performs an order on disks of which one stops after so many calls, restarts them, and checks the rows: those before it, or those
-/// after it, which alone are allowed if it was acknowledged. Repeated, it ends as without the stop, and the ward's sheet is the
-/// same. Returns whether the order was acknowledged.
+/// Executes an order on disks, one of which stops after a number of calls, restarts them, and checks the rows: they
+/// must be those before the order or those after it, and only those after it if it was acknowledged. When repeated, the
+/// order must end as it does without the stop, and the ward's sheet must be the same. Returns whether the order was
+/// acknowledged.
 fn stop_once<M: TestHost + Drop>(
     rt: &(impl Abort + AllocGlobal),
     host: M,
@@ -112,7 +114,7 @@ fn stop_once<M: TestHost + Drop>(
         "{order:?} left rows of neither side"
     );
     let (status, out, err) = told.told();
-    let (wanted, page, fault) = told_again(case, whole);
+    let (wanted, page, fault) = expect_repeated(case, whole);
     assert!(rt; status == wanted, "{order:?} given again");
     assert!(rt;
         out.as_bytes() == page.as_bytes() && err.as_bytes() == fault.as_bytes(),
@@ -132,7 +134,7 @@ fn stop_once<M: TestHost + Drop>(
     Ok(answered)
 }
 
-/// Stops an order at each call of one file, until a run has no stop. Returns the disks after the order.
+/// Stops an order at each call on one file, until it finishes without a stop. Returns the disks after the order.
 fn stop_each<M: TestHost + Drop>(
     rt: &(impl Abort + AllocGlobal),
     host: M,
@@ -150,15 +152,15 @@ fn stop_each<M: TestHost + Drop>(
     Err(Fail::from("no run was long enough"))
 }
 
-/// The first orders of an office, on new files.
+/// The first orders to an office, on new files.
 const FIRST: &str = "$ init
 office ready
 $ ward 7 2 Harbour --id w1
 ward 7 added
 ";
 
-/// The orders of one request each from nominations to a batch. (An import of candidates is one request per record, so a stop may
-/// leave some of them.)
+/// The orders from nominations to a batch; each is one request. (An import of candidates is one request per record, so
+/// after a stop only some of them may be stored.)
 const TO_BATCH: &str = "$ withdraw 7 3 --id x1
 candidate 3 of ward 7 withdrawn
 $ candidate 7 3 Cy --id c4
@@ -195,26 +197,26 @@ $ import-keying 9 12 1 FILE --id k1
 batch 12 round 1 keyed
 ";
 
-/// It gets a third clerk, and a new round.
+/// The batch gets a third clerk and a new round.
 const NEW_ROUND: &str = "$ third 12 5 --id t1
 batch 12 third clerk 5
 $ again 12 --id g1
 batch 12 round 2 open
 ";
 
-/// Stops a keying over HTTP at each call of one file.
+/// Stops a keying over HTTP at each call on one file.
 fn stop_client<M: TestHost + Drop>(
     rt: &(impl Abort + AllocGlobal),
     file: File,
 ) -> Result<(), Fail> {
     let client = [Some(TestClient::whole(KEYING.as_bytes()))];
     let case = (Step::Serve(Evening::of(&client)), (0, KEYED, "Ok(())"));
-    let host: M = play_acts(rt, BEGUN)?;
+    let host: M = run_parts(rt, BEGUN)?;
     stop_each(rt, host, case, file)?;
     Ok(())
 }
 
-/// Stops the orders of a new round at each call of one file.
+/// Stops the orders of a new round at each call on one file.
 fn stop_new_round<M: TestHost + Drop>(
     rt: &(impl Abort + AllocGlobal),
     file: File,
@@ -223,21 +225,21 @@ fn stop_new_round<M: TestHost + Drop>(
     stop_orders::<M>(rt, &before, NEW_ROUND, file)
 }
 
-/// Stops orders, each at each call of one file.
+/// Stops orders, each at each call on one file.
 pub fn stop_orders<M: TestHost + Drop>(
     rt: &(impl Abort + AllocGlobal),
     before: &[Act],
     orders: &str,
     file: File,
 ) -> Result<(), Fail> {
-    let mut host: M = play_acts(rt, before)?;
+    let mut host: M = run_parts(rt, before)?;
     for order in &read(rt.alloc(), orders)? {
         host = stop_each(rt, host, order.case(), file)?;
     }
     Ok(())
 }
 
-// A test has 60 seconds, so the many calls of the log are split among several.
+// A test may run for 60 seconds, so the many calls on the log are split across several tests.
 #[test]
 fn the_first_orders_stop_whole_at_their_log(rt: HostRuntime) -> Result<(), Fail> {
     stop_orders::<Disks>(&rt, &[], FIRST, File::Log)
@@ -274,7 +276,7 @@ fn orders_stop_whole_at_their_database(rt: HostRuntime) -> Result<(), Fail> {
     stop_orders::<Disks>(&rt, &batch, TO_VERDICT, File::Database)
 }
 
-/// A batch of as many papers as one may have.
+/// A batch with as many papers as a batch may have.
 const GIVEN_OUT_WHOLE: &str = "$ close 7 --id n1
 ward 7 polled
 $ batch 12 7 500 4 9 --id b1
@@ -298,19 +300,19 @@ fn a_large_keying_stops_whole(rt: HostRuntime) -> Result<(), Fail> {
     Ok(())
 }
 
-/// The response to a second client, of a closed office.
+/// The response to a second client: the office is closed.
 const CLOSED_ANSWER: &str =
     "\nHTTP/1.1 503 Service Unavailable\r\nContent-Type: application/json\r\nContent-Length: 13\r\nConnection: close\r\n\r\n{\"fault\":104}";
 
-/// What a store's stop does to the keyings of two clients in turn.
+/// When the store stopped during two clients' keyings, one after the other.
 enum StoreStop {
     AtTheOpening,
     AtTheFirst,
     BehindTheFirst,
 }
 
-/// Two clients key on disks whose log stops after so many calls. If the first gets the fault of the stop, the second is told that
-/// the office is closed.
+/// Two clients key on disks whose log stops after `calls` calls. If the first gets the fault for the stop, the second
+/// gets a response saying that the office is closed.
 fn stop_twice<M: TestHost + Drop>(
     rt: &(impl Abort + AllocGlobal),
     host: &M,
@@ -336,7 +338,7 @@ fn stop_twice<M: TestHost + Drop>(
 }
 
 fn closed_says_so<M: TestHost + Drop>(rt: &(impl Abort + AllocGlobal)) -> Result<(), Fail> {
-    let host: M = play_acts(rt, BEGUN)?;
+    let host: M = run_parts(rt, BEGUN)?;
     let mut closed = false;
     for calls in 0..CALLS {
         match stop_twice(rt, &host, calls)? {

@@ -1,6 +1,6 @@
-//! Steps of tests with an office on the disks of a host that can be stopped.
+//! Test steps for an office on the disks of a host that can be stopped.
 //!
-//! They are generic over the host, so their proofs don't depend on the store, and are short.
+//! They are generic over the host, so their proofs are short and don't depend on the store.
 
 use super::steps::{Case, Step, StepPrinted};
 use super::transcripts::read;
@@ -8,37 +8,37 @@ use std::alloc::Global;
 use std::process::Abort;
 use std::test::Fail;
 
-/// Which of the two files stops.
+/// The file that stops.
 #[derive(Clone, Copy)]
 pub enum File {
     Log,
     Database,
 }
 
-/// A part of a play.
+/// A part of a test's script.
 #[derive(Clone, Copy, Debug)]
 pub enum Act {
     /// Orders and their replies, as a transcript.
     Typed(&'static str),
-    /// Both clerks of batch 12 key these same papers.
+    /// Both clerks of batch 12 key the given papers.
     Keyed(&'static str),
 }
 
 /// A host with the log and the database file of an office.
 pub trait TestHost: Sized {
-    /// New files; the log fails after `log` calls, and the database file after `db` calls.
+    /// Returns new files; the log fails after `log` calls, and the database file after `db` calls.
     fn stopping(alloc: Global, log: u64, db: u64) -> Self;
 
-    /// Files with the same bytes, of which this one fails after so many calls.
+    /// Returns files with the same bytes, of which `file` fails after `calls` calls.
     fn copied(&self, alloc: Global, file: File, calls: u64) -> Result<Self, Fail>;
 
-    /// The host restarts: bytes that weren't synced are lost, and no call fails from then on.
+    /// Restarts the host: unsynced bytes are lost, and no call fails from then on.
     fn restarted(self) -> Self;
 
-    /// Opens the database, and runs the steps on it. If the store stops while the database is opened, nothing is printed.
+    /// Opens the database, and runs the steps on it. Nothing is printed if the store stops while the database is being opened.
     fn play(self, alloc: Global, script: &[Step<'_>]) -> Result<(Vec<StepPrinted>, Self), Fail>;
 
-    /// Copies the office to other files. If those stop while they are opened, nothing is printed.
+    /// Copies the office to other files. Nothing is printed if those stop while being opened.
     fn copy_onto(
         self,
         alloc: Global,
@@ -52,18 +52,18 @@ fn sorted(alloc: Global, rows: &str) -> Result<Vec<&str>, Fail> {
     Ok(lines)
 }
 
-/// Returns whether the rows are the same, in any order.
+/// Returns whether both texts have the same rows, in any order.
 pub fn are_same(alloc: Global, rows: &str, others: &str) -> Result<bool, Fail> {
     Ok(sorted(alloc, rows)?.as_slice() == sorted(alloc, others)?.as_slice())
 }
 
-/// New files that never fail.
+/// Returns new files that never fail.
 pub fn lasting<M: TestHost + Drop>(alloc: Global) -> M {
     M::stopping(alloc, u64::MAX, u64::MAX)
 }
 
-/// Runs the steps, each of which must have this result.
-pub fn hear<M: TestHost + Drop>(
+/// Runs the steps, each of which must have its expected result.
+pub fn expect<M: TestHost + Drop>(
     rt: &(impl Abort + AllocGlobal),
     host: M,
     cases: &[Case<'_>],
@@ -86,7 +86,7 @@ pub fn rows<M: TestHost + Drop>(alloc: Global, host: M) -> Result<(String, M), F
     }
 }
 
-/// Runs the orders of a transcript, each of which must have the reply in it.
+/// Runs a transcript's orders, each of which must get the reply in the transcript.
 pub fn follow<M: TestHost + Drop>(
     rt: &(impl Abort + AllocGlobal),
     host: M,
@@ -94,31 +94,31 @@ pub fn follow<M: TestHost + Drop>(
 ) -> Result<M, Fail> {
     let asked = read(rt.alloc(), transcript)?;
     let cases: Vec<Case<'_>> = asked.iter().map(|typed| typed.case()).collect(rt.alloc())?;
-    hear(rt, host, &cases)
+    expect(rt, host, &cases)
 }
 
-/// Runs the steps, each of which must have this result, and none of which may change a row.
-pub fn hear_unchanged<M: TestHost + Drop>(
+/// Runs the steps, each of which must have its expected result and none of which may change a row.
+pub fn expect_unchanged<M: TestHost + Drop>(
     rt: &(impl Abort + AllocGlobal),
     host: M,
     cases: &[Case<'_>],
 ) -> Result<M, Fail> {
     let (before, host) = rows(rt.alloc(), host)?;
-    let (after, host) = rows(rt.alloc(), hear(rt, host, cases)?)?;
+    let (after, host) = rows(rt.alloc(), expect(rt, host, cases)?)?;
     assert_eq!(rt; before.as_str(), after.as_str());
     Ok(host)
 }
 
-/// The same for one case.
+/// Does the same as `expect_unchanged` for a single step.
 pub fn hear_one_unchanged<M: TestHost + Drop>(
     rt: &(impl Abort + AllocGlobal),
     host: M,
     case: Case<'_>,
 ) -> Result<M, Fail> {
-    hear_unchanged(rt, host, &[case])
+    expect_unchanged(rt, host, &[case])
 }
 
-/// Both clerks of batch 12 key these papers, a file's text.
+/// Has both clerks of batch 12 key the given papers, which are the text of a file.
 fn key<M: TestHost + Drop>(
     rt: &(impl Abort + AllocGlobal),
     host: M,
@@ -137,7 +137,7 @@ fn key<M: TestHost + Drop>(
             "k1",
         ];
         let keyed = (0, "batch 12 round 1 keyed\n", "");
-        host = hear(
+        host = expect(
             rt,
             host,
             &[(Step::FileOrder(&words, papers.as_bytes()), keyed)],
@@ -157,8 +157,8 @@ pub fn do_act<M: TestHost + Drop>(
     }
 }
 
-/// Plays acts on new files.
-pub fn play_acts<M: TestHost + Drop>(
+/// Runs the given parts on new files.
+pub fn run_parts<M: TestHost + Drop>(
     rt: &(impl Abort + AllocGlobal),
     acts: &[Act],
 ) -> Result<M, Fail> {

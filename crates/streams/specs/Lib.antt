@@ -1,3 +1,3 @@
--- Streams, and what is counted of them.
+-- Streams, and what they count.
 pub mod Streams
 pub mod Counted

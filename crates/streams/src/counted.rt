@@ -1,4 +1,4 @@
-//! A reader or a writer of the standard library with a count of its failures.
+//! Wraps a standard-library reader or writer and counts its failures.
 
 ghost use Rattle.std.specs.Prelude.{◌≡◌, ◌+◌, ◌-◌, ◌^◌, ◌<◌};
 ghost use Rattle.streams.specs.Counted.{stream_of, failed_calls, taken_of, given_of};
@@ -9,7 +9,8 @@ use std::io::{Read, Write};
 
 /// A sink made from a writer, or a source made from a reader.
 ///
-/// An error of the writer or the reader is a failure, and so is a write that accepts no byte of a nonempty slice.
+/// An error from the writer or reader counts as a failure, and so does a write that accepts none of the bytes of a nonempty
+/// slice.
 #[derive(Drop)]
 pub struct Counted<T> {
     stream: T,
@@ -17,7 +18,7 @@ pub struct Counted<T> {
 }
 
 impl<T> Counted<T> {
-    /// Wraps a writer or a reader; no call has failed yet.
+    /// Wraps a writer or a reader. No call has failed yet.
     pub fn new(stream: T) -> Counted<T>
         ensures stream { stream_of result ≡ stream }
         ensures failed { failed_calls result ≡ 0 }
@@ -36,8 +37,8 @@ impl<T> Counted<T> {
     }
 }
 
-/// Returns how many of `len` bytes a writer accepted, by the result of a write. `None` for a failure: an error, or no byte accepted
-/// though there are some.
+/// Returns how many of `len` bytes a writer accepted, given the result of a write. Returns `None` for a failure: an error, or no
+/// bytes accepted when there are any to accept.
 fn taken(answer: io::Result<usize>, len: usize) -> Option<usize>
     ensures { result ≡ taken_of len answer }
 {
@@ -47,8 +48,8 @@ fn taken(answer: io::Result<usize>, len: usize) -> Option<usize>
     }
 }
 
-/// Returns how many bytes a reader supplied, by the result of a read. `None` for an error, which is a failure.
-fn given(answer: io::Result<usize>) -> Option<usize>
+/// Returns how many bytes a reader supplied, given the result of a read. Returns `None` for an error, which counts as a failure.
+fn count_read(answer: io::Result<usize>) -> Option<usize>
     ensures { result ≡ given_of answer }
 {
     match answer {
@@ -80,7 +81,7 @@ impl<T: Read> Source for Counted<T> {
     ghost failed = { λ s. s.failed };
 
     fn fetch(&mut self, room: &mut [u8]) -> Result<usize, Broken> {
-        match given(self.stream.read(room)) {
+        match count_read(self.stream.read(room)) {
             Some(n) => Ok(n),
             None => Err(self.broken()),
         }

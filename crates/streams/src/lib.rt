@@ -1,6 +1,7 @@
-//! Streams of bytes that count the calls that failed.
+//! Byte streams that count failed calls.
 //!
-//! A [`Sink`] accepts bytes, and a [`Source`] supplies them. [`Counted`] makes either from a writer or a reader of the standard library.
+//! A [`Sink`] accepts bytes, and a [`Source`] supplies them. [`Counted`] turns a standard-library writer into
+//! a sink, or a reader into a source.
 //!
 //! ```text
 //! let mut sink = Counted::new(&mut page);
@@ -10,7 +11,7 @@
 
 // sinks and sources of bytes
 mod streams;
-// streams of the standard library
+// streams from the standard library
 mod counted;
 
 pub use counted::Counted;

@@ -1,4 +1,4 @@
-//! Sinks and sources of bytes, each with a count of its failed calls.
+//! Byte sinks and byte sources, each of which counts failed calls.
 
 ghost use Rattle.std.specs.Prelude.{◌≡◌, ℕ, ◌+◌, ◌-◌, ◌^◌, ◌<◌, ◌≤◌, List, length, take, IfOk, OnOk, OnErr, Option};
 ghost use Rattle.std.specs.Io.KnownBytes.{Appends, Consumes, IsAtEnd, Keeps};
@@ -6,22 +6,22 @@ ghost use Rattle.streams.specs.Streams.{AppendsBeginning};
 
 use thiserror::Error;
 
-/// A call of a sink or a source failed, and its count of failures rose by one.
+/// A call to a sink or a source failed, and its count of failures increased by one.
 #[derive(Clone, Copy, Debug, PartialEq, Eq, Error)]
 #[error("broken stream")]
 pub struct Broken;
 
-/// A destination of bytes that counts its failed calls.
+/// A destination for bytes that counts failed calls.
 pub trait Sink {
-    /// The bytes accepted so far, as far as they are known.
+    /// The bytes accepted so far, if known.
     ghost taken: { Self → Option (List ℕ) };
 
     /// The number of failed calls.
     ghost failed: { Self → ℕ };
 
-    /// Accepts a prefix of the bytes, of at least one byte if there are any, and returns its length.
+    /// Accepts a prefix of the bytes, at least one byte if there are any, and returns its length.
     ///
-    /// After `Broken` the accepted bytes are unchanged.
+    /// After `Broken`, the bytes accepted so far are unchanged.
     fn put(&mut self, bytes: &[u8]) -> Result<usize, Broken>
         requires { failed self.old < 2 ^ 64 - 1 }
         ensures within { IfOk result (λ n. n ≤ length bytes.now) }
@@ -36,17 +36,18 @@ pub trait Sink {
         ensures { result ≡ failed self.now };
 }
 
-/// A source of bytes that counts its failed calls.
+/// A source of bytes that counts failed calls.
 pub trait Source {
-    /// The bytes still to be read, as far as they are known.
+    /// The bytes still to be read, if known.
     ghost held: { Self → Option (List ℕ) };
 
-    /// The number of failed calls.
+    /// The number of failed calls so far.
     ghost failed: { Self → ℕ };
 
-    /// Reads the next bytes into the front of a buffer, and returns how many: none only if the buffer is empty, or at the end.
+    /// Reads the next bytes into the front of a buffer and returns how many there are: 0 only if the buffer is empty or the
+    /// source is exhausted.
     ///
-    /// After `Broken` the bytes still to be read are unchanged; the content of the buffer is unspecified.
+    /// After `Broken`, the bytes still to be read are unchanged; the content of the buffer is unspecified.
     fn fetch(&mut self, room: &mut [u8]) -> Result<usize, Broken>
         requires { failed self.old < 2 ^ 64 - 1 }
         ensures within { IfOk result (λ n. n ≤ length room.new) }
@@ -61,9 +62,9 @@ pub trait Source {
         ensures { result ≡ failed self.now };
 }
 
-/// Writes all of the bytes to a sink, in as many calls as needed.
+/// Writes all of the given bytes to a sink, in as many calls as needed.
 ///
-/// Returns `Broken` only if a call of the sink fails. The sink has then accepted a prefix of the bytes, and its count of failures
+/// Returns `Broken` only if a call to the sink fails. The sink has then accepted a prefix of the bytes, and its count of failures
 /// is one higher.
 pub fn put_all<W: Sink>(sink: &mut W, bytes: &[u8]) -> Result<(), Broken>
     requires { W.failed sink.old < 2 ^ 64 - 1 }

@@ -1,4 +1,4 @@
-//! Of `count`: both books, their stages, and what is due.
+//! The functions of `count`: both kinds of book, their stages, and what comes next.
 
 ghost use Rattle.std.specs.Prelude.{◌≡◌, map, reverse, length, ◌<◌};
 ghost use Rattle.count.specs.Books.{placed};
@@ -55,7 +55,7 @@ fn place(book: &BundleBook<'_>, i: usize) -> Placed
     book.place(i)
 }
 
-/// Who is tied for a surplus.
+/// Returns the stage of a lot for a surplus, and the tied candidates.
 fn tied_for_surplus(due: &Due) -> Option<(u8, Columns)> {
     match due {
         Due::Lot {
@@ -67,7 +67,7 @@ fn tied_for_surplus(due: &Due) -> Option<(u8, Columns)> {
     }
 }
 
-/// Whom an action is about, 0 for no one.
+/// Returns the candidate that an action concerns; 0 if there is none.
 fn candidate_of(action: Action) -> u8 {
     match action {
         Action::First => 0,
@@ -77,12 +77,13 @@ fn candidate_of(action: Action) -> u8 {
     }
 }
 
-/// Two candidates for one seat.
+/// Returns two candidates.
 fn two() -> Columns {
     Columns::empty().with(1).with(2)
 }
 
-/// The end of a count of no papers by parcels, and of one by bundles: each waits for a lot.
+/// Returns how a count of the given papers ends with parcels, and how a count of no papers ends with bundles: with no
+/// papers, each waits for a lot.
 fn ends(rt: &impl Abort, alloc: Global, papers: &[Prefs]) -> Result<(CountEnd, CountEnd), Fail> {
     let candidates = two();
     assert!(rt; can_be_counted(&candidates, 1, papers));
@@ -93,7 +94,7 @@ fn ends(rt: &impl Abort, alloc: Global, papers: &[Prefs]) -> Result<(CountEnd, C
     Ok((run(&mut by_parcels, &[])?, run(&mut by_bundles, &[])?))
 }
 
-/// A list and how many papers have it, of one paper that is added.
+/// Adds one paper, and returns the number of papers, the number of bundles, and the number of papers in the first bundle.
 fn added(alloc: Global, paper: Prefs) -> Result<(u32, usize, u32), AllocError> {
     let mut bundles = Bundles::new(alloc);
     bundles.add(paper)?;

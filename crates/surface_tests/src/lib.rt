@@ -1,10 +1,11 @@
-//! Tests that public calls of the crates keep their names and parameters.
+//! Tests that the crates' public functions keep their names and parameters.
 //!
-//! Each function here calls one of them as it was first fixed, with `alloc` where it allocates. Renaming a call, or adding a
-//! parameter to it, is a compile error here. An alias or a thin function then keeps the old form: `plain` of `keyfile`,
-//! `wire` and `desk` has such ones. The results of the calls are tested elsewhere; here each is only returned.
+//! Each function here makes one call in its original form, with `alloc` if it allocates. Renaming a public function, or
+//! adding a parameter to it, makes this crate fail to compile. An alias or a thin wrapper can then keep the old form:
+//! the modules `plain` of `keyfile`, `wire` and `desk` contain such wrappers. The results of the calls are tested
+//! elsewhere; here each is only returned.
 //!
-//! The calls over a store are written for any store, and aren't run: `store_tests` runs them.
+//! The calls on a store are written for any store, and aren't run here: `store_tests` runs them.
 #![tactic(auto)]
 
 #[cfg(test)]

@@ -1,4 +1,4 @@
-//! Of `office` and `wire`: requests, reads, and one connection.
+//! The functions of `office` and `wire`: requests, reads, and serving one connection.
 
 ghost use Rattle.std.specs.Prelude.{◌-◌, ◌^◌, ◌<◌};
 
@@ -79,7 +79,7 @@ fn serve<R: Source, W: Sink, S: Alter>(
     serve_one(alloc, reader, writer, office)
 }
 
-/// The status that was answered, if one was.
+/// Returns the status of the response, if one was sent.
 fn status_of(served: Served) -> Option<u16> {
     match served {
         Served::Answered(status) => Some(status),

@@ -1,4 +1,4 @@
-//! Of `store`: what it makes, opens, reads and commits.
+//! The functions of `store`: creating, opening, reading and committing.
 
 use count::Bundles;
 use paper::Prefs;

@@ -1,4 +1,4 @@
-//! Of `sheet` and `keyfile`: the texts of a ward, and import files.
+//! The functions of `sheet` and `keyfile`: the texts of a ward, and import files.
 
 ghost use Rattle.std.specs.Prelude.{◌-◌, ◌^◌, ◌<◌};
 ghost use Rattle.sheet.specs.Wards.{CanBePrinted};
@@ -34,7 +34,7 @@ fn text_of(alloc: Global, ward: &Ward, stages: &[Stage]) -> Result<String, Alloc
     sheet_text(alloc, ward, stages)
 }
 
-/// A ward without papers.
+/// Returns a ward without papers.
 fn ward<'a>(name: &'a str, candidates: &'a [(u8, String)]) -> Ward<'a> {
     Ward {
         number: 7,
@@ -68,7 +68,7 @@ fn keying<R: Read + Drop>(alloc: Global, r: R, columns: Columns) -> Result<Vec<S
     read_keying(alloc, r, columns)
 }
 
-/// The number of the fault of a keying of candidate 1; 0 if there is none, or memory ran out.
+/// Returns the number of the fault in a file with a keying for candidate 1; 0 if there is none or an allocation failed.
 fn fault_of(alloc: Global, file: &[u8]) -> u32 {
     match keying(alloc, file, Columns::empty().with(1)) {
         Ok(_) => 0,

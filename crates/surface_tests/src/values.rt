@@ -1,4 +1,4 @@
-//! Of `votes` and `paper`: values and where their text goes, marks and preferences.
+//! The functions of `votes` and `paper`: values and the streams to which their text is written, marks, and preferences.
 
 ghost use Rattle.std.specs.Prelude.{◌-◌, ◌^◌, ◌<◌};
 
@@ -10,7 +10,7 @@ use std::process::Abort;
 use std::test::Fail;
 use votes::{Broken, Counted, Sink, Source, Votes, quota, transfer_value};
 
-/// Writes a value and the end of its line.
+/// Writes a value and a newline.
 fn put<W: Sink>(sink: &mut W, value: Votes) -> Result<usize, Broken>
     requires { W.failed sink.old < 2 ^ 64 - 1 }
 {
@@ -18,7 +18,7 @@ fn put<W: Sink>(sink: &mut W, value: Votes) -> Result<usize, Broken>
     sink.put(b"\n")
 }
 
-/// Puts a value into memory. Returns how many calls failed too.
+/// Writes a value to memory, and also returns how many calls failed.
 fn put_in_memory(alloc: Global, value: Votes) -> (Result<usize, Broken>, u64) {
     let mut page = Vec::new(alloc);
     let mut sink = Counted::new(&mut page);
@@ -32,7 +32,7 @@ fn fetch<R: Source>(source: &mut R, room: &mut [u8]) -> Result<usize, Broken>
     source.fetch(room)
 }
 
-/// Fetches from some bytes. Returns how many calls failed too.
+/// Reads from the given bytes, and also returns how many calls failed.
 fn fetch_from(bytes: &[u8]) -> (Result<usize, Broken>, u64) {
     let mut room = [0; 4];
     let mut source = Counted::new(bytes);
@@ -71,13 +71,13 @@ fn judged(m: &Marked) -> Result<Prefs, Rejection> {
     judge(m)
 }
 
-/// The preference after the first one, if all candidates continue.
+/// Returns the preference after the first one, if all candidates continue.
 fn second(prefs: &Prefs, columns: Columns) -> Option<u8> {
     let standing = Standing::new(columns, Columns::empty(), Columns::empty());
     next_available(prefs.as_slice(), 1, &standing)
 }
 
-/// The marks of a paper that isn't doubtful.
+/// Returns the marks of a paper that isn't doubtful.
 fn marked(text: &[u8], columns: Columns) -> Result<Marked, Fail> {
     match read(text, columns)? {
         Keyed::Marked(marked) => Ok(marked),
@@ -85,7 +85,7 @@ fn marked(text: &[u8], columns: Columns) -> Result<Marked, Fail> {
     }
 }
 
-/// The number of a fault, 0 if there is none.
+/// Returns the number of a fault; 0 if there is none.
 fn fault_of(text: &[u8], columns: Columns) -> u32 {
     match read(text, columns) {
         Ok(_) => 0,
@@ -93,7 +93,7 @@ fn fault_of(text: &[u8], columns: Columns) -> u32 {
     }
 }
 
-/// The code of a rejection, 0 if there is none.
+/// Returns the code of a rejection; 0 if there is none.
 fn rejection_of(m: &Marked) -> u32 {
     match judged(m) {
         Ok(_) => 0,

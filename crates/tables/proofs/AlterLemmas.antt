@@ -28,13 +28,13 @@ survives_itself a = record {
   crash = λ clean trees may. inl may;
 }
 
--- two runs that commit nothing, one after the other, commit nothing
+-- two steps that commit nothing, one after the other, commit nothing
 survives_twice : (a b c : State) → Survives a b (λ _. ⊥) → Survives b c (λ _. ⊥) → Survives a c (λ _. ⊥)
 survives_twice a b c one two = survives_then a b c (λ _. ⊥) (λ _. ⊥) (λ _. ⊥) (λ clean trees none. none) (λ clean trees none. none) one two
 
 -- ---- one statement
 
--- a statement that writes, and how it changes what is seen
+-- a statement that writes, and how it changes what the connection sees
 pub executed : {S X V : Type 0} {store : Ghosts S} {before after : MutBor (Held S)} {sql : List ℕ} {params : Row} {r : Result V Fault} {Takes Gives : X → State → Type 0}
     → RunsStatement store before after sql params r
     → ((x : X) → Takes x (state store before.now)
@@ -57,7 +57,7 @@ executed {store = store} {before = before} {after = after} {sql = sql} {params =
 
 -- ---- one write after another
 
--- nothing is written yet
+-- nothing has been written yet
 pub alters_none : {S X V : Type 0} {store : Ghosts S} {conn : MutBor (Held S)} {v : V} {Takes Gives : X → State → Type 0}
     → ((x : X) → Takes x (state store conn.now) → Gives x (state store conn.now)) → Alters store conn conn (Ok v) Takes Gives
 alters_none {store = store} {conn = conn} told = record {
@@ -68,7 +68,7 @@ alters_none {store = store} {conn = conn} told = record {
   cause = tt;
 }
 
--- a write, restated for conditions that imply what it requires and that follow from what it ensures
+-- a write, restated with a stronger requirement and a weaker result
 pub alters_told : {S X Y V : Type 0} {store : Ghosts S} {before after : MutBor (Held S)} {r : Result V Fault} {Takes Gives : X → State → Type 0} {From To : Y → State → Type 0}
     → Alters store before after r Takes Gives
     → ((y : Y) → From y (state store before.now) → (x : X) × Takes x (state store before.now) × (Gives x (state store after.now) → To y (state store after.now))) → Alters store before after r From To
@@ -81,14 +81,14 @@ alters_told {r = Ok v} one told = record {
 }
 alters_told {r = Err f} one told = record { same_reference = one.same_reference; writes = λ clean y from. tt; keeps = one.keeps; survives = one.survives; cause = one.cause }
 
--- the same for a write to contents that represent others up to the order of rows
+-- the same statement for a write to contents that equal others up to the order of rows
 pub alters_same : {S X V : Type 0} {store : Ghosts S} {before after : MutBor (Held S)} {r : Result V Fault} {f : Contents → Contents} {from to : X → Contents}
     → Alters store before after r Sees (λ c. Sees (f c))
     → ((x : X) → SameContents (f (from x)) (to x)) → Alters store before after r (λ x. Sees (from x)) (λ x. Sees (to x))
 alters_same {store = store} {after = after} {f = f} {from = from} {to = to} one same = alters_told one
     (λ x sees. (from x, sees, λ given. sees_same (f (from x)) (to x) (state store after.now) (same x) given))
 
--- one write, and then another
+-- one write, followed by another
 pub alters_both : {S X Y V W : Type 0} {store : Ghosts S} {a b c : MutBor (Held S)} {v : V} {r : Result W Fault} {From Mid To : X → State → Type 0} {Takes Gives : Y → State → Type 0}
     → Alters store a b (Ok v) From Mid
     → Alters store b c r Takes Gives → ((x : X) → From x (state store a.now) → Mid x (state store b.now)
@@ -112,13 +112,13 @@ alters_both {store = store} {a = a} {b = b} {c = c} {r = Err f} one two told =
       cause = two.cause;
     }
 
--- the same for a write to contents
+-- the same statement for a write to contents
 pub alters_sees : {S X V W : Type 0} {store : Ghosts S} {a b c : MutBor (Held S)} {v : V} {r : Result W Fault} {From : X → State → Type 0} {at : X → Contents} {f : Contents → Contents}
     → Alters store a b (Ok v) From (λ x. Sees (at x))
     → Alters store b c r Sees (λ rows. Sees (f rows)) → Alters store a c r From (λ x. Sees (f (at x)))
 alters_sees {at = at} one two = alters_both one two (λ x from sees. (at x, sees, λ given. given))
 
--- the same, without stating what they make
+-- the same statement, without the result of the two writes
 pub alters_after : {S X Y V W : Type 0} {store : Ghosts S} {a b c : MutBor (Held S)} {v : V} {w : W} {From Mid : X → State → Type 0} {Takes Gives : Y → State → Type 0}
     → Alters store a b (Ok v) From Mid
     → Alters store b c (Ok w) Takes Gives → Alters {V = W} store a c (Ok w) (λ (x : X) s. ⊥) (λ x s. ⊥)
@@ -151,7 +151,7 @@ alters_failed {r = Err e} is failed = record {
   cause = subst (λ (x : Fault). (x ≡ Memory) ⊎ (x ≡ Store)) (sym is) failed.cause;
 }
 
--- a write after another fails, and the failure is passed on
+-- a failure in a write that follows another, passed on
 pub alters_cut : {S X Y Z U V W : Type 0} {store : Ghosts S} {a b c : MutBor (Held S)} {v : V} {f : Fault} {r : Result W Fault} {From Mid : X → State
     → Type 0} {Takes Gives : Y → State → Type 0} {To Into : Z → State → Type 0}
     → IsErrAnd r (λ e. e ≡ f) → Alters store a b (Ok v) From Mid → Alters {V = U} store b c (Err f) Takes Gives → Alters store a c r To Into

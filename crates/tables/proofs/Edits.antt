@@ -1,4 +1,4 @@
--- What each UPDATE and each DELETE is, under a schema that begins with the tables.
+-- How each UPDATE and DELETE is parsed, under a schema that begins with the tables.
 use Rattle.std.proofs.Common.{◌≡◌, ℕ, suc, map, cond, ◌==◌, ◌-◌, List, [], ◌∷◌, ◌++◌, length, true, refl, sym, true≢false, slice_get, Some}
 use Rattle.sqlite.specs.Order.{Row}
 use Rattle.sqlite.specs.Tree.{Trees}
@@ -26,11 +26,11 @@ use Rattle.tables.proofs.Inserts.{given, none_from}
 abbrev pub beyond_key : Table → ℕ
 beyond_key t = length (columns_of t) - (shape t).key
 
--- the rowid, twice, then the key as it is, then the parameters
+-- the rowid twice, then the key's columns unchanged, then the parameters
 abbrev pub updated : Table → List Term
 updated t = col 1 0 ∷ col 1 0 ∷ (columns_from 0 (shape t).key ++ given (places_from (shape t).key (beyond_key t)))
 
--- the rowid, twice, then every column as it is, except the one that is set, which is the parameter after the key
+-- the rowid twice, then every column unchanged except the one that is set, whose value is the parameter after the key
 abbrev pub set_terms : SettableColumn → List Term
 set_terms g = col 1 0 ∷ col 1 0 ∷ map (λ p. cond (p == place_set g) (col 0 (shape (table_set g)).key) (col 1 (suc p))) (places_from 0 (length (columns_of (table_set g))))
 
@@ -42,7 +42,7 @@ module _ (rest : List Definition) (others : List Index) (views : List View) wher
   abbrev schema : Schema
   schema = schema_from 11 rest others views
 
-  -- the condition on a table's statement that finds its row by the key
+  -- the conditions on a table's UPDATE and DELETE, which find their row by its key
   pub record EditsRow (t : Table) : Type 0 where
     pub place : slice_get schema.tables (place_of t) ≡ Some (definition t)
     pub updates : command_of (understood schema (update_text t)) ≡ Update (place_of t) (record { lets = []; body = query (tree_of t) (tests_from 0 (shape t).key) (updated t) [] })
@@ -72,7 +72,7 @@ module _ (rest : List Definition) (others : List Index) (views : List View) wher
             (tree_of t) olds news rest free;
       }
 
-  -- the condition on the statement that sets one column
+  -- the conditions on the statement that sets one column
   pub record SetsValue (g : SettableColumn) : Type 0 where
     pub sets : command_of (understood schema (set_text g)) ≡ Update (place_of (table_set g))
         (record { lets = []; body = query (tree_of (table_set g)) (tests_from 0 (shape (table_set g)).key) (set_terms g) [] })

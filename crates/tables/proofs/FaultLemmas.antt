@@ -18,23 +18,17 @@ cause_of : (e : Error) → (fault_of e ≡ Memory) ⊎ (fault_of e ≡ Store)
 cause_of (SqliteFailure OutOfMemory) = inl refl
 cause_of _ = inr refl
 
+-- the fault for an error of `sqlite` is either `Memory` or `Store`
+pub error_cause : (e : Error) (f : Fault) → f ≡ fault_of e → (f ≡ Memory) ⊎ (f ≡ Store)
+error_cause e f is = subst (λ (x : Fault). (x ≡ Memory) ⊎ (x ≡ Store)) (sym is) (cause_of e)
+
 pub query_cause : (sql : List ℕ) (params : Row) (old new : State) (f : Fault) → TellsQuery sql params old new f → (f ≡ Memory) ⊎ (f ≡ Store)
 query_cause sql params old new f tells = subst (λ (x : Fault). (x ≡ Memory) ⊎ (x ≡ Store)) (sym tells.1) (cause_of tells.0)
-
--- the same for a query whose rows are sorted, which may also run out of memory
-pub sorted_cause : (sql : List ℕ) (params : Row) (old new : State) (f : Fault) → (f ≡ Memory) ⊎ TellsQuery sql params old new f → (f ≡ Memory) ⊎ (f ≡ Store)
-sorted_cause sql params old new f (inl memory) = inl memory
-sorted_cause sql params old new f (inr tells) = query_cause sql params old new f tells
-
-pub if_sorted_cause : {X : Type 0} (sql : List ℕ) (params : Row) (old new : State) (r : Result X Fault) → IfErr r (λ f. (f ≡ Memory) ⊎ TellsQuery sql params old new f)
-    → IfErr r (λ f. (f ≡ Memory) ⊎ (f ≡ Store))
-if_sorted_cause sql params old new (Ok x) tells = tt
-if_sorted_cause sql params old new (Err f) tells = sorted_cause sql params old new f tells
 
 pub statement_cause : (sql : List ℕ) (params : Row) (old new : State) (f : Fault) → TellsStatement sql params old new f → (f ≡ Memory) ⊎ (f ≡ Store)
 statement_cause sql params old new f tells = subst (λ (x : Fault). (x ≡ Memory) ⊎ (x ≡ Store)) (sym tells.1) (cause_of tells.0)
 
--- all rows, given that integer rowids identify them if they change
+-- a listing of all rows of a table, given that integer rowids identify them if rows change
 pub if_listed_keyed : {X : Type 0} (t : Table) (db : Database) (rows : X → List Row) (r : Result X Fault) → (changes_rows t ≡ true → Keyed (db.trees (tree_of t)))
     → IfOk r (λ x. Lists t (begins_with []) db (rows x)) → IfOk r (λ x. ListsKeyed t db (rows x))
 if_listed_keyed t db rows (Ok x) keyed lists = record { keyed = keyed; lists = lists }

@@ -1,4 +1,4 @@
--- What a table holds, and what a query shows of it.
+-- The contents of a table, and the rows that a query returns.
 use Rattle.std.proofs.Common.{◌≡◌, ◌⊎◌, inl, inr, ℕ, zero, suc, ◌+◌, ◌≤◌, ◌<◌, List, [], ◌∷◌, map, filter, drop, length, get_or, Option, Bool, true, not, refl, sym, ap, subst, ◌∙◌, arith}
 use Rattle.std.proofs.Common.{Ordering, Less, Equal, Greater}
 use Rattle.std.specs.List.{AllByRecursion, list_all}
@@ -33,7 +33,7 @@ use Rattle.tables.proofs.ListLemmas.{mapped_length, get_mapped, mapped_has, has_
 use Rattle.tables.proofs.ColumnPlaceLemmas.{padded, pads, at_twice, typed_at}
 use Rattle.tables.proofs.OrderLemmas.{row_total, rise_all, one_key}
 
--- ---- rows that obey a schema are no longer than its columns
+-- ---- rows that obey a schema have no more values than it has columns
 
 width : (key : Option ℕ) (place : ℕ) (cs : List Column) (vs : Row) → are_typed key place cs vs ≡ true → length vs ≤ length cs
 width key place [] [] h = omega arith
@@ -41,7 +41,7 @@ width key place [] (v ∷ vs) h = absurd (true≢false (sym h))
 width key place (c ∷ cs) [] h = omega arith
 width key place (c ∷ cs) (v ∷ vs) h = let later : length vs ≤ length cs = width key (place + 1) cs vs (and_parts _ (are_typed key (place + 1) cs vs) h).1 in omega (arith, later)
 
--- each table is in a schema that begins with the tables up to it
+-- a schema that begins with the tables up to a given one has that table
 begun_has : (t : Table) (s : Schema) → BeginsTo t s → Has s.tables (definition t)
 begun_has Office s h = subst (λ (x : Schema). Has x.tables (definition Office)) (sym h.is) (inl refl)
 begun_has Ward s h = subst (λ (x : Schema). Has x.tables (definition Ward)) (sym h.is) (inr (inl refl))
@@ -85,13 +85,13 @@ values_of [] (v ∷ vs) h = absurd (true≢false (sym h))
 values_of (c ∷ cs) [] h = absurd (true≢false (sym h))
 values_of (c ∷ cs) (v ∷ vs) h = and_from _ _ (value_of c.kind v (and_parts _ _ h).0) (values_of cs vs (and_parts _ _ h).1)
 
--- ---- what a query shows
+-- ---- what a query returns
 
--- a query of all rows shows all of them
+-- a query for all rows returns all of them
 pub lists_all : (t : Table) (db : Database) (rows : List Row) → Lists t (begins_with []) db rows → IsPermutation (map (at (column_places t)) (tuples t db.trees)) rows
 lists_all t db rows lists = subst (λ l. IsPermutation (map (at (column_places t)) l) rows) (all_pass (tuples t db.trees)) lists.same
 
--- the rows that a query shows have all columns and no more
+-- the rows that a query returns have exactly the table's columns
 pub shown_rows : (t : Table) (test : Row → Bool) (db : Database) (rows : List Row) → Lists t test db rows → map (at (column_places t)) rows ≡ rows
 shown_rows t test db rows lists =
     mapped_same (at (column_places t)) (λ r. r) rows (λ r h.
@@ -101,7 +101,7 @@ shown_rows t test db rows lists =
     ap (at (column_places t)) raw.2 ∙ at_twice (length (columns_of t)) raw.0 ∙ sym raw.2)
     ∙ mapped_itself rows
 
--- rows of the right kinds, shown by a query of all rows, are those of the table
+-- rows with values of the correct kinds, returned by a query for all rows, are the table's contents
 pub rows_held : (t : Table) (db : Database) → BeginsTo t db.schema → IsDatabase db → (rows : List Row) → ListsKeyed t db rows → list_all (is_row_of t) rows ≡ true → HoldsTable t rows db.trees
 rows_held t db begins sound rows keyed typed =
     let n = length (columns_of t) in
@@ -118,7 +118,7 @@ rows_held t db begins sound rows keyed typed =
       typed = typed;
     }
 
--- a query of all rows shows what the table holds
+-- a query for all rows returns the table's contents
 pub held_listed : (t : Table) (db : Database) (rows : List Row) → Lists t (begins_with []) db rows → (held : List Row) → HoldsTable t held db.trees → IsPermutation held rows
 held_listed t db rows lists held holds =
     IsPermutation-trans _ _ _
@@ -127,21 +127,21 @@ held_listed t db rows lists held holds =
     (IsPermutation-map (at (column_places t)) _ _ holds.same))
     (lists_all t db rows lists)
 
--- ---- rows that a table cannot hold
+-- ---- rows that a table can't contain
 
--- a row that is not of a kind is in no list of that kind
+-- a row that isn't of a given kind is in no list of rows of that kind
 no_wrong : (IsRow : Row → Type 0) (rows : List Row) → HasInvalidRow IsRow rows → (held : List Row) → AllByRecursion IsRow held → IsPermutation held rows → ⊥
 no_wrong IsRow rows other held all same =
     other.2 (all_has IsRow held (get_or rows other.0 []) all (permuted_has (get_or rows other.0 []) rows held (IsPermutation-sym _ _ same) (has_at rows other.0 [] other.1)))
 
--- rows of which two have the same key are not a list in ascending key order, in any order
+-- rows with a repeated key don't form, in any order, a list in ascending key order
 no_repeat : (t : Table) (rows : List Row) → IsSorted (row_cmp t) rows → FailsToRise t rows → (held : List Row) → IsStrictlySortedBy (row_cmp t) held → IsPermutation held rows → ⊥
 no_repeat t rows sorted fails held rise same =
     let apart = IsDistinct-IsPermutation (eq_by_cmp (row_cmp t)) (eq_by_cmp_equiv (row_total t)).symm held rows same (IsDistinct-from_sorted (row_cmp t) held rise) in
     let at_place = apart_from_distinct (eq_by_cmp (row_cmp t)) rows fails.0 (fails.0 + 1) [] apart (omega arith) fails.1 in
     false≢true (sym at_place ∙ ap is_eq (one_key t rows sorted fails))
 
--- the rowids of a table that holds a list in ascending key order identify its rows
+-- the rowids of a table that contains a list in ascending key order identify its rows
 pub own_rowids : (t : Table) (rows : List Row) (trees : Trees) → HoldsTable t rows trees → IsStrictlySortedBy (row_cmp t) rows → changes_rows t ≡ true
     → ¬ (HasWrongRowid (trees (tree_of t)) ⊎ RepeatsRowid (trees (tree_of t)))
 own_rowids t rows trees holds rise changes (inl wrong) = true≢false (sym ((holds.keyed changes).ints wrong.0 wrong.1) ∙ wrong.2)
@@ -200,7 +200,7 @@ rising_same {X} {cmp} total (x ∷ xs) (y ∷ ys) up above there back =
     ] in
     ap (λ z. z ∷ xs) head ∙ ap (λ l. y ∷ l) (rising_same total xs ys (sorted_tail cmp x xs up) (sorted_tail cmp y ys above) first second)
 
--- rows in key order that are those of a list in ascending key order are that list
+-- if rows in key order are a permutation of a list in ascending key order, they are that list
 pub found_same : (t : Table) (rows held : List Row) → IsSorted (row_cmp t) rows → IsStrictlySortedBy (row_cmp t) held → IsPermutation held rows → held ≡ rows
 found_same t rows held sorted rise same =
     rising_same (row_total t) held rows rise (rise_all t rows each) (λ r h. permuted_has r held rows same h) (λ r h. permuted_has r rows held (IsPermutation-sym _ _ same) h)

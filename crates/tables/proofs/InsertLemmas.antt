@@ -37,7 +37,7 @@ use Rattle.tables.proofs.WentLemmas.{given, then_went, read, write_went}
 
 -- ---- lists
 
--- a row with a free rowid is put among the others
+-- a row with a free rowid is inserted among the others
 pub put_fresh : (new : Row) (rows : List Row) → is_taken rows new ≡ false → IsPermutation (new ∷ rows) (put_row new rows)
 put_fresh new [] free = IsPermutation-refl _
 put_fresh new (r ∷ rows) free = go (value_cmp (rowid r) (rowid new)) (or_parts _ _ free).0 (put_fresh new rows (or_parts _ _ free).1)
@@ -47,7 +47,7 @@ put_fresh new (r ∷ rows) free = go (value_cmp (rowid r) (rowid new)) (or_parts
     go Equal other later = absurd (true≢false other)
     go Greater other later = IsPermutation-refl _
 
--- ---- what a column does to a value of its own kind
+-- ---- how a column converts a value that has the column's kind
 
 either : (b : Bool) (x : Value) → cond b x x ≡ x
 either true x = refl
@@ -75,13 +75,13 @@ cast_all_of (c ∷ cs) (v ∷ vs) h = ap (λ x. x ∷ cast_all cs vs) (one c.kin
 
 -- ---- the statement
 
--- one table's rows may have changed, and no other table has
+-- one table's rows may have changed, and no other table's
 pub record Changes (schema : Schema) (tree : ℕ) (old new : Database) : Type 0 where
   pub is : new.schema ≡ schema
   pub sound : IsDatabase new
   pub others : AllByRecursion (λ t. t.tree ≢ tree → new.trees t.tree ≡ old.trees t.tree) schema.tables
 
--- one table has one more row
+-- one table has an additional row
 pub record Adds (schema : Schema) (tree : ℕ) (tuple : Row) (old new : Database) : Type 0 where
   pub changes : Changes schema tree old new
   pub row : IsPermutation (tuple ∷ map (drop 1) (old.trees tree)) (map (drop 1) (new.trees tree))
@@ -99,7 +99,7 @@ module _ (key : List ℕ) (name : List ℕ) (tree : ℕ) (columns : List Column)
     abbrev written : Trees → List Row → Trees → Written
     written db rows next = let news = (edit_of db table [] Chosen 0 rows).news in record { trees = next; rows = news; last = last_id news }
 
-    -- a table without a counter
+    -- how the statement ends, for a table without a counter
     abbrev ends : Trees → List Row → Option Row → Trees → Part Written
     ends db rows counter mid = Then (Counts task mid counter (fold higher (count_of counter) (edit_of db table [] Chosen 0 rows).news)) (λ next. Gives (written db rows next))
 
@@ -126,7 +126,7 @@ module _ (key : List ℕ) (name : List ℕ) (tree : ℕ) (columns : List Column)
       (sql : List ℕ) (terms : List Term) (width : ℕ) (is : command_of (understood schema sql) ≡ Insert at (Values terms width)) (plain : IsPlain (understood schema sql))
       (params tuple : Row) (source : value_rows (params ++ []) width (length terms / width) terms ≡ (Null ∷ tuple) ∷ []) (kinds : are_of columns tuple ≡ true)
     where
-      -- the row is inserted with a rowid that no other row has
+      -- the row is inserted, with a rowid that no other row has
       finish : (old new : Database) → IsDatabase new → (trees : Trees) → new ≡ record { schema = schema; trees = trees } → (rows : List Row) → rows ≡ (Null ∷ tuple) ∷ []
           → Edited schema Enforced old.trees (edit_of old.trees table [] Chosen 0 rows) (Ok trees)
           → Adds schema tree tuple old new

@@ -27,6 +27,7 @@ pub mod QueriedRowsLemmas
 pub mod RunQueries
 pub mod RunLemmas
 pub mod WalkLemmas
+pub mod CopyingLemmas
 pub mod RowidLemmas
 pub mod MakeLemmas
 pub mod StopLemmas

@@ -89,7 +89,7 @@ get_mapped f [] k d a h = absurd (omega (arith, h))
 get_mapped f (x ∷ xs) zero d a h = refl
 get_mapped f (x ∷ xs) (suc k) d a h = get_mapped f xs k d a (omega (arith, h))
 
--- what is sorted by one image is sorted by another that compares the same
+-- elements sorted by one image are also sorted by any other whose comparisons have the same results
 pub sorted_mapped : {A B X : Type 0} (f : A → B) (g : A → X) (first : B → B → Ordering) (second : X → X → Ordering) → ((a b : A) → first (f a) (f b) ≡ second (g a) (g b))
     → (xs : List A) → IsSorted first (map f xs) → IsSorted second (map g xs)
 sorted_mapped f g first second alike [] sorted k d low below = absurd (omega (arith, below))
@@ -107,6 +107,6 @@ permuted_has x = along_permutation (λ xs ys. Has xs x → Has ys x) (λ xs h. h
     (λ y z xs h. elim h [ inl first ↦ inr (inl first) | inr more ↦ elim more [ inl second ↦ inl second | inr later ↦ inr (inr later) ] ])
     (λ xs ys zs f g h. g (f h))
 
--- a test that all elements pass is passed by all elements of a permutation
+-- if all elements of a list pass a test, so do all elements of a permutation of it
 pub permuted_all : {X : Type 0} (p : X → Bool) (xs ys : List X) → IsPermutation xs ys → list_all p xs ≡ true → list_all p ys ≡ true
 permuted_all p xs ys same all = test_from p ys (λ y h. test_has p xs y all (permuted_has y ys xs (IsPermutation-sym xs ys same) h))

@@ -1,4 +1,4 @@
--- Rowids still identify the rows after rows are inserted.
+-- Rowids still identify the rows after rows have been inserted.
 use Rattle.std.proofs.Common.{◌≡◌, inl, inr, List, [], ◌∷◌, true, false, sym, ap, subst, ◌∙◌, true≢false}
 use Rattle.std.specs.Ordering.{is_eq}
 use Rattle.std.proofs.lemmas.Bool.{and_parts, not-true}

@@ -1,4 +1,4 @@
--- Keys as SQL compares and orders them.
+-- Keys, as SQL compares and orders them.
 use Rattle.std.proofs.Common.{◌≡◌, ◌≢◌, ℕ, ◌+◌, ◌-◌, ◌<◌, ◌≤◌, ◌==◌, ◌&&◌, ℤ, pos, List, [], ◌∷◌, map, length, get_or, true, false, refl, sym, ap, ◌∙◌, arith, Ordering, Less, Equal, Greater}
 use Rattle.std.proofs.Common.{int_cmp, nat_cmp, Bool, Some}
 use Rattle.std.specs.Ordering.{is_lt, is_eq, ordering_then, ordering_reverse}
@@ -26,9 +26,9 @@ use Rattle.tables.specs.Reading.{FailsToRise}
 use Rattle.sqlite_sql.proofs.QueryLemmas.{key_cmp_total}
 use Rattle.tables.proofs.ListLemmas.{get_any}
 
--- ---- SQL's = of keys
+-- ---- SQL's = on keys
 
--- the truth value that is read from its number
+-- the truth value decoded from its number
 told : (b : Bool) → is_true (from_truth (Some b)) ≡ b
 told true = refl
 told false = refl
@@ -118,7 +118,7 @@ key_of_three_numbers a b c k m n =
     ap (λ x. x && (equal Binary (Int (pos m)) (Int (pos b)) && (equal Binary (Int (pos n)) (Int (pos c)) && true))) (equal-Int (pos k) (pos a) ∙ ap is_eq (numbers k a) ∙ turned nat_cmp_total k a)
     ∙ ap (λ x. is_eq (nat_cmp a k) && x) (key_of_two_numbers b c m n) ∙ then_equal (nat_cmp a k) (ordering_then (nat_cmp b m) (nat_cmp c n))
 
--- the same, number by number
+-- the same statement for a single number
 pub same_number : (a k : ℕ) → (equal Binary (Int (pos k)) (Int (pos a)) && true) ≡ (k == a)
 same_number a k = and-true _ ∙ equal-number k a
 
@@ -146,7 +146,7 @@ row_total t = key_cmp_total (ascending_keys (shape t).key) 0
 pub rise_all : (t : Table) (rows : List Row) → ((k : ℕ) → k + 1 < length rows → row_cmp t (get_or rows k []) (get_or rows (k + 1) []) ≡ Less) → IsStrictlySortedBy (row_cmp t) rows
 rise_all t rows each = sorted_from_all_adjacent (row_total t) rows [] each
 
--- a row whose key is not above that of the one before
+-- a row whose key isn't above that of the preceding row
 pub fails_there : (t : Table) (rows : List Row) (i : ℕ) (a b : Row) → 1 ≤ i → i < length rows → a ≡ get_or rows (i - 1) a → b ≡ get_or rows i b → row_cmp t a b ≢ Less → FailsToRise t rows
 fails_there t rows i a b above below first second not_less =
     let next : (i - 1) + 1 ≡ i = omega (arith, above) in
@@ -158,7 +158,7 @@ falls t x y low greater =
     let e : true ≡ false = sym (ap is_lt turned) ∙ low in
     absurd cc
 
--- if two neighbours of rows in key order aren't ascending, they have the same key
+-- if two adjacent rows of a list in key order don't ascend, they have the same key
 pub one_key : (t : Table) (rows : List Row) → IsSorted (row_cmp t) rows → (fails : FailsToRise t rows) → row_cmp t (get_or rows fails.0 []) (get_or rows (fails.0 + 1) []) ≡ Equal
 one_key t rows sorted fails = tie (row_cmp t (get_or rows fails.0 []) (get_or rows (fails.0 + 1) [])) refl
   where
@@ -174,7 +174,7 @@ below : {X : Type 0} (row : X → Row) (by : Row → Row → Ordering) (cmp : X 
 below row by cmp alike x [] all = tt
 below row by cmp alike x (y ∷ ys) all = (alike x y ∙ all.0, below row by cmp alike x ys all.1)
 
--- the rows of entries ascend if the entries do
+-- the rows of entries are in ascending order if the entries are
 pub rows_rise : {X : Type 0} (row : X → Row) (by : Row → Row → Ordering) (cmp : X → X → Ordering) → ((x y : X) → by (row x) (row y) ≡ cmp x y) → (xs : List X) → IsStrictlySortedBy cmp xs
     → IsStrictlySortedBy by (map row xs)
 unfolding IsStrictlySortedBy

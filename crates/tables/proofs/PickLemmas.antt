@@ -57,17 +57,17 @@ same_id v id int tie = int_is v int ∙ ap Int (tied (id_in v) id (sym (ap is_eq
 itself : (r : Row) → is_int (rowid r) ≡ true → has_rowid (id_in (rowid r)) r ≡ true
 itself r int = ap (λ v. is_eq (value_cmp v (Int (id_in (rowid r))))) (int_is (rowid r) int) ∙ ap is_eq (tied_itself value_cmp_total (Int (id_in (rowid r))))
 
--- ---- rows that a query picks
+-- ---- rows that a query selects
 
--- The rows that pass are picked, and shown with their rowids.
+-- The rows that pass a test are selected, and returned with their rowids.
 module _ (p : Row → Bool) (show : Row → Row) (same_rowid : (r : Row) → rowid (show r) ≡ rowid r) (rows : List Row) (keyed : Keyed rows)
     (ordered found : List Row) (from : IsPermutation (filter p rows) ordered) (shown : found ≡ map show ordered)
   where
-    -- a row that was picked exists and passes
+    -- a row that was selected is in the table and passes the test
     pub picked : (r : Row) → Has ordered r → Has rows r × (p r ≡ true)
     picked r there = has_filtered p rows r (permuted_has r ordered (filter p rows) (IsPermutation-sym (filter p rows) ordered from) there)
 
-    -- the ids shown identify the rows that pass
+    -- the returned rowids identify the rows that pass the test
     picks : (r : Row) → Has rows r → named (ids_of found) r ≡ p r
     picks r here = elim (cases_Bool (p r)) [
       | inl passes ↦
@@ -88,11 +88,11 @@ module _ (p : Row → Bool) (show : Row → Row) (same_rowid : (r : Row) → row
       ]
     ]
 
-    -- without the rows shown, the rows that do not pass remain
+    -- once the returned rows are removed, those that don't pass the test remain
     pub picked_left : without_all rows (ids_of found) ≡ filter (λ r. not (p r)) rows
     picked_left = without_named (ids_of found) rows ∙ filtered_same _ _ rows (λ r here. ap not (picks r here))
 
--- rowids also identify the rows of a part
+-- rowids also identify the rows of a subset
 pub keyed_filtered : (p : Row → Bool) (rows : List Row) → Keyed rows → Keyed (filter p rows)
 keyed_filtered p rows keyed =
     let was = λ (r : Row) (there : Has (filter p rows) r). (has_filtered p rows r there).0 in

@@ -1,4 +1,4 @@
--- What each query is, under a schema that begins with the tables up to its own.
+-- How each query is parsed, under a schema that begins with the tables up to the query's own.
 use Rattle.std.proofs.Common.{◌≡◌, ℕ, suc, ◌+◌, ◌≤◌, List, [], ◌∷◌, codes, length, true, refl, sym, arith, true≢false}
 use Rattle.sqlite.specs.Collation.TheVariants.{Binary}
 use Rattle.sqlite_sql.specs.declared.ops.BinaryOp.TheVariants.{Compare}
@@ -20,7 +20,7 @@ use Rattle.tables.specs.Reading.{is_query_text, IsQuery}
 use Rattle.tables.proofs.QueryLemmas.{query_text}
 use Rattle.tables.proofs.SelectLemmas.{IsSelect, columns_from, ordered_from, tests_from}
 
--- the condition on a SELECT of all columns in key order, under a schema that begins with the tables up to its own
+-- the conditions on a SELECT of all columns in key order, under a schema that begins with the tables up to its own
 pub record Reads (t : Table) (sql : List ℕ) (tests : List Term) : Type 0 where
   pub query : is_query_text (first sql) ≡ true
   pub select : (rest : List Definition) (others : List Index) (views : List View)
@@ -41,7 +41,7 @@ selects Vote (suc (suc (suc (suc n)))) low = absurd (omega (arith, low))
 selects Third (suc (suc n)) low = absurd (omega (arith, low))
 selects t n low = record { query = refl; select = λ rest others views. record { is = refl; unlisted = refl; plain = (refl, refl); low = λ db. refl; whole = refl; given = refl } }
 
--- the condition on a SELECT of all columns in any order
+-- the conditions on a SELECT of all columns in any order
 pub record Scans (t : Table) : Type 0 where
   pub query : is_query_text (first (scan_text t)) ≡ true
   pub select : (rest : List Definition) (others : List Index) (views : List View)
@@ -56,7 +56,7 @@ pub selects_by_reference : (r : Reference) → Reads (table_sought r) (select_by
 unfolding understood everything select_by_reference_text
 selects_by_reference WardOfBatch = record { query = refl; select = λ rest others views. record { is = refl; unlisted = refl; plain = (refl, refl); low = λ db. refl; whole = refl; given = refl } }
 
--- the condition on a SELECT of the rowids
+-- the conditions on a SELECT of the rowids
 pub record ReadsRowids (t : Table) : Type 0 where
   pub query : is_query_text (first (select_rowids_text t)) ≡ true
   pub select : (rest : List Definition) (others : List Index) (views : List View)

@@ -1,4 +1,4 @@
--- A text that is a SELECT returns no rows of a write, under any schema.
+-- A text that is a SELECT isn't a write that returns rows, under any schema.
 use Rattle.std.proofs.Common.{◌≡◌, inl, inr, ℕ, ◌+◌, List, Bool, true, false, cond, None, Ok, Err, Result, refl, sym, ap, true≢false}
 use Rattle.std.proofs.lemmas.Bool.{cases_Bool}
 use Rattle.sqlite_ast.specs.declared.Statement.{Statement}

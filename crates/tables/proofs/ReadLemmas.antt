@@ -1,4 +1,4 @@
--- What a query leaves of the connection, under any schema.
+-- The state a query leaves the connection in, under any schema.
 use Rattle.std.proofs.Common.{◌≡◌, ◌⊎◌, inl, inr, ℕ, List, Option, None, Some, Ok, Err, Result, OnOk, IfOk, IfErr, IsTrue, refl, sym, subst, ◌∙◌, arith}
 use Rattle.sqlite.specs.declared.error.Error.{Error}
 use Rattle.sqlite.specs.Order.{Row}
@@ -16,7 +16,7 @@ shown_same sql params old new rows query h =
     let full = timed params h.0.formats h.1.now in
     (subst (ShowsRows old new sql h.0 full rows) (query old.now.schema h.0 h.1.is) h.2).3
 
--- a query that fails changed nothing, or rolled back a transaction
+-- a query that fails has changed nothing, or has rolled back a transaction
 failed_query : (sql : List ℕ) (params : Row) (old new : State) (e : Error) → IsQuery sql → FailsToQuery sql params old new e → IsUnchanged old new ⊎ IsRolledBack old new
 unfolding FailsToQuery IsNotRun
 failed_query sql params old new e query (inl (inl same)) = inl same.1
@@ -36,7 +36,7 @@ pub never_commits : (sql : List ℕ) (params : Row) (s : State) (trees : Trees) 
 unfolding CommitsShowing
 never_commits sql params s trees query h = absurd (let some = rw (query s.now.schema h.0 h.1.is) at h.2 in cc)
 
--- whatever leaves a connection as it was, or rolls back, and commits nothing, only reads
+-- a step that leaves a connection as it was or rolls back, and that commits nothing, only reads
 pub reads_left : (Commits : Trees → Type 0) (old new : State) → ((trees : Trees) → Commits trees → ⊥) → (HasCleanDisk new → IsUnchanged old new ⊎ IsRolledBack old new)
     → Survives old new Commits → OnlyReads old new
 reads_left Commits old new never which survives = record {

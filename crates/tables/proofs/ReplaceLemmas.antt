@@ -1,4 +1,4 @@
--- One UPDATE of the row with a key.
+-- An UPDATE of the row with a given key.
 use Rattle.std.proofs.Common.{◌≡◌, ◌≢◌, ℕ, List, [], ◌∷◌, ◌++◌, map, drop, filter, slice_get, Bool, true, false, not, cond, Some, None, Ok, refl, sym, ap, subst, ◌∙◌}
 use Rattle.std.specs.List.{list_all, AllByRecursion}
 use Rattle.std.specs.List.Sorted.{IsPermutation}
@@ -54,7 +54,7 @@ numbered_given : (rows news : List Row) → numbered Given rows news ≡ news
 numbered_given rows [] = refl
 numbered_given rows (n ∷ news) = ap (λ l. n ∷ l) (numbered_given (put_row n rows) news)
 
--- those that pass, each changed, and those that do not
+-- the elements that pass a test, each changed, and those that don't pass
 parted : {X : Type 0} (p : X → Bool) (f : X → X) (xs : List X) → IsPermutation (map f (filter p xs) ++ filter (λ x. not (p x)) xs) (map (λ x. cond (p x) (f x) x) xs)
 parted p f [] = IsPermutation-refl []
 parted p f (x ∷ xs) = go (p x) (parted p f xs)
@@ -65,7 +65,7 @@ parted p f (x ∷ xs) = go (p x) (parted p f xs)
     go true later = IsPermutation-cons (f x) _ _ later
     go false later = IsPermutation-trans _ _ _ (IsPermutation-middle (map f (filter p xs)) x _) (IsPermutation-cons x _ _ later)
 
--- what an UPDATE of all columns shows: the key as it was, and the parameters after it
+-- the row that an UPDATE of all columns computes: the key unchanged, followed by the parameters after it
 pub shows_updated : (t : Table) (params r : Row) → eval_all (updated t) (params ∷ r ∷ []) ≡ rowid r ∷ rowid r ∷ at (places_from 0 (shape t).key) (drop 1 r)
     ++ at (places_from (shape t).key (beyond_key t)) params
 shows_updated t params r =
@@ -76,7 +76,7 @@ shows_updated t params r =
 
 -- ---- the statement
 
--- in a table every row with a key is replaced by what is made of it
+-- each row of a table that has the key is replaced by the row computed from it
 pub record Replaces (schema : Schema) (t : Table) (key : Row) (made : Row → Row) (old new : Database) : Type 0 where
   pub changes : Changes schema (tree_of t) old new
   pub rows : IsPermutation (map (λ r. cond (has_key t key r) (made r) r) (tuples t old.trees)) (tuples t new.trees)
@@ -91,7 +91,7 @@ module _ (schema : Schema) (t : Table) (alone : (olds news : List Row) → works
     abbrev program : Program
     program = record { lets = []; body = query (tree_of t) (tests_from 0 (shape t).key) project [] }
 
-    -- the rows picked by the query are removed, and what is made of each is inserted with its rowid
+    -- the rows that the query selected are removed, and the row computed from each is inserted with its rowid
     finish : (old new : Database) → IsDatabase new → Keyed (old.trees (tree_of t)) → list_all (is_row_of t) (tuples t old.trees) ≡ true → (trees : Trees)
         → new ≡ record { schema = schema; trees = trees } → (found : List Row)
         → Answers (record { schema = schema; trees = old.trees }) program params found

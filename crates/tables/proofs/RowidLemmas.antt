@@ -1,4 +1,4 @@
--- What the rowids of a table, in order, prove about it.
+-- What the rowids of a table, read in order, prove about the table.
 use Rattle.std.proofs.lemmas.Bool.{cases_lt}
 use Rattle.std.proofs.Common.{◌≡◌, ◌⊎◌, inl, inr, ℕ, ◌+◌, ◌<◌, ◌≤ℤ◌, ℤ, List, [], ◌∷◌, map, length, get_or, true, false, refl, sym, ap, subst, ◌∙◌, arith, Less, Equal, int_cmp, add-one, ◌<ℤ◌, ◌-◌}
 use Rattle.std.specs.Ordering.{is_lt}
@@ -30,9 +30,9 @@ no_integer (Real x) none = refl
 no_integer (Text t) none = refl
 no_integer (Blob b) none = refl
 
--- ---- one more rowid
+-- ---- the next rowid
 
--- the rowid of a row read at a place
+-- the rowid of the row read at an index
 pub rowid_there : (rows : List Row) (k : ℕ) (r : Row) (n : ℤ) → k < length rows → r ≡ get_or rows k r → rowid r ≡ Int n → rowid (get_or rows k []) ≡ Int n
 rowid_there rows k r n low is id = ap rowid (get_any rows k [] r low ∙ sym is) ∙ id
 
@@ -78,7 +78,7 @@ once_each (r ∷ rows) up a b (inl h) (inr k) e = absurd (above r rows up b k (s
 once_each (r ∷ rows) up a b (inr h) (inl k) e = absurd (above r rows up a h (e ∙ ap rowid k))
 once_each (r ∷ rows) up a b (inr h) (inr k) e = once_each rows (sorted_tail value_cmp (rowid r) (map rowid rows) up) a b h k e
 
--- the place of a rowid in the table's order
+-- the index of a rowid in table order
 shown_at : (ordered rows : List Row) → rows ≡ map alone ordered → (k : ℕ) → k < length rows → (k < length ordered) × (rowid (get_or rows k []) ≡ rowid (get_or ordered k []))
 shown_at ordered rows shown k low =
     let below : k < length ordered = let n = ap length shown ∙ mapped_length alone ordered in omega (arith, low, n) in
@@ -113,7 +113,7 @@ keyed_from t db rows lists rise =
     each (w ∷ ws) all v (inl same) = ap is_int same ∙ all 0 (omega arith)
     each (w ∷ ws) all v (inr later) = each ws (λ k low. subst (λ n. is_int (get_or (w ∷ ws) n Null) ≡ true) (add-one k) (all (k + 1) (omega (arith, low)))) v later
 
--- ---- rowids that are not ascending: the order of the query leaves two rows with the same rowid
+-- ---- rowids that don't ascend: the query's order implies that two rows share a rowid
 
 not_above : (a b : ℤ) → is_lt (int_cmp b a) ≡ false → b ≤ℤ a → a ≡ b
 not_above a b low high = grind (arith, ints, nat_tests)

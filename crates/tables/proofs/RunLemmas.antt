@@ -1,4 +1,4 @@
--- What the queries by rowids show of a table, and why they fail.
+-- What the queries by rowid return, and why they fail.
 use Rattle.std.proofs.Common.{◌≡◌, ℤ, ◌+◌, List, [], ◌∷◌, map, filter, drop, length, true, Option, Some, None, IfSome, Ok, Err, Result, IfOk, IfErr, refl, sym, ap, subst, ◌∙◌}
 use Rattle.std.specs.List.{AllByRecursion, list_all}
 use Rattle.std.specs.List.Sorted.{IsPermutation}
@@ -28,9 +28,9 @@ use Rattle.tables.proofs.QueriedRowsLemmas.{itself}
 use Rattle.tables.proofs.CauseLemmas.{if_fails, begun, either_way, places_length}
 use Rattle.tables.proofs.RunQueries.{selects_rowid, accepts_rowid, between_tests, selects_between, accepts_between}
 
--- ---- the rowid of the row with a key
+-- ---- the rowid of the row with a given key
 
--- the rows shown are rowids of rows with the key
+-- the rows returned are rowids of rows with the given key
 pub rowid_shown : (t : Table) (key : Row) → length key ≡ (shape t).key → (db : Database) → BeginsTo t db.schema → (old new : State) (rows : List Row)
     → RestsAt db old → Shown (select_rowid_text t) key old new rows
     → IsPermutation (map alone (filter (λ r. begins_with key (drop 1 r)) (db.trees (tree_of t)))) rows
@@ -50,7 +50,7 @@ pub if_rowid_shown : {X F : Type 0} (t : Table) (key : Row) → length key ≡ (
 if_rowid_shown t key many db begins old new rows (Ok x) rests shown = rowid_shown t key many db begins old new (rows x) rests shown
 if_rowid_shown t key many db begins old new rows (Err e) rests shown = tt
 
--- the rowid in a row shown is that of a row with the key
+-- the rowid in a returned row is that of a row with the given key
 pub stands_at : (t : Table) (key : Row) (db : Database) (rows : List Row) (row : Row) (id : ℤ) → IsPermutation (map alone (filter (λ r. begins_with key (drop 1 r)) (db.trees (tree_of t)))) rows
     → Has rows row → rowid row ≡ Int id → StandsAt t key db.trees id
 stands_at t key db rows row id same there is =
@@ -74,7 +74,7 @@ rowid_fails {X} t key many kinds c old new (Err f) clean at tells =
     if_fails schema (select_rowid_text t) (tree_of t) _ _ _ _ ((selects_rowid t).select begins.rest begins.others begins.views) key (places_length 0 (shape t).key ∙ sym many)
     (accepts_rowid t key kinds many begins.rest begins.others begins.views) {X = X} old new (Err f) clean begins.is tells)
 
--- ---- the rows whose rowids are between two
+-- ---- the rows whose rowids are between two bounds
 
 between_tested : (low high : ℤ) (r : Row) → list_all (holds ((Int low ∷ Int high ∷ []) ∷ r ∷ [])) between_tests ≡ lies_between low high r
 between_tested low high r = rw (and-true _) refl
@@ -114,7 +114,7 @@ between_fails {X} t low high c old new (Err f) clean at tells =
 -- ---- the entries of such rows
 
 module _ (t : Table) (low high : ℤ) (c : Contents) (s : State) (rests : Rests c s) (rows : List Row) (shown : IsPermutation (map (at (column_places t)) (run_of t low high s.now.trees)) rows) where
-  -- a row of a run is one of the table's
+  -- a row of a run is one of the table's rows
   in_table : (r : Row) → Has (run_of t low high s.now.trees) r → Has (c t) r
   in_table r there =
       let it = has_mapped (drop 1) (filter (lies_between low high) (s.now.trees (tree_of t))) r there in
@@ -122,7 +122,7 @@ module _ (t : Table) (low high : ℤ) (c : Contents) (s : State) (rests : Rests 
       subst (Has (c t)) (sym it.2) (permuted_has (drop 1 it.0) (tuples t s.now.trees) (c t) (IsPermutation-sym _ _ ((office_of c s rests).holds t).same)
       (mapped_has (drop 1) (s.now.trees (tree_of t)) it.0 both.0))
 
-  -- it has all columns and no more
+  -- a row of a run has exactly the table's columns
   run_itself : map (at (column_places t)) (run_of t low high s.now.trees) ≡ run_of t low high s.now.trees
   run_itself = mapped_same (at (column_places t)) (λ r. r) (run_of t low high s.now.trees) (λ r h. itself t c s rests r (in_table r h)) ∙ mapped_itself _
 
@@ -135,14 +135,14 @@ module _ (t : Table) (low high : ℤ) (c : Contents) (s : State) (rests : Rests 
   shown_themselves : map (at (column_places t)) rows ≡ rows
   shown_themselves = mapped_same (at (column_places t)) (λ r. r) rows (λ r h. itself t c s rests r (shown_in_table r h)) ∙ mapped_itself rows
 
-  -- the rows of the entries read are those of the run
+  -- the rows of the entries that were read are those of the run
   pub run_read : (found : List Row) → map (at (column_places t)) rows ≡ found → IsPermutation (run_of t low high s.now.trees) found
   run_read found is = subst (IsPermutation (run_of t low high s.now.trees)) (sym shown_themselves ∙ is) same_run
 
-  -- and each is one of the table's
+  -- each row of the run is one of the table's
   pub all_in_table : (found : List Row) → map (at (column_places t)) rows ≡ found → AllByRecursion (Has (c t)) found
   all_in_table found is = subst (AllByRecursion (Has (c t))) (sym shown_themselves ∙ is) (all_from (Has (c t)) rows shown_in_table)
 
-  -- if all rows of the table represent entries, so do these
+  -- if all rows of the table represent entries, so do the rows of the run
   pub none_other : (IsRow : Row → Type 0) → AllByRecursion IsRow (c t) → ¬ HasInvalidRow IsRow rows
   none_other IsRow all wrong = wrong.2 (all_has IsRow (c t) _ all (shown_in_table _ (has_at rows wrong.0 [] wrong.1)))

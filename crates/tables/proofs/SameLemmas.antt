@@ -25,7 +25,7 @@ same_back c d same t = IsPermutation-sym (c t) (d t) (same t)
 pub same_then : (a b c : Contents) → SameContents a b → SameContents b c → SameContents a c
 same_then a b c first second t = IsPermutation-trans (a t) (b t) (c t) (first t) (second t)
 
--- a change of one table that preserves permutations preserves sameness of contents
+-- a change to one table that preserves permutations maps equal contents to equal contents
 pub same_changed : (t : Table) (f : List Row → List Row) → ((xs ys : List Row) → IsPermutation xs ys → IsPermutation (f xs) (f ys)) → (c d : Contents) → SameContents c d
     → SameContents (changed t f c) (changed t f d)
 same_changed t f each c d same u = go (place_of u == place_of t)
@@ -34,9 +34,9 @@ same_changed t f each c d same u = go (place_of u == place_of t)
     go true = each (c u) (d u) (same u)
     go false = same u
 
--- ---- one table changed, the others as they were
+-- ---- one table changed, the others unchanged
 
--- one table has other rows, and no table before it in the list is the same
+-- one table has different rows; no table before it in the list is the same table
 pub filled_changed : (front : List (Table × List Row)) (t : Table) (rows news : List Row) (back : List (Table × List Row)) (f : List Row → List Row)
     → list_all (λ (x : Table × List Row). not (place_of x.0 == place_of t)) front ≡ true
     → IsPermutation (f rows) news → SameContents (changed t f (filled (front ++ (t, rows) ∷ back))) (filled (front ++ (t, news) ∷ back))
@@ -52,7 +52,7 @@ filled_changed (one ∷ front) t rows news back f apart same u = elim (which_tab
   | inr past ↦ rw past.0 (filled_changed front t rows news back f (and_parts _ _ apart).1 same u)
 ]
 
--- ---- what holds of contents holds of the same in another order
+-- ---- what is true of contents is true of the same contents in a different order
 
 holds_table_same : (t : Table) (xs ys : List Row) (trees : Trees) → IsPermutation xs ys → HoldsTable t xs trees → HoldsTable t ys trees
 holds_table_same t xs ys trees same h = record {
@@ -77,14 +77,14 @@ rests_same c d s same rests = record { is_open = rests.is_open; outside = rests.
 pub sees_same : (c d : Contents) (s : State) → SameContents c d → Sees c s → Sees d s
 sees_same c d s same sees = record { inside = sees.inside; office = office_same c d s.now same sees.office }
 
--- if contents of one kind always represent contents of another kind
+-- contents of one kind always equal contents of another kind, up to the order of rows
 pub leaves_same : (P Q : Contents → Type 0) (s : State) → ((c : Contents) → P c → (d : Contents) × Q d × SameContents c d) → Leaves s P → Leaves s Q
 leaves_same P Q s each leaves trees may =
     let it = leaves trees may in
     let other = each it.0 it.1 in
     (other.0, other.1, stores_same it.0 other.0 trees other.2 it.2)
 
--- a database has only one contents
+-- a database determines its contents
 pub one_contents : (c d : Contents) (trees : Trees) → Holds c trees → Holds d trees → SameContents c d
 one_contents c d trees first second t = IsPermutation-trans _ _ _ (first t).same (IsPermutation-sym _ _ (second t).same)
 
@@ -106,7 +106,7 @@ pub office_holds : (c : Contents) (db : Database) → IsOffice c db → Holds c 
 unfolding IsOffice
 office_holds c db office = office.holds
 
--- ---- one more row
+-- ---- adding a row
 
 pub added_there : (t : Table) (row : Row) (c : Contents) → added t row c t ≡ row ∷ c t
 unfolding added
@@ -120,7 +120,7 @@ pub same_added : (t : Table) (row : Row) (c d : Contents) → SameContents c d �
 unfolding added
 same_added t row c d same = same_changed t (λ rows. row ∷ rows) (λ xs ys h. IsPermutation-cons row xs ys h) c d same
 
--- ---- many more rows
+-- ---- adding several rows
 
 pub same_added_all : (t : Table) (news : List Row) (c d : Contents) → SameContents c d → SameContents (added_all t news c) (added_all t news d)
 unfolding added_all

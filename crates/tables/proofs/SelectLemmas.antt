@@ -34,7 +34,7 @@ drop_none : {X : Type 0} (xs : List X) → drop 0 xs ≡ xs
 drop_none [] = refl
 drop_none (x ∷ xs) = refl
 
--- the query as `sqlite` parses it from the text
+-- the query that `sqlite` parses from a text
 abbrev pub query : ℕ → List Term → List Term → List (Term × Key) → Query
 query tree tests project order = record {
   from = inner tree end;
@@ -48,7 +48,7 @@ query tree tests project order = record {
   offset = lit (Int (pos 0));
 }
 
--- the rows that pass the test, ordered by their keys, each in the form shown
+-- the rows that pass the test, in the order of their keys, each with the selected columns
 pub record Selects (test : Row → Bool) (key show : Row → Row) (cmp : Row → Row → Ordering) (from rows : List Row) : Type 0 where
   pub ordered : List Row
   pub same : IsPermutation (filter test from) ordered
@@ -94,7 +94,7 @@ module _ (into : Row → Row) (tree : ℕ) (tests : List Term) (project : List T
             shown = a.shown ∙ drop_none _ ∙ ap (map (λ (o : Output). o.1)) pulled.2 ∙ shown_pairs pulled.0;
           }
 
--- where the statement ends, and its number of parameters
+-- the position at which the statement ends, and its number of parameters
 abbrev pub tail_of : Result Compiled CompileError → ℕ
 tail_of (Ok c) = c.tail
 tail_of (Err e) = 0
@@ -103,7 +103,7 @@ abbrev pub asked_of : Result Compiled CompileError → ℕ
 asked_of (Ok c) = length c.names
 asked_of (Err e) = 0
 
--- the condition on a SELECT from one table
+-- the conditions on a SELECT from one table
 pub record IsSelect (schema : Schema) (sql : List ℕ) (tree : ℕ) (tests project : List Term) (order : List (Term × Key)) (names : List (List ℕ)) : Type 0 where
   pub is : command_of (understood schema sql) ≡ Select (record { lets = []; body = query tree tests project order }) names
   pub unlisted : reads_listing schema sql ≡ false
@@ -125,14 +125,14 @@ module _ (schema : Schema) (sql : List ℕ) (tree : ℕ) (tests project : List T
         subst (λ l. Selects test key show (key_cmp 0 (map (λ k. k.1) order)) (map into l) rows) (it.low old.now.trees)
         (selects into tree tests project order params test key show tested keyed shows (overlay old.now.trees []) rows (read.answer Null))
 
--- ---- columns of a row that has its rowid in front
+-- ---- columns of a row that begins with its rowid
 
--- a column of the row, and one of its values without the rowid
+-- each column of the row is the preceding column of the row without its rowid
 pub later : (k : ℕ) (r : Row) → column r (suc k) ≡ column (drop 1 r) k
 later k [] = refl
 later k (x ∷ xs) = refl
 
--- the columns from a place
+-- the given number of columns, starting at an index
 abbrev pub columns_from : ℕ → ℕ → List Term
 columns_from k n = map (col 1) (places_from (suc k) n)
 
@@ -140,7 +140,7 @@ pub shows_columns : (k n : ℕ) (params r : Row) → eval_all (columns_from k n)
 shows_columns k zero params r = refl
 shows_columns k (suc n) params r = ap (λ v. v ∷ eval_all (columns_from (suc k) n) (params ∷ r ∷ [])) (later k r) ∙ ap (λ l. column (drop 1 r) k ∷ l) (shows_columns (suc k) n params r)
 
--- these columns, in ascending order
+-- those columns, each in ascending order
 abbrev pub ordered_from : ℕ → ℕ → List (Term × Key)
 ordered_from k n = map (λ p. (col 1 p, ascending Binary)) (places_from (suc k) n)
 
@@ -151,7 +151,7 @@ pub ordered_keys : (k n : ℕ) → map (λ t. t.1) (ordered_from k n) ≡ ascend
 ordered_keys k zero = refl
 ordered_keys k (suc n) = ap (λ l. ascending Binary ∷ l) (ordered_keys (suc k) n)
 
--- these columns are the parameters
+-- those columns equal the parameters
 abbrev pub tests_from : ℕ → ℕ → List Term
 tests_from k n = map (λ p. op2 (Compare Eq Binary) (col 1 (suc p)) (col 0 p)) (places_from k n)
 
@@ -159,7 +159,7 @@ pub tests_agree : (k n : ℕ) (params r : Row) → list_all (holds (params ∷ r
 tests_agree k zero params r = refl
 tests_agree k (suc n) params r = rw (sym (later k r)) (ap (λ b. equal Binary (column r (suc k)) (column params k) && b) (tests_agree (suc k) n params r))
 
--- a column outside the key is the parameter
+-- a column outside the key equals the parameter
 pub refers : (r : Reference) (value : Value) (row : Row) → list_all (holds ((value ∷ []) ∷ row ∷ [])) (op2 (Compare Eq Binary) (col 1 (suc (place_sought r))) (col 0 0) ∷ [])
     ≡ refers_to r value (drop 1 row)
 refers r value row = rw (later (place_sought r) row) (and-true _)

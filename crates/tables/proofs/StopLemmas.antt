@@ -17,20 +17,20 @@ use Rattle.tables.specs.Reading.{OnlyReads}
 pub stores_from : (c : Contents) (db : Database) (trees : Trees) → IsOffice c db → trees ≡ db.trees → Stores c trees
 stores_from c db trees office same = record { db = db; office = office; same = same }
 
--- an open connection leaves only the last commit, if the store guarantees it
+-- if a connection is open, a stop leaves only the last commit, provided that the store guarantees it
 pub rests_leaves : (c : Contents) (s : State) → ((trees : Trees) → IsTrue s.is_open → s.may_leave trees → trees ≡ s.committed.trees) → Rests c s → Leaves s (λ d. d ≡ c)
 rests_leaves c s settled rests trees may =
     (c, refl, stores_from c s.now trees rests.office (settled trees rests.is_open may ∙ ap (λ (d : Database). d.trees) (sym rests.settled)))
 
--- a weaker kind of contents
+-- a weaker condition on the contents
 pub leaves_weaker : (P Q : Contents → Type 0) (s : State) → ((d : Contents) → P d → Q d) → Leaves s P → Leaves s Q
 leaves_weaker P Q s f h trees may = let it = h trees may in (it.0, f it.0 it.1, it.2)
 
--- a read adds nothing to what a stop may leave
+-- a read doesn't add to the states that a stop may leave behind
 pub read_leaves : (P : Contents → Type 0) (old new : State) → OnlyReads old new → HasCleanDisk new → Leaves old P → Leaves new P
 read_leaves P old new reads clean leaves trees may = leaves trees (reads.leaves clean trees may)
 
--- a transaction that commits `after` leaves the old contents or the new ones, and after Ok only the new ones
+-- a stop in a transaction that commits `after` leaves the old contents or the new ones, and after `Ok` only the new ones
 pub stop_after : {X E : Type 0} (r : Result X E) (c after : Contents) (old new : State)
     → ((trees : Trees) → IsTrue old.is_open → old.may_leave trees → trees ≡ old.committed.trees) → ((trees : Trees) → IsTrue new.is_open → new.may_leave trees → trees ≡ new.committed.trees)
     → HasCleanDisk new → Rests c old → OnOk r (Rests after new) → Survives old new (Stores after) → Leaves new (λ d. MatchResult r (λ _. d ≡ after) (λ _. (d ≡ c) ⊎ (d ≡ after)))
@@ -42,7 +42,7 @@ stop_after (Err e) c after old new was is clean rests done survives = λ trees m
 
 -- ---- a commit
 
--- after its commit an office holds what the transaction saw
+-- after the commit, the office has the contents that the transaction saw
 pub rests_committed : (c : Contents) (inside new : State) → Sees c inside → Shows inside new inside.now inside.now false → Rests c new
 rests_committed c inside new sees shows = record {
   is_open = shows.is_open;
@@ -55,7 +55,7 @@ rests_committed c inside new sees shows = record {
 pub stores_seen : (c : Contents) (s : State) (trees : Trees) → Sees c s → trees ≡ s.now.trees → Stores c trees
 stores_seen c s trees sees same = stores_from c s.now trees sees.office same
 
--- a transaction that commits what it saw leaves that, or whatever could be left before
+-- a stop in a transaction that commits what it saw leaves either that or what could have been left before
 pub survives_storing : (c : Contents) (old inside new : State) → Survives old new (λ trees. trees ≡ inside.now.trees) → (HasCleanDisk new → Sees c inside) → Survives old new (Stores c)
 survives_storing c old inside new s sees = record {
   clean = s.clean;
@@ -71,11 +71,11 @@ survives_storing c old inside new s sees = record {
 
 -- ---- a whole transaction
 
--- a transaction sees, as it begins, the office of its connection
+-- when a transaction begins, it sees the office of its connection
 pub begun_sees : {S : Type 0} (g : Ghosts S) (old : Held S) (c : Contents) → Rests c (state g old) → Sees c (state g (record old { in_transaction = true }))
 begun_sees g old c rests = record { inside = refl; office = rests.office }
 
--- a run that commits nothing, and then commits what it saw
+-- steps that commit nothing, followed by a commit of what the transaction saw
 pub survives_commit : (c : Contents) (start inside new : State) → Survives start inside (λ _. ⊥) → Survives inside new (λ trees. trees ≡ inside.now.trees)
     → (HasCleanDisk inside → Sees c inside) → Survives start new (Stores c)
 survives_commit c start inside new first second sees =
@@ -84,7 +84,7 @@ survives_commit c start inside new first second sees =
 
 -- ---- after a stop
 
--- What a stop left is found after reopening: the trees determine the schema.
+-- What a stop has left is identified after reopening: the trees determine the schema.
 pub stores_found : (c : Contents) (db : Database) → IsDatabase db → Stores c db.trees → IsOffice c db
 unfolding IsOffice
 stores_found c db sound stores =

@@ -36,9 +36,9 @@ use Rattle.tables.proofs.QueriedRowsLemmas.{found_as}
 use Rattle.tables.proofs.FaultLemmas.{query_cause}
 use Rattle.tables.proofs.CauseLemmas.{fails_later, key_fails}
 
--- ---- what a step leaves of the connection
+-- ---- the state a step leaves the connection in
 
--- one more row, or none, or an error
+-- another row, no more rows, or an error
 pub step_reads : {X : Type 0} (old new : State) (r : Result X Error) → (HasCleanDisk new → OnOk r (IsUnchanged old new))
     → (HasCleanDisk new → IfErr r (λ e. Fails old new ⊥ e ⊎ IsUnchanged old new)) → Survives old new (λ _. ⊥) → OnlyReads old new
 step_reads {X} old new r same kept survives = reads_left (λ _. ⊥) old new (λ trees none. none) (λ clean. go r (same clean) (kept clean)) survives
@@ -78,7 +78,7 @@ module _ {S : Type 0} (g : Ghosts S) (t : Table) (key : Row) (low : length key �
   abbrev sql : List ℕ
   sql = select_text t (length key)
 
-  -- a row returned is one of the table
+  -- a returned row is one of the table's rows
   given_there : (h : Held S) → Rests c (state g h) → (rows : List Row) → HasGiven g sql key h rows → (row : Row) → Has rows row → Has (c t) row
   given_there h rests rows given row there =
       let begins = begins_to t h.schema (office_of c (state g h) rests).begins in
@@ -92,7 +92,7 @@ module _ {S : Type 0} (g : Ghosts S) (t : Table) (key : Row) (low : length key �
 
 -- ---- a walk from its start to a row
 
--- this many rows were returned, and their entries consumed
+-- the given rows have been returned, and their entries consumed
 pub record HasWalked {S V X : Type 0} (g : Ghosts S) (t : Table) (row_of : X → Row) (HasVisited : V → List X → Type 0) (start now : Held S) (was is : V) : Type 0 where
   pub given : List Row
   pub found : List X
@@ -121,7 +121,7 @@ module _ {S V X : Type 0} (g : Ghosts S) (t : Table) (row_of : X → Row) (HasVi
     rests_now : (now : Held S) → OnlyReads (state g start) (state g now) → HasCleanDisk (state g now) → RestsIfOpen c (state g now)
     rests_now now first clean is_open = rests_read c (state g start) (state g now) first clean is_open (rests (first.was_open clean is_open))
 
-    -- if no row remains, all entries were consumed
+    -- if no rows remain, all entries have been consumed
     pub all_walked : (now last : Held S) (is will : V) → HasWalked g t row_of HasVisited start now was is → OnlyReads (state g start) (state g now) → HasCleanDisk (state g now)
         → IsTrue (state g now).is_open
         → Visits g t row_of HasVisited now last is will false → TakesFound HasVisited row_of t (begins_with key) c was will
@@ -144,7 +144,7 @@ module _ {S V X : Type 0} (g : Ghosts S) (t : Table) (row_of : X → Row) (HasVi
         told : (e : Error) → FailsToAdvance g now next e → FailsToQuery (select_text t (length key)) key (state g now) (state g next) e
         told e failed = failed (select_text t (length key)) key walked.given (walked.gives (select_text t (length key)) key begun)
 
-        -- every row returned represents an entry
+        -- every returned row represents an entry
         never_other : IsTrue (state g next).is_open → (row : Row) → Advances g now next (Some row) → ¬ IsRow row → ⊥
         never_other is_open row more other =
             let at_next = rests_read c (state g now) (state g next) second clean is_open (rests_now now first (second.clean clean) (second.was_open clean is_open)) in
@@ -168,7 +168,7 @@ module _ {S V X : Type 0} (g : Ghosts S) (t : Table) (row_of : X → Row) (HasVi
 
 -- ---- a whole walk
 
--- a query that fails to begin reports why
+-- why a query fails to begin
 pub refused_fails : {S : Type 0} (g : Ghosts S) (t : Table) (n : ℕ) (key : Row) → length key ≡ n → n ≤ (shape t).key → begins_key t key ≡ true → (c : Contents) (old new : Held S) (e : Error)
     → HasCleanDisk (state g new)
     → RestsIfOpen c (state g old) → FailsToQuery (select_text t n) key (state g old) (state g new) e → FailsBy (state g old) (state g new) (fault_of e)
@@ -184,7 +184,7 @@ module _ {S : Type 0} (g : Ghosts S) (t : Table) (n : ℕ) (key : Row) (many : l
     pub walk_reads : OnlyReads (state g old) (state g last)
     walk_reads = only_reads_then (state g old) (state g begun) (state g last) begin rest
 
-    -- what is proved of the rows from the first is true of this key and these contents
+    -- what is proved for any walk from its first row is true for the given key and contents
     pub walk_tells : (P : Row → Contents → Type 0) (c : Contents) → HasCleanDisk (state g last) → RestsIfOpen c (state g old)
         → ((k : Row) → length k ≤ (shape t).key → HasGiven g (select_text t (length k)) k begun [] → (d : Contents) → RestsIfOpen d (state g begun) → P k d) → P key c
     walk_tells P c clean rests told =

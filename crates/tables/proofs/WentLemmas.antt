@@ -13,7 +13,7 @@ use Rattle.sqlite.specs.Effect.{Database, Answers}
 use Rattle.sqlite.specs.Does.{Tally, OnRows, WritesRows, Concludes, Tested, Returns}
 use Rattle.sqlite.specs.Rows.{Part, Then, Gives, Queried, Written, Task, Edited, Updates, Deletes}
 
--- a part that returned a value did not stop
+-- a part that returned a value didn't stop
 pub went : {B E R : Type 0} {b : B} {Stops : E → Type 0} → ((stop : E) × Stops stop × (Ok b ≡ Err stop)) ⊎ R → R
 went (inl stopped) = absurd (let e = stopped.2 in cc)
 went (inr on) = on
@@ -21,7 +21,7 @@ went (inr on) = on
 pub same_value : {B E : Type 0} {a b : B} → ◌≡◌ {A = Result B E} (Ok a) (Ok b) → a ≡ b
 same_value e = cc
 
--- if two parts returned a value, the first returned one, and the second turned it into that
+-- if two parts in sequence returned a value, the first part returned one, and the second computed the result from it
 pub then_went : {A B : Type 0} (First : Part A) (Next : A → Part B) (b : B) → Then First Next (Ok b) → (a : A) × First (Ok a) × Next a (Ok b)
 then_went First Next b h = went h
 
@@ -43,7 +43,7 @@ module _ (task : Task) where
       let shown = then_went (Returns task w None) (λ rows. Gives (end tested.0 rows)) (tally, after) tested.2 in
       (w, done.1, ap (λ (p : Tally × Database). p.1) (given (end tested.0 shown.0) (tally, after) shown.2))
 
-  -- an edit that makes these rows succeeded
+  -- an edit that results in these rows succeeded
   edit_went : (db : Trees) (edit : Edit) (rows : List Row) (w : Written)
       → Then (Edited task.schema task.keys db edit) (λ next. Gives (record { trees = next; rows = rows; last = None })) (Ok w) → Edited task.schema task.keys db edit (Ok w.trees)
   edit_went db edit rows w h =

@@ -10,3 +10,4 @@ pub mod Presence
 pub mod Reading
 pub mod RowidRanges
 pub mod Walking
+pub mod Copying

@@ -7,21 +7,21 @@ use Rattle.tables.specs.declared.table.Table.{Table}
 use Rattle.tables.specs.Schema.{schema_from, no_schema, place_of}
 use Rattle.tables.specs.Contents.{Contents, HoldsTable}
 
--- no row in any table; opaque, so that a search does not compute it
+-- contents without rows in any table; opaque, to keep a proof search from computing it
 unfoldable pub no_contents : Contents
 no_contents t = []
 
--- each of the first `n` tables holds exactly its rows
+-- each of the first `n` tables contains exactly its rows
 abbrev pub HoldsFirst : ℕ → Contents → Trees → Type 0
 HoldsFirst n c trees = (t : Table) → place_of t < n → HoldsTable t (c t) trees
 
--- a sound database with only the first `n` tables, which hold exactly these rows
+-- a sound database with only the first `n` tables, which contain exactly these rows
 pub record FirstAt (n : ℕ) (c : Contents) (db : Database) : Type 0 where
   pub schema : db.schema ≡ schema_from n [] [] []
   pub sound : IsDatabase db
   pub holds : HoldsFirst n c db.trees
 
--- the same; opaque, so that a search does not open it
+-- the same condition; opaque, to keep a proof search from unfolding it
 unfoldable pub HasFirstTables : ℕ → Contents → Database → Type 0
 HasFirstTables = FirstAt
 
@@ -31,7 +31,7 @@ pub record StoresFirst (n : ℕ) (c : Contents) (trees : Trees) : Type 0 where
   pub first : HasFirstTables n c db
   pub same : trees ≡ db.trees
 
--- a connection between two transactions, on the first `n` tables with these rows
+-- a connection between two transactions, at the first `n` tables with these rows
 pub record RestsFirst (n : ℕ) (c : Contents) (s : State) : Type 0 where
   pub is_open : IsTrue s.is_open
   pub outside : s.in_transaction ≡ false

@@ -1,4 +1,4 @@
--- The schema of an office, as `sqlite` parses it from the texts.
+-- The schema of an office, as `sqlite` parses it from the statements' texts.
 use Rattle.std.specs.Prelude.{◌≡◌, ◌++◌, ◌+◌, ◌*◌, ℕ, zero, suc, Bool, List, [], ◌∷◌, codes, map, take, true, false, Option, None, Some, pos}
 use Rattle.std.specs.List.{AllByRecursion}
 use Rattle.sqlite.specs.declared.types.Value.TheVariants.{Null, Int}
@@ -28,29 +28,29 @@ Definition = sqlite_table.Table
 
 -- ---- differences between the tables
 
--- a column as defined in the text of its table: whole numbers, texts or bytes, and the range that it is restricted to
+-- a column as defined in the text of its table: whole numbers, texts or bytes, and the range it is restricted to
 pub record Field : Type 0 where
   pub name : List ℕ
   pub kind : Kind
   pub range : Option (ℕ × ℕ)
 
--- whole numbers
+-- a column of whole numbers
 abbrev pub number : List ℕ → Field
 number name = record { name = name; kind = Integer; range = None }
 
--- whole numbers between two, both included
+-- a column of whole numbers between two bounds, both included
 abbrev pub within : List ℕ → ℕ → ℕ → Field
 within name low high = record { name = name; kind = Integer; range = Some (low, high) }
 
--- texts
+-- a column of texts
 abbrev pub words : List ℕ → Field
 words name = record { name = name; kind = Text; range = None }
 
--- bytes
+-- a column of bytes
 abbrev pub bytes : List ℕ → Field
 bytes name = record { name = name; kind = Blob; range = None }
 
--- A table's name and columns; this many of the first columns are the key.
+-- A table's name and columns; `key` is the number of leading columns that form the key.
 pub record Shape : Type 0 where
   pub name : List ℕ
   pub key : ℕ
@@ -91,7 +91,7 @@ shape Vote = record {
 }
 shape Third = record { name = codes "third"; key = 1; fields = within (codes "batch") 1 9999 ∷ within (codes "clerk") 1 999 ∷ [] }
 
--- the tables whose rows are changed or removed; the others only grow
+-- the tables whose rows may be changed or removed; the others only grow
 abbrev pub changes_rows : Table → Bool
 changes_rows Office = true
 changes_rows Ward = true
@@ -104,18 +104,18 @@ changes_rows _ = false
 abbrev pub table_sought : Reference → Table
 table_sought WardOfBatch = Batch
 
--- the place of that column
+-- the index of that column
 abbrev pub place_sought : Reference → ℕ
 place_sought WardOfBatch = 1
 
--- the table in which a column outside the key is set on its own
+-- the table in which a column outside the key is set individually
 abbrev pub table_set : SettableColumn → Table
 table_set VersionOfOffice = Office
 table_set PhaseOfWard = Ward
 table_set DoneOfWard = Ward
 table_set RoundOfBatch = Batch
 
--- the place of that column
+-- the index of that column
 abbrev pub place_set : SettableColumn → ℕ
 place_set VersionOfOffice = 1
 place_set PhaseOfWard = 2
@@ -130,17 +130,17 @@ column_of f = record { name = f.name; kind = f.kind; is_strict = true; not_null 
 abbrev pub columns_of : Table → List Column
 columns_of t = map column_of (shape t).fields
 
--- the column at this place is in this range, if there is one
+-- the check that the column at the given index is in its range, if it has one
 abbrev pub range_check : ℕ → Option (ℕ × ℕ) → List Term
 range_check place None = []
 range_check place (Some range) = op2 And (op2 (Compare Ge Binary) (col 1 place) (lit (Int (pos range.0)))) (op2 (Compare Le Binary) (col 1 place) (lit (Int (pos range.1)))) ∷ []
 
--- the ranges of the columns, from a place
+-- the checks of the columns' ranges; the columns are numbered from `place`
 abbrev pub checks_from : ℕ → List Field → List Term
 checks_from place [] = []
 checks_from place (f ∷ more) = range_check place f.range ++ checks_from (suc place) more
 
--- the place of the table in the order of creation
+-- the position of the table in the order of creation
 abbrev pub place_of : Table → ℕ
 place_of Office = 0
 place_of Ward = 1
@@ -160,12 +160,12 @@ all_tables = Office ∷ Ward ∷ Candidate ∷ Batch ∷ Keying ∷ Verdict ∷ 
 
 -- ---- the schema
 
--- this many consecutive numbers, from this one
+-- a run of consecutive numbers, with the given start and length
 abbrev pub places_from : ℕ → ℕ → List ℕ
 places_from k zero = []
 places_from k (suc n) = k ∷ places_from (suc k) n
 
--- a table whose key is its first columns; a row is its rowid, followed by these
+-- a table whose key consists of its first columns; a row is its rowid, followed by the columns
 abbrev pub keyed_by : List ℕ → List ℕ → ℕ → List Column → List Term → Definition
 keyed_by key name tree columns checks = record {
   name = name;
@@ -182,15 +182,15 @@ keyed_by key name tree columns checks = record {
   is_counted = false;
 }
 
--- a table of this shape, with its rows in this tree
+-- a table with the given shape, whose rows are in the given tree
 abbrev pub shaped : Shape → ℕ → Definition
 shaped s tree = keyed_by (places_from 1 s.key) s.name tree (map column_of s.fields) (checks_from 1 s.fields)
 
--- the tree of a table's rows; the next one is that of its key
+-- the tree of a table's rows; the next tree is that of its key
 abbrev pub tree_of : Table → ℕ
 tree_of t = 2 * place_of t
 
--- the table as it is defined in the schema
+-- the table as defined in the schema
 abbrev pub definition : Table → Definition
 definition t = shaped (shape t) (tree_of t)
 
@@ -202,22 +202,22 @@ key_index t = automatic (definition t) 0 (places_from 1 (shape t).key) (1 + tree
 abbrev pub schema_from : ℕ → List Definition → List Index → List View → Schema
 schema_from n rest others views = record { tables = map definition (take n all_tables) ++ rest; indexes = map key_index (take n all_tables) ++ others; views = views }
 
--- an empty database
+-- the schema of an empty database
 abbrev pub no_schema : Schema
 no_schema = record { tables = []; indexes = []; views = [] }
 
--- the schema begins with the tables up to this one
+-- the schema begins with the tables up to the given one
 pub record BeginsTo (t : Table) (s : Schema) : Type 0 where
   pub rest : List Definition
   pub others : List Index
   pub views : List View
   pub is : s ≡ schema_from (1 + place_of t) rest others views
 
--- these tables refer to no other
+-- the given tables refer to no other tables
 abbrev pub AreFree : List Definition → Type 0
 AreFree = AllByRecursion (λ t. t.references ≡ [])
 
--- the schema begins with all tables of the office, and the later ones refer to none
+-- the schema begins with all tables of an office, and the tables after them refer to no others
 pub record IsOfficeSchema (s : Schema) : Type 0 where
   pub rest : List Definition
   pub others : List Index

@@ -1,4 +1,4 @@
-//! A statement that writes, run inside a transaction.
+//! Executes statements that write, inside a transaction.
 
 ghost use Rattle.sqlite.specs.Values.{bound};
 ghost use Rattle.tables.specs.Writing.{RunsStatement};
@@ -7,7 +7,7 @@ use crate::fault::{Fault, fault_of};
 use sqlite::{Alter, Transaction};
 use sqlite_value::value::ValueRef;
 
-/// Executes a statement that writes. A fault leaves the last commit as it was.
+/// Executes a statement that writes. After a fault, the last commit is unchanged.
 pub(crate) fn execute<S: Alter>(
     tx: &mut Transaction<'_, S>,
     sql: &str,

@@ -1,4 +1,4 @@
-//! Inserting rows, inside a transaction.
+//! Inserts rows inside a transaction.
 
 ghost use Rattle.std.specs.Prelude.{◌≡◌, true, IfErr};
 ghost use Rattle.sqlite.specs.Values.{bound};
@@ -16,8 +16,8 @@ use crate::texts::insert_text;
 use sqlite::{Alter, Transaction};
 use sqlite_value::value::ValueRef;
 
-/// Inserts one row of these values, one per column and of its kind. A fault, for example if there is a row with the key,
-/// leaves the last commit as it was.
+/// Inserts one row with the given values, one per column and of the column's kind. After a fault, for example if a row
+/// with the same key exists, the last commit is unchanged.
 pub fn insert<S: Alter>(
     tx: &mut Transaction<'_, S>,
     table: Table,

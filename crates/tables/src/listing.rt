@@ -1,4 +1,4 @@
-//! All rows of a table, and the entries that they represent.
+//! Lists all rows of a table, and the entries that they represent.
 
 ghost use Rattle.std.specs.Prelude.{◌≡◌, ◌⊎◌, false, map, IfOk, IfErr, OnOk, IsTrue};
 ghost use Rattle.sqlite.specs.Effect.{Database};
@@ -19,7 +19,7 @@ use crate::table::Table;
 use sqlite::{Alter, Connection, Row};
 use std::alloc::Global;
 
-/// Returns the entries of rows; `Damaged` if a row represents no entry.
+/// Returns the entries of the given rows. Returns `Damaged` if a row doesn't represent an entry.
 pub(crate) fn entries_of<E: Entries>(alloc: Global, rows: &[Row]) -> Result<Vec<E::Entry>, Fault>
     ensures reads { IfOk result (λ found. map (at (column_places E.TABLE)) rows.now ≡ map E.row_of found.items) }
     ensures cause { IfErr result (λ f. (f ≡ Fault.Memory) ⊎ ((f ≡ Fault.Damaged) × HasInvalidRow E.is_row rows.now)) }
@@ -34,8 +34,12 @@ pub(crate) fn entries_of<E: Entries>(alloc: Global, rows: &[Row]) -> Result<Vec<
     Ok(entries)
 }
 
-/// Returns all rows of a table in key order, after checking, if its rows change, that no two share a rowid.
-pub fn keyed_rows<S: Alter>(conn: &mut Connection<S>, table: Table) -> Result<Vec<Row>, Fault>
+/// Returns all rows of a table in key order. For a table whose rows change, first checks that no two rows share a rowid.
+pub fn keyed_rows<S: Alter>(
+    alloc: Global,
+    conn: &mut Connection<S>,
+    table: Table,
+) -> Result<Vec<Row>, Fault>
     requires { conn.old.in_transaction ≡ false }
     ensures lists { HasCleanDisk (state S.Store conn.new) → (db : Database) → BeginsTo table db.schema → RestsAt db (state S.Store conn.old)
         → IfOk result (λ rows. ListsKeyed table db rows.items) }
@@ -48,15 +52,15 @@ pub fn keyed_rows<S: Alter>(conn: &mut Connection<S>, table: Table) -> Result<Ve
         → IfErr result (FailsToList db (state S.Store conn.old) (state S.Store conn.new)) }
 {
     if !table.changes_rows() {
-        return all_rows(conn, table);
+        return all_rows(alloc, conn, table);
     }
     check_rowids(conn, table)?;
-    let rows = all_rows(conn, table)?;
+    let rows = all_rows(alloc, conn, table)?;
     Ok(rows)
 }
 
-/// Returns all entries of a table, in key order. `Damaged` if a row represents no entry, or its key is not above that of the
-/// row before.
+/// Returns all entries of a table, in key order. Returns `Damaged` if a row doesn't represent an entry, or if its key
+/// isn't above that of the preceding row.
 pub fn all_entries<E: Entries, S: Alter>(
     alloc: Global,
     conn: &mut Connection<S>,
@@ -73,7 +77,7 @@ pub fn all_entries<E: Entries, S: Alter>(
     ensures reads { OnlyReads (state S.Store conn.old) (state S.Store conn.new) }
     ensures outside { conn.new.in_transaction ≡ false }
 {
-    let rows = keyed_rows(conn, E::TABLE)?;
+    let rows = keyed_rows(alloc, conn, E::TABLE)?;
     if !keys_rise(E::TABLE, &rows) {
         return Err(Fault::Damaged);
     }

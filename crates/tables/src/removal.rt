@@ -1,4 +1,4 @@
-//! Removing rows, inside a transaction.
+//! Removes rows inside a transaction.
 
 ghost use Rattle.std.specs.Prelude.{◌≡◌, true, IfErr};
 ghost use Rattle.sqlite.specs.Values.{bound};
@@ -16,8 +16,8 @@ use crate::texts::delete_text;
 use sqlite::{Alter, Transaction};
 use sqlite_value::value::ValueRef;
 
-/// Removes the row whose key has these values, in a table whose rows change; without such a row the table stays as it is. A
-/// fault leaves the last commit as it was.
+/// Removes the row whose key has the given values, from a table whose rows change; if there is no such row, the table
+/// is unchanged. After a fault, the last commit is unchanged.
 pub fn remove<S: Alter>(
     tx: &mut Transaction<'_, S>,
     table: Table,

@@ -35,7 +35,7 @@ impl Table {
         Table::Third,
     ];
 
-    /// Returns the name.
+    /// Returns the table's name.
     pub fn name(self) -> &'static str
         ensures { result.now ≡ (shape self).name }
     {
@@ -54,7 +54,7 @@ impl Table {
         }
     }
 
-    /// Returns how many of the first columns are the key: 1 to 4.
+    /// Returns how many leading columns form the key: 1 to 4.
     pub fn key_columns(self) -> usize
         ensures { result ≡ (shape self).key }
     {
@@ -66,7 +66,7 @@ impl Table {
         }
     }
 
-    /// Returns whether rows are also changed or removed, not only added.
+    /// Returns whether rows of the table may be changed or removed, not just added.
     pub fn changes_rows(self) -> bool
         ensures { result ≡ changes_rows self }
     {
@@ -82,21 +82,21 @@ impl Table {
     }
 }
 
-/// The columns outside a key by which rows are looked up.
+/// The columns outside the key by which rows are looked up.
 #[derive(Clone, Copy, PartialEq, Eq)]
 pub enum Reference {
     /// The ward of a batch.
     WardOfBatch,
 }
 
-/// The columns outside a key that are set on their own, leaving the others as they are.
+/// The columns outside the key that can be set individually, leaving the others unchanged.
 #[derive(Clone, Copy, PartialEq, Eq)]
 pub enum SettableColumn {
     /// The version of the office.
     VersionOfOffice,
     /// The phase of a ward.
     PhaseOfWard,
-    /// The number of stages done in a ward's count.
+    /// The number of stages done in the count of a ward.
     DoneOfWard,
     /// The round of a batch.
     RoundOfBatch,

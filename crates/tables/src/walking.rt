@@ -1,4 +1,4 @@
-//! Passing entries on one at a time, without holding them all.
+//! Passes entries on one at a time, without holding them all.
 
 ghost use Rattle.std.specs.Prelude.{◌≡◌, ◌≤◌, ◌⊎◌, [], ◌∷◌, true, false, length, List, IfOk, IfErr, OnOk, IsTrue};
 ghost use Rattle.std.specs.List.{AllByRecursion};
@@ -24,19 +24,19 @@ use sqlite_value::value::ValueRef;
 pub trait Visitor<E: Entries> {
     ghost use Rattle.tables.specs.declared.fault.Fault.{Fault};
 
-    // It has consumed these entries, in this order, and no others.
+    // The visitor has consumed these entries, in this order, and no others.
     ghost HasVisited: { Self → List E.Entry → Type 0 };
 
-    // A fault with which it stops.
+    // The faults that the visitor may return.
     ghost Stops: { Fault → Type 0 };
 
-    /// Consumes one more entry.
+    /// Consumes another entry.
     fn visit(&mut self, entry: E::Entry) -> Result<(), Fault>
         ensures takes { OnOk result (TakesNext HasVisited self.old self.new entry) }
         ensures cause { IfErr result Stops };
 }
 
-/// Passes on the entry of the next row, and returns whether there was one.
+/// Passes the entry of the next row to the visitor, and returns whether there was one.
 fn visit_next<E: Entries, V: Visitor<E>, S: Alter>(
     rows: &mut Rows<'_, S>,
     visitor: &mut V,
@@ -57,7 +57,7 @@ fn visit_next<E: Entries, V: Visitor<E>, S: Alter>(
     Ok(true)
 }
 
-/// Passes on the entries of all remaining rows; `Memory` also past 2^64 - 2 rows.
+/// Passes the entries of all remaining rows to the visitor. Also returns `Memory` if there are more than 2^64 - 2.
 fn visit_rest<E: Entries, V: Visitor<E>, S: Alter>(
     rows: &mut Rows<'_, S>,
     visitor: &mut V,
@@ -82,11 +82,11 @@ fn visit_rest<E: Entries, V: Visitor<E>, S: Alter>(
     Err(Fault::Memory)
 }
 
-/// Passes the entries whose key begins with these values to the visitor, one at a time, in key order, and returns the
-/// visitor. Of the rows only those read ahead are held in memory.
+/// Passes the entries whose key begins with the given values to the visitor, one at a time, in key order, and returns
+/// the visitor. Only rows that have been read ahead are held in memory.
 ///
-/// A fault of the visitor ends the walk. `Damaged` if a row represents no entry; `Memory` also past 2^64 - 2 rows. In these
-/// cases the visitor is dropped, and the tables are as they were.
+/// A fault from the visitor ends the walk. Returns `Damaged` if a row doesn't represent an entry; also returns `Memory`
+/// if there are more than 2^64 - 2 rows. In these cases the visitor is dropped, and the tables are unchanged.
 pub fn walk_beginning<E: Entries, V: Visitor<E> + Drop, S: Alter>(
     conn: &mut Connection<S>,
     key: &[ValueRef<'_>],

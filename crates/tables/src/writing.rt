@@ -1,4 +1,4 @@
-//! Writing entries, inside a transaction.
+//! Writes entries inside a transaction.
 
 ghost use Rattle.std.specs.Prelude.{◌≡◌, true, map};
 ghost use Rattle.tables.specs.Schema.{changes_rows};
@@ -12,7 +12,7 @@ use crate::replacement::replace;
 use sqlite::{Alter, Transaction};
 use std::alloc::Global;
 
-/// Inserts the row of an entry. A fault, for example if there is a row with the key, leaves the last commit as it was.
+/// Inserts the row of an entry. After a fault, for example if a row with the same key exists, the last commit is unchanged.
 pub fn add_entry<E: Entries, S: Alter>(
     alloc: Global,
     tx: &mut Transaction<'_, S>,
@@ -24,7 +24,7 @@ pub fn add_entry<E: Entries, S: Alter>(
     insert(tx, E::TABLE, &values)
 }
 
-/// Inserts the rows of entries, each as `add_entry` does. A fault leaves the last commit as it was.
+/// Inserts the rows of the given entries, each as `add_entry` does. After a fault, the last commit is unchanged.
 pub fn add_entries<E: Entries, S: Alter>(
     alloc: Global,
     tx: &mut Transaction<'_, S>,
@@ -38,7 +38,8 @@ pub fn add_entries<E: Entries, S: Alter>(
     Ok(())
 }
 
-/// Inserts the rows of entries into their table, and those of others into theirs. A fault leaves the last commit as it was.
+/// Inserts the rows of entries of one table, then those of entries of another. After a fault, the last commit is
+/// unchanged.
 pub fn add_both<E: Entries, F: Entries, S: Alter>(
     alloc: Global,
     tx: &mut Transaction<'_, S>,
@@ -51,8 +52,8 @@ pub fn add_both<E: Entries, F: Entries, S: Alter>(
     add_entries::<F, S>(alloc, tx, others)
 }
 
-/// Updates the row with an entry's key to the entry's row; without such a row nothing changes. A fault leaves the
-/// last commit as it was.
+/// Updates the row with the entry's key to the entry's row; if there is no such row, nothing changes. After a fault,
+/// the last commit is unchanged.
 pub fn replace_entry<E: Entries, S: Alter>(
     alloc: Global,
     tx: &mut Transaction<'_, S>,
@@ -65,8 +66,8 @@ pub fn replace_entry<E: Entries, S: Alter>(
     replace(tx, E::TABLE, &values)
 }
 
-/// Updates the rows with the keys of entries, one after another, each as `replace_entry` does. A fault leaves the last
-/// commit as it was.
+/// Updates the rows with the given entries' keys, one after another, each as `replace_entry` does. After a fault, the
+/// last commit is unchanged.
 pub fn replace_entries<E: Entries, S: Alter>(
     alloc: Global,
     tx: &mut Transaction<'_, S>,

@@ -1,3 +1,3 @@
--- Votes, and their text.
+-- Votes, and votes as text.
 pub mod Units
 pub mod Text

@@ -1,4 +1,4 @@
-//! Votes in units, the quota, the transfer value, and the text of votes.
+//! Votes in units, the quota, the transfer value, and votes as text.
 
 ghost use Rattle.std.specs.Prelude.{◌≡◌, ℕ, ◌+◌, ◌-◌, ◌*◌, ◌^◌, ◌<◌, ◌≤◌, OnOk, OnErr, Some};
 ghost use Rattle.std.specs.Io.KnownBytes.{Appends};
@@ -33,7 +33,7 @@ impl Model for Votes {
 }
 
 impl Votes {
-    /// Returns the votes for a number of units.
+    /// Returns the votes equal to the given number of units.
     pub fn from_units(units: u64) -> Votes
         ensures { result ≡ units }
     {
@@ -47,10 +47,10 @@ impl Votes {
         self.0
     }
 
-    /// Writes the whole votes without leading zeros, a point, and five digits.
+    /// Writes the whole votes without leading zeros, then a decimal point and five digits.
     ///
-    /// Allocates nothing. `Broken` comes only from the sink, which has then accepted a prefix of the text and counts one more
-    /// failure.
+    /// Allocates nothing. Returns `Broken` only if the sink does; the sink has then accepted a prefix of the text, and its count
+    /// of failures is one higher.
     #[tactic(auto, using(streams::proofs::Beginnings::beginnings))]
     pub fn write<W: Sink>(self, sink: &mut W) -> Result<(), Broken>
         requires { W.failed sink.old < 2 ^ 64 - 1 }
@@ -68,7 +68,7 @@ impl Votes {
     }
 }
 
-/// Returns the point and the five digits of a number of units.
+/// Returns the decimal point and the five digits after it, for the given number of units.
 fn fraction(units: u64) -> [u8; 6]
     ensures { result ≡ fraction_text units }
 {
@@ -99,10 +99,9 @@ impl fmt::Display for Votes {
     }
 }
 
-/// Returns the quota ("Quota"): the least whole number of votes that more candidates than there are seats can't all reach.
+/// Returns the quota ("Quota"): the smallest whole number of votes that more candidates than there are seats can't all reach.
 ///
-/// `valid` is the number of valid ballot papers, at most `MAX_PAPERS`, and `seats` is 1 to
-/// `MAX_SEATS`.
+/// `valid` is the number of valid ballot papers, at most `MAX_PAPERS`, and `seats` is from 1 to `MAX_SEATS`.
 pub fn quota(valid: u32, seats: u8) -> Votes
     requires few { valid ≤ max_papers }
     requires some_seats { 1 ≤ seats }
@@ -114,10 +113,10 @@ pub fn quota(valid: u32, seats: u8) -> Votes
     Votes(whole * ONE_VOTE)
 }
 
-/// Returns the value at which a paper is transferred with a surplus ("Transfer values"): the surplus times the paper's value when
-/// received, divided by the votes credited to its holder, rounded down to whole units.
+/// Returns the value at which a paper is transferred with a surplus ("Transfer values"): the surplus multiplied by the value at
+/// which the paper was received, divided by the votes credited to its holder, rounded down to whole units.
 ///
-/// `received` is at most one vote, `credited` at most one vote for each of `MAX_PAPERS` papers, and `surplus` more than nothing
+/// `received` is at most one vote, `credited` is at most one vote for each of `MAX_PAPERS` papers, and `surplus` is more than 0
 /// and less than `credited`.
 pub fn transfer_value(surplus: Votes, received: Votes, credited: Votes) -> Votes
     requires some { 0 < surplus }

@@ -1,4 +1,4 @@
--- How a body is filled.
+-- How the buffer of a body is filled.
 use Rattle.std.proofs.Common.{◌≡◌, ◌∙◌, ◌<◌, ◌≤◌, ◌+◌, ◌-◌, ◌⊎◌, inl, inr, ℕ, List, Option, Some, None, Result, Ok, Err, [], ◌++◌, length, take, drop, refl, sym, ap, arith, append_assoc, min}
 use Rattle.std.specs.Prelude.{IfSome, OnErr}
 use Rattle.std.specs.Io.KnownBytes.{Consumes, IsAtEnd, Keeps}
@@ -11,7 +11,7 @@ use Rattle.std.proofs.lemmas.Slice.{take-put_mid}
 use Rattle.wire.specs.Requests.{HasRead}
 use Rattle.wire.specs.Bodies.{body_in}
 
--- a buffer whose end was filled, as it is in its `Vec` again
+-- a buffer whose end was filled, returned to its `Vec`
 pub back_filled : (items buf front_bytes room : List ℕ) (front size len : ℕ) → len ≡ size → length buf ≡ size → front + length room ≡ size → take front buf ≡ front_bytes
     → take len (put_mid front (length buf - front) buf room ++ drop (length (put_mid front (length buf - front) buf room)) items) ≡ front_bytes ++ room
 back_filled items buf front_bytes room front size len there full fits is =
@@ -20,7 +20,7 @@ back_filled items buf front_bytes room front size len there full fits is =
     omega (arith, ap length whole, length-take len (put_mid front (length buf - front) buf room), length-append (take front buf) room, length-take-le front buf (omega arith)) in
     take-append-le len (put_mid front (length buf - front) buf room) _ long ∙ whole ∙ ap (λ s. s ++ room) is
 
--- the lesser of two is one of them
+-- the smaller of two numbers is one of them
 pub one_of_min : (a b m : ℕ) → m ≡ min a b → (m ≡ a) ⊎ (m ≡ b)
 one_of_min a b m is = by_order (cases_lt a b)
   where
@@ -28,7 +28,7 @@ one_of_min a b m is = by_order (cases_lt a b)
     by_order (inl less) = inl (omega arith)
     by_order (inr more) = inr (omega arith)
 
--- the bytes ended before the room was full
+-- the bytes ended before the buffer was full
 pub ends_before : (old mid new : Option (List ℕ)) (room : List ℕ) (filled : ℕ) → filled < length room → Consumes old mid (take filled room) → Consumes mid new [] → IsAtEnd new
     → IfSome old (λ left. length left < length room)
 ends_before None mid new room filled few took more ended = tt
@@ -40,7 +40,7 @@ ends_before (Some left) (Some ys) (Some zs) room filled few took more ended =
     let len : length left ≡ filled = ap length rest ∙ length-take-le filled room (omega arith) in
     omega arith
 
--- the source failed before the room was full
+-- the source failed before the buffer was full
 pub HasRead-few : {A E : Type 0} (old mid new : Option (List ℕ)) (room : List ℕ) (filled size : ℕ) (r : Result A E) → filled ≤ length room → filled < size
     → Consumes old mid (take filled room) → Keeps mid new
     → OnErr r (HasRead old new (λ got. length got < size))
@@ -49,14 +49,14 @@ HasRead-few old mid new room filled size (Err e) within few took kept =
     let len = length-take-le filled room within in
     (take filled room, Consumes-kept old mid new (take filled room) took kept, omega (arith, len))
 
--- enough bytes follow the head, the body first
+-- enough bytes follow the head, beginning with the body
 enough : (body others : List ℕ) (size : ℕ) → length body ≡ size → Some body ≡ body_in size (body ++ others)
 enough body others size is =
     let fits : size ≤ length (body ++ others) = omega (arith, length-append body others) in
     let own : take size (body ++ others) ≡ body = ap (λ n. take n (body ++ others)) (sym is) ∙ take-append_seam body others in
     rw (le-leb size (length (body ++ others)) fits, own) refl
 
--- the bytes after the head are the body and others: the body is of those that were read with the head, as far as they go, and of those in the room
+-- the bytes after the head are the body followed by others; the body consists of the bytes read along with the head, as far as they belong to it, and of those in the buffer
 follows : (behind room left rest : List ℕ) (front size : ℕ) → front ≤ length behind → front + length room ≡ size → (front ≡ length behind) ⊎ (front ≡ size) → left ≡ room ++ rest
     → (others : List ℕ) × (behind ++ left ≡ (take front behind ++ room) ++ others)
 follows behind room left rest front size within is (inl all) e = (
@@ -70,7 +70,7 @@ follows behind room left rest front size within is (inr all) e = (
       ∙ ap (λ s. s ++ (drop front behind ++ left)) (sym (append-nil (take front behind)) ∙ ap (λ s. take front behind ++ s) (sym none)),
 )
 
--- the body was read whole
+-- the whole body was read
 pub body_in-whole : (old new : Option (List ℕ)) (behind room body : List ℕ) (front size : ℕ) → body ≡ take front behind ++ room → front ≤ length behind → front + length room ≡ size
     → (front ≡ length behind) ⊎ (front ≡ size) → Consumes old new room → IfSome old (λ left. Some body ≡ body_in size (behind ++ left))
 body_in-whole None new behind room body front size is within count all took = tt

@@ -1,4 +1,4 @@
--- The numbers that digits write.
+-- The numbers that digits denote.
 use Rattle.std.proofs.Common.{◌≡◌, ◌∙◌, ◌<◌, ◌≤◌, ◌+◌, ◌*◌, ◌-◌, ◌∷◌, ◌&&◌, zero, suc, ℕ, true, List, [], length, get_or, Result, refl, sym, ap, min, take, arith}
 use Rattle.std.specs.Prelude.{IsUtf8, slice_get, unwrap_or}
 use Rattle.std.specs.Char.{digit_value, is_ascii_digit}
@@ -20,7 +20,7 @@ all_digits : (ds : List ℕ) → list_all is_ascii_digit ds ≡ all_ascii_digits
 all_digits [] = refl
 all_digits (d ∷ ds) = ap (λ b. is_ascii_digit d && b) (all_digits ds)
 
--- up to five digits are read as the number that they write
+-- up to five digits are parsed as the number that they denote
 pub number_read : {E : Type 0} (text : List ℕ) (r : Result ℕ E) → (unwrap_or (slice_get text 0) 48 ≡ 48 → ⊥) → length text ≤ 5 → list_all is_ascii_digit text ≡ true
     → ParsesUnsigned 32 10 text r → result_ok r ≡ number_in text
 number_read [] r front few digits parses = absurd (front refl)
@@ -31,7 +31,7 @@ number_read (b ∷ bs) r front few digits parses =
     let is = parse_gives own 32 (b ∷ bs) r parses all (omega arith) (omega (arith, short)) in
     rw (is, ne_eqb b 48 front, le-leb (length (b ∷ bs)) 5 few, digits) refl
 
--- ---- digits are text
+-- ---- digits are valid text
 
 below : (d : ℕ) → is_ascii_digit d ≡ true → d < 128
 below d is = grind (arith, nat_tests)
@@ -44,18 +44,18 @@ digits-below (b ∷ bs) all (suc i) d there = digits-below bs (and_parts (is_asc
 pub digits-utf8 : (ds : List ℕ) → list_all is_ascii_digit ds ≡ true → IsUtf8 ds
 digits-utf8 ds all = IsUtf8-from_ascii ds (IsAscii-from_all ds (digits-below ds all))
 
--- ---- a number that may be great
+-- ---- a number that may be large
 
 is_digit : (d : ℕ) → is_ascii_digit d ≡ true → IsInRange 48 57 d
 is_digit d is = grind (arith, nat_tests)
 
--- a digit of a text of digits
+-- a digit in a text of digits
 pub digit_at : (ds : List ℕ) (i : ℕ) → i < length ds → list_all is_ascii_digit ds ≡ true → IsInRange 48 57 (get_or ds i 0)
 digit_at [] i there all = absurd (omega arith)
 digit_at (d ∷ ds) zero there all = is_digit d (and_parts (is_ascii_digit d) (list_all is_ascii_digit ds) all).0
 digit_at (d ∷ ds) (suc i) there all = digit_at ds i (omega arith) (and_parts (is_ascii_digit d) (list_all is_ascii_digit ds) all).1
 
--- the number that one digit more writes, up to the most
+-- the capped value after another digit
 pub value_more : (ds : List ℕ) (i value most digit : ℕ) → i < length ds → list_all is_ascii_digit ds ≡ true → digit ≡ get_or ds i 0 → value ≡ min (digits_value 10 (take i ds)) most
     → min (10 * value + (digit - 48)) most ≡ min (digits_value 10 (take (i + 1) ds)) most
 value_more ds i value most digit there all is so_far =

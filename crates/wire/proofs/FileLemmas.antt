@@ -1,4 +1,4 @@
--- The files of an order, read one after the other.
+-- The files of an order, read one by one.
 use Rattle.std.proofs.Common.{◌≡◌, ◌∙◌, List, Option, Some, None, [], ◌∷◌, ◌++◌, ap, append_assoc, refl, sym, ℕ}
 use Rattle.std.specs.Prelude.{option_and_then, option_map}
 use Rattle.std.proofs.lemmas.List.{append-nil}
@@ -6,7 +6,7 @@ use Rattle.serde_json.specs.Data.{Data, Members, member, no_members}
 use Rattle.serde_json.specs.Find.{as_str}
 use Rattle.wire.specs.ConsoleOrders.{ConsoleFileEntry, files_of}
 
--- of the members of an object these files were read, and the others are still to be read
+-- some of an object's members have been read, as the given files, and the others haven't been read yet
 abbrev pub AreReadOf : Members → List ConsoleFileEntry → Members → Type 0
 AreReadOf all files rest = files_of all ≡ option_map (λ more. files ++ more) (files_of rest)
 
@@ -23,16 +23,16 @@ with_more : (files : List ConsoleFileEntry) (file : ConsoleFileEntry) (o : Optio
 with_more files file None = refl
 with_more files file (Some more) = ap Some (sym (append_assoc files (file ∷ []) more))
 
--- one file more
+-- another file
 pub AreReadOf-more : (all : Members) (files : List ConsoleFileEntry) (name text : List ℕ) (value : Data) (rest : Members) → AreReadOf all files (member name value rest) → as_str value ≡ Some text
     → AreReadOf all (files ++ record { name = name; text = text } ∷ []) rest
 AreReadOf-more all files name text value rest reads is = reads ∙ rw is (with_more files (record { name = name; text = text }) (files_of rest))
 
--- a value that is no text
+-- a value that isn't a string
 pub AreReadOf-stop : (all : Members) (files : List ConsoleFileEntry) (name : List ℕ) (value : Data) (rest : Members) → AreReadOf all files (member name value rest)
     → as_str value ≡ None → files_of all ≡ None
 AreReadOf-stop all files name value rest reads is = reads ∙ rw is refl
 
--- all of them
+-- all members
 pub AreReadOf-all : (all : Members) (files : List ConsoleFileEntry) → AreReadOf all files no_members → files_of all ≡ Some files
 AreReadOf-all all files reads = reads ∙ ap Some (append-nil files)

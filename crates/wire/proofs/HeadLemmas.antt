@@ -1,4 +1,4 @@
--- What the rounds of the loop that reads a head add up to, and that there is one head.
+-- What all iterations of the loop that reads a head achieve together, and that there is only one head.
 use Rattle.std.proofs.Common.{◌≡◌, ◌∙◌, ◌≤◌, ◌+◌, ℕ, List, Option, Some, None, [], ◌∷◌, ◌++◌, length, take, drop, refl, sym, ap, arith, append_assoc}
 use Rattle.std.specs.Prelude.{IfSome}
 use Rattle.std.specs.Io.KnownBytes.{Consumes, IsAtEnd}
@@ -10,7 +10,7 @@ use Rattle.httparse.specs.Spans.{RequestOverflows}
 use Rattle.httparse.proofs.GrammarLemmas.{request_unique}
 use Rattle.wire.specs.Heads.{HasNoHead, HasOneHead}
 
--- ---- a round of the loop
+-- ---- an iteration of the loop
 
 front_more : (buf room : List ℕ) (filled n k : ℕ) → filled ≤ length buf → n ≤ length room
     → take (filled + n) (put_mid filled k buf room) ≡ take filled buf ++ take n room
@@ -19,7 +19,7 @@ front_more buf room filled n k fits few =
     let step = take-append-add (take filled buf) (room ++ post_of filled k buf) n in
     (rw len at step) ∙ ap (λ xs. take filled buf ++ xs) (take-append-le n room (post_of filled k buf) few)
 
--- bytes that were consumed, and those that were consumed next
+-- the bytes that were consumed first, followed by those consumed next
 pub Consumes-more : (old mid new : Option (List ℕ)) (buf room : List ℕ) (filled n k : ℕ) → filled ≤ length buf → n ≤ length room
     → Consumes old mid (take filled buf) → Consumes mid new (take n room) → Consumes old new (take (filled + n) (put_mid filled k buf room))
 Consumes-more None mid new buf room filled n k fits few a b = tt
@@ -30,11 +30,11 @@ Consumes-more (Some xs) (Some ys) (Some zs) buf room filled n k fits few a b =
 
 -- ---- no head
 
--- of a head, its bytes and those after it, in what was read and in what wasn't
+-- the bytes of a head and those after it, split into what was read and what wasn't
 parted : (xs got ys front behind : List ℕ) → xs ≡ got ++ ys → xs ≡ front ++ behind → got ++ ys ≡ front ++ behind
 parted xs got ys front behind a b = sym a ∙ b
 
--- whatever follows what was read, a head has too many headers
+-- the head has too many headers, whatever follows the bytes read so far
 pub no_head-overflows : (old new : Option (List ℕ)) (got : List ℕ) → Consumes old new got → RequestOverflows 32 got → IfSome old HasNoHead
 no_head-overflows None new got took over = tt
 no_head-overflows (Some xs) None got took over = absurd took
@@ -43,7 +43,7 @@ no_head-overflows (Some xs) (Some ys) got took over = λ head behind begins.
     let few = begins.few in
     absurd (omega arith)
 
--- the bytes of a head that are within what was read begin it
+-- if what was read is long enough, it begins with the bytes of the head
 pub within : (got ys front behind : List ℕ) → got ++ ys ≡ front ++ behind → length front ≤ length got → got ≡ front ++ drop (length front) got
 within got ys [] behind e le = refl
 within [] ys (x ∷ front) behind e le = absurd (omega arith)
@@ -53,7 +53,7 @@ within (y ∷ got) ys (x ∷ front) behind e le =
     let more = within got ys front behind rest (omega arith) in
     ap (λ b. b ∷ got) head ∙ ap (λ l. x ∷ l) more
 
--- the buffer is full, and what it holds begins with no head
+-- the buffer is full, and its contents don't begin with a head
 pub no_head-full : (old new : Option (List ℕ)) (got : List ℕ) → length got ≡ 8192 → Consumes old new got → HasNoRequest got → IfSome old HasNoHead
 no_head-full None new got full took none = tt
 no_head-full (Some xs) None got full took none = absurd took
@@ -61,7 +61,7 @@ no_head-full (Some xs) (Some ys) got full took none = λ head behind begins.
     let short = begins.short in
     none head _ (begins.is_head, within got ys (print_request head) behind (parted xs got ys _ behind took begins.parts) (omega arith))
 
--- the bytes have ended, and begin with no head
+-- the bytes have ended, and don't begin with a head
 pub no_head-ended : (old mid new : Option (List ℕ)) (got : List ℕ) → Consumes old mid got → Consumes mid new [] → IsAtEnd new → HasNoRequest got → IfSome old HasNoHead
 no_head-ended None mid new got took more ended none = tt
 no_head-ended (Some xs) None new got took more ended none = absurd took

@@ -1,4 +1,4 @@
--- The lemmas, by subject.
+-- The lemmas, by topic.
 pub mod HeadLemmas
 pub mod BodyLemmas
 pub mod TextLemmas
@@ -8,9 +8,11 @@ pub mod TargetLemmas
 pub mod RowLemmas
 pub mod PartLemmas
 pub mod OfficeTargetLemmas
+pub mod PublicTargetLemmas
 pub mod PathLemmas
 pub mod LengthLemmas
 pub mod RequestLemmas
+pub mod PublicRequestLemmas
 pub mod GateLemmas
 pub mod AuthenticationLemmas
 pub mod ParsedLemmas
@@ -20,4 +22,6 @@ pub mod ToldLemmas
 pub mod ResponseLemmas
 pub mod OutcomeLemmas
 pub mod AnswerLemmas
+pub mod PublicLemmas
+pub mod PublicLawLemmas
 pub mod ServingLemmas

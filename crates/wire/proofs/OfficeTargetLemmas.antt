@@ -1,4 +1,4 @@
--- A target of the console's reads names just what it is the path of.
+-- The target of a console read names exactly the read whose path it is.
 use Rattle.std.proofs.Common.{◌≡◌, ◌∙◌, ◌-◌, ◌==◌, ◌&&◌, ◌∷◌, ◌++◌, ℕ, Bool, true, false, List, [], Option, Some, None, ap, arith, codes, drop, length, not, refl, subst, sym, take}
 use Rattle.std.specs.Prelude.{bytes_eq, if◌then◌else◌, nat_eq, nat_le, option_map}
 use Rattle.std.specs.Char.{is_ascii_digit}
@@ -9,7 +9,7 @@ use Rattle.std.proofs.lemmas.Bool.Decides.{Decides-eqb}
 use Rattle.std.proofs.lemmas.List.{append-nil, length-drop, take-append-drop, take_all}
 use Rattle.std.proofs.lemmas.Slice.Eq.{bytes_eq-Decides, starts_is}
 use Rattle.wire.specs.Numbers.{is_number, most_digits, number_in}
-use Rattle.wire.specs.OfficeTargets.{IsReadTarget, actor_in, batch_read, behind_digits, leading_number, numbered_read, of_batch, of_ward, read_by, ward_read}
+use Rattle.wire.specs.OfficeTargets.{IsReadTarget, actor_in, batch_read, after_digits, leading_number, numbered_read, of_batch, of_ward, read_by, ward_read}
 use Rattle.wire.specs.Targets.{named_by}
 use Rattle.wire.specs.declared.office_read.OfficeRead.{OfficeRead}
 use Rattle.wire.specs.declared.office_read.OfficeRead.TheVariants.{Wards, Ward, Batches, Doubtful, Differences, Papers, Receipts}
@@ -19,7 +19,7 @@ use Rattle.wire.proofs.PartLemmas.{chosen-true}
 
 -- ---- a number, and what follows it
 
--- what writes a number are digits
+-- the text of a number consists of digits
 pub number-digits : (part : List ℕ) (n : ℕ) → number_in part ≡ Some n → list_all is_ascii_digit part ≡ true
 number-digits [] n is = refl
 number-digits (b ∷ bs) n is =
@@ -27,7 +27,7 @@ number-digits (b ∷ bs) n is =
     let all = and_parts (not (b == 48)) (nat_le (length (b ∷ bs)) most_digits && list_all is_ascii_digit (b ∷ bs)) test in
     (and_parts (nat_le (length (b ∷ bs)) most_digits) (list_all is_ascii_digit (b ∷ bs)) all.1).1
 
--- so many digits come before what begins with none
+-- the number of leading digits, if what follows them doesn't begin with a digit
 digits-first : (part rest : List ℕ) → list_all is_ascii_digit part ≡ true → prefix_len is_ascii_digit rest ≡ 0 → prefix_len is_ascii_digit (part ++ rest) ≡ length part
 digits-first [] rest digits none = none
 digits-first (d ∷ part) rest digits none =
@@ -36,10 +36,10 @@ digits-first (d ∷ part) rest digits none =
     rw both.0 (omega (arith, more))
 
 module _ (part rest : List ℕ) (n : ℕ) (own : number_in part ≡ Some n) (none : prefix_len is_ascii_digit rest ≡ 0) where
-  number-first : leading_number (part ++ rest) ≡ Some n
+  pub number-first : leading_number (part ++ rest) ≡ Some n
   number-first = ap (λ k. number_in (take k (part ++ rest))) (digits-first part rest (number-digits part n own) none) ∙ ap number_in (take-append_seam part rest) ∙ own
 
-  rest-behind : behind_digits (part ++ rest) ≡ rest
+  pub rest-behind : after_digits (part ++ rest) ≡ rest
   rest-behind = ap (λ k. drop k (part ++ rest)) (digits-first part rest (number-digits part n own) none) ∙ drop-append_seam part rest
 
   ward-numbered : ward_read (part ++ rest) ≡ of_ward rest n
@@ -48,9 +48,9 @@ module _ (part rest : List ℕ) (n : ℕ) (own : number_in part ≡ Some n) (non
   batch-numbered : batch_read (part ++ rest) ≡ of_batch rest n
   batch-numbered = rw (number-first, rest-behind) refl
 
--- ---- what is read, by the first word of the target that fits
+-- ---- what is read, by the first word of the target that matches
 
--- what follows n bytes
+-- what follows the first n bytes of a target
 tail-of : (n : ℕ) (target : List ℕ) → take (length target - n) (drop n target) ≡ drop n target
 tail-of n target = take_all (length target - n) (drop n target) (omega (arith, length-drop n target))
 
@@ -82,9 +82,9 @@ read-named target (Papers n) (part, is, own) = ap named_by is ∙ rw (batch-numb
 read-named target (Receipts None) is = ap named_by is
 read-named target (Receipts (Some actor)) (part, is, own) = ap named_by is ∙ rw own refl
 
--- ---- and nothing else does
+-- ---- and no other target does
 
--- what one test of a text found: it is this text, which names this
+-- what a successful comparison with a text shows: the target is this text, and names this read
 same-text : (text word target : List ℕ) (one read : OfficeRead) → (text ≡ word → IsReadTarget one target) → bytes_eq text word ≡ true → Some one ≡ Some read → IsReadTarget read target
 same-text text word target one read own same named =
     let is : one ≡ read = cc in
@@ -128,7 +128,7 @@ module _ (target part rest : List ℕ) (n : ℕ) (read : OfficeRead) (own : numb
       differences true same named = same-text rest (codes "/differences") target (Differences n) read (λ e. (part, at (codes "/differences") e, own)) same named
       differences false other named = papers (bytes_eq rest (codes "/papers")) refl named
 
--- after the part of a target that all of its kind have
+-- after the prefix that all targets of one kind share
 module _ (target behind : List ℕ) (read : OfficeRead) where
   abbrev digits : ℕ
   digits = prefix_len is_ascii_digit behind
@@ -162,8 +162,8 @@ module _ (target behind : List ℕ) (read : OfficeRead) where
       let same : Receipts (Some n) ≡ read = cc in
       subst (λ r. IsReadTarget r target) same (behind, is, found)
 
--- a target that begins with a word
-begun : (target word : List ℕ) → starts_with nat_eq target word ≡ true → target ≡ word ++ drop (length word) target
+-- a target that begins with a word is that word followed by the rest
+pub begun : (target word : List ℕ) → starts_with nat_eq target word ≡ true → target ≡ word ++ drop (length word) target
 begun target word begins = (starts_is Decides-eqb target word (starts_with nat_eq target word) refl).0 begins
 
 module _ (target : List ℕ) (read : OfficeRead) where

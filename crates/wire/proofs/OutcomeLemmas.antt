@@ -1,4 +1,4 @@
--- A keying has one outcome: it rests on the batch, the round and the texts that the command is given, and on nothing else of it.
+-- A keying has exactly one outcome, which depends only on the batch, the round and the texts in the command.
 use Rattle.std.proofs.Common.{◌≡◌, ◌∙◌, ℕ, List, Option, Some, None, ap, if◌then◌else◌, map, refl, string_bytes, sym}
 use Rattle.register.specs.Keyings.{objections, part_of, reply_to, subject_of}
 use Rattle.register.specs.Machine.{answered, decided, judged, outcome_at, refuses, step, step_of}
@@ -14,7 +14,7 @@ use Rattle.register.specs.declared.refusal.Reason.TheVariants.{BadId}
 use Rattle.wire.specs.Bodies.{KeyingEntry}
 use Rattle.wire.specs.Serving.{IsHandedOn, IsOutcome}
 
--- two commands of one batch, one round and the same texts
+-- two commands with the same batch, round and texts
 record IsSame (one other : KeyingCommand) : Type 0 where
   pub batch : one.batch ≡ other.batch
   pub round : one.round ≡ other.round
@@ -47,7 +47,7 @@ step-same s clerk id one other same =
     (answered-same clerk id (part_of s clerk one) one other same (receipt_at s clerk id)
     ∙ ap (answered clerk id (command.Keying other) (receipt_at s clerk id)) (part-same s clerk one other same))
 
--- the request that a keying is handed on as has its outcome
+-- the request that forwards a keying has the outcome of the keying
 pub IsOutcome-handed : (s : OfficeState) (clerk batch : ℕ) (entry : KeyingEntry) (request : Request) → IsHandedOn clerk batch entry request → IsOutcome s clerk batch entry (step_of s request)
 IsOutcome-handed s clerk batch entry request is = record {
   request = request;

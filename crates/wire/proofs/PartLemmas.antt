@@ -1,4 +1,4 @@
--- What the parameters of a route take of a path, and the path that a pattern fits.
+-- What the parameters of a route match in a path, and the form of a path that matches a pattern.
 use Rattle.std.proofs.Common.{◌≡◌, ◌∙◌, ◌-◌, ◌+◌, ◌<◌, ◌≤◌, ◌==◌, ◌&&◌, suc, ℕ, Bool, true, false, List, [], ◌∷◌}
 use Rattle.std.proofs.Common.{◌++◌, Some, None, append_assoc, drop, inl, inr, leb, length, ltb, not, refl, sym, ap, arith}
 use Rattle.std.specs.Prelude.{if◌then◌else◌, nat_le}
@@ -16,20 +16,20 @@ use Rattle.wire.proofs.RowLemmas.{BeginsByPart, Fits, HasNoSlash, segment-part}
 use Rattle.wire.specs.Numbers.{is_number, most_digits, number_in}
 use Rattle.wire.specs.Targets.{Taken}
 
--- ---- what a parameter takes
+-- ---- what a parameter matches
 
--- a place in a pattern and one in a path
+-- a position in a pattern, and a position in a path
 abbrev place_at : ℕ → ℕ → ℕ × ℕ
 place_at token at = (token, at)
 
 same-place : (a b c d : ℕ) → a ≡ c → b ≡ d → place_at a b ≡ place_at c d
 same-place a b c d one two = ap (λ x. place_at x b) one ∙ ap (λ y. place_at c y) two
 
--- a name and what it took, before others
+-- a name and its value, prepended to others
 abbrev pub with_taken : List ℕ → List ℕ → Taken → Taken
 with_taken name part others = (name, part) ∷ others
 
--- the bytes of a route before its parameter are passed over
+-- the bytes of a route before its parameter are skipped
 wild-word : (word t : List ℕ) (len token at : ℕ) → list_all (λ x. ltb x param_token) word ≡ true → at + length word ≤ len
     → wild_from (word ++ (param_token ∷ t)) len token at ≡ place_at (token + length word) (at + length word)
 wild-word [] t len token at bytes fits = same-place token at (token + 0) (at + 0) (omega arith) (omega arith)
@@ -49,7 +49,7 @@ part-between path before part rest is =
     let there : drop (length before) path ≡ part ++ rest = ap (drop (length before)) is ∙ drop-append_seam before (part ++ rest) in
     rw (low, high, count, there) (take-append_seam part rest)
 
--- a parameter after some bytes is the text up to the next slash
+-- a parameter after literal bytes matches the text up to the next slash
 pub walk-part : (pattern text path : List ℕ) (name : ℕ × ℕ) (names : List (ℕ × ℕ)) (word t before part rest : List ℕ) (token at : ℕ) → at ≡ length before
     → drop token pattern ≡ word ++ (param_token ∷ t) → list_all (λ x. ltb x param_token) word ≡ true → path ≡ before ++ (word ++ (part ++ (47 ∷ rest))) → HasNoSlash part
     → ((from : ℕ) → wild_stop pattern (token + length word) path from ≡ from + length (segment (drop from path)) - 1)
@@ -71,7 +71,7 @@ walk-part pattern text path name names word t before part rest token at place_is
     ∙ ap (λ p. with_taken (part_of text name.0 name.1) p (walk pattern text path names (after_token (token + length word)) (from + length part)))
     (part-between path (before ++ word) part (47 ∷ rest) parts)
 
--- what a route with one parameter took
+-- the value that the only parameter of a route has
 pub one-taken : (word rest text path part : List ℕ) (name : ℕ × ℕ) → list_all (λ x. ltb x param_token) word ≡ true → path ≡ word ++ (part ++ (47 ∷ rest)) → HasNoSlash part
     → ((from : ℕ) → wild_stop (word ++ (param_token ∷ (47 ∷ rest))) (length word) path from ≡ from + length (segment (drop from path)) - 1)
     → walk (word ++ (param_token ∷ (47 ∷ rest))) text path (name ∷ []) 0 0 ≡ with_taken (part_of text name.0 name.1) part []
@@ -80,7 +80,7 @@ one-taken word rest text path part name bytes is whole stops =
     walk-part (word ++ (param_token ∷ (47 ∷ rest))) text path name [] word (47 ∷ rest) [] part rest 0 0 refl refl bytes is whole
     (λ from. ap (λ n. wild_stop (word ++ (param_token ∷ (47 ∷ rest))) n path from) none ∙ stops from)
 
--- ---- numbers have no slash
+-- ---- numbers contain no slash
 
 digit-part : (part : List ℕ) → list_all is_ascii_digit part ≡ true → HasNoSlash part × (list_all is_ascii part ≡ true)
 digit-part [] digits = (tt, refl)
@@ -92,7 +92,7 @@ digit-part (d ∷ ds) digits =
     let later = digit-part ds parts.1 in
     ((not_slash, later.0), rw low later.1)
 
--- a part of a path that writes a number
+-- a part of a path that denotes a number
 pub record IsNumeric (part : List ℕ) : Type 0 where
   pub some : 0 < length part
   pub whole : HasNoSlash part
@@ -120,9 +120,9 @@ numeric (b ∷ bs) n is =
     let parts = digit-part (b ∷ bs) digits in
     record { some = omega arith; whole = parts.0; low = parts.1; below = first-low (b ∷ bs) parts.1 }
 
--- ---- the path that a pattern fits
+-- ---- the form of a path that matches a pattern
 
--- what follows the bytes of a pattern
+-- what follows the literal bytes of a pattern
 behind-word : (word t path : List ℕ) → list_all (λ x. ltb x param_token) word ≡ true → Fits (word ++ t) path → (rest : List ℕ) × (path ≡ word ++ rest) × Fits t rest
 behind-word [] t path bytes fits = (path, refl, fits)
 behind-word (x ∷ word) t path bytes (inl begins) =
@@ -138,13 +138,13 @@ behind-word (x ∷ word) t path bytes (inr (inr catch)) =
     let few : x < 256 = ltb-true x 256 parts.0 in
     absurd (omega arith)
 
--- what a parameter of a pattern took; (no byte of a path is a token, but a parameter may take what would be one)
+-- what a parameter of a pattern matches; no byte of a path is a token, but a parameter may match a byte that would be one
 behind-param : (t path : List ℕ) → Fits (param_token ∷ t) path → BeginsByPart path (Fits t)
 behind-param t path (inl begins) = record { part = param_token ∷ []; rest = begins.rest; whole = (refl, tt); is = begins.is; goes_on = begins.goes_on }
 behind-param t path (inr (inl (param, begins))) = begins
 behind-param t path (inr (inr catch)) = absurd (omega arith)
 
--- and what follows all of a pattern
+-- what follows the whole pattern
 behind-all : (word path : List ℕ) → list_all (λ x. ltb x param_token) word ≡ true → Fits word path → path ≡ word
 behind-all [] path bytes fits = fits
 behind-all (x ∷ word) path bytes (inl begins) =
@@ -173,7 +173,7 @@ one-part word end path bytes ends fits =
     let last = behind-all end param.rest ends param.goes_on in
     record { part = param.part; whole = param.whole; is = first_word.1 ∙ ap (λ r. word ++ r) (param.is ∙ ap (λ e. param.part ++ e) last) }
 
--- a path with two
+-- a path with two parameters
 pub record HasTwoParts (word middle end path : List ℕ) : Type 0 where
   pub one : List ℕ
   pub two : List ℕ

@@ -1,4 +1,4 @@
--- A target names just what it is the path of.
+-- A target names something if and only if the target is its path.
 use Rattle.std.proofs.Common.{◌≡◌, ◌∙◌, ◌-◌, ◌+◌, ℕ, Bool, true, false, List, [], ◌∷◌, ◌++◌, Option, Some, None, append_assoc, codes, drop, length, ltb, refl, subst, sym, ap, arith}
 use Rattle.std.specs.Prelude.{IfSome, bytes_eq, if◌then◌else◌, option_and_then, option_map}
 use Rattle.std.specs.Char.{is_ascii}
@@ -13,23 +13,26 @@ use Rattle.matchit.specs.Rows.{RowsOf, param_token}
 use Rattle.matchit.specs.Seek.{first, segment, step}
 use Rattle.matchit.specs.Route.{scan}
 use Rattle.wire.proofs.OfficeTargetLemmas.{read-named, read-own}
+use Rattle.wire.proofs.PublicTargetLemmas.{declaration-routed, public-named, public-own, sheet-routed}
 use Rattle.wire.proofs.RowLemmas.{Fits, Gives, GoBySlash, HasNoSlash, seek-end, seek-gives, seek-part, seek-word, steps}
 use Rattle.wire.specs.Numbers.{number_in}
 use Rattle.wire.specs.OfficeTargets.{read_by}
-use Rattle.wire.specs.Targets.{IsTargetOf, NamesItsOwn, named_at, named_by, named_in, office_by, office_path, office_routes, read_or_routed, routed_by}
+use Rattle.wire.specs.PublicTargets.{public_by}
+use Rattle.wire.specs.Targets.{IsTargetOf, NamesOnlyItsPath, named_at, named_by, named_in, office_by, office_path, office_routes, public_or_routed, read_or_other, routed_by}
 use Rattle.wire.specs.declared.office_read.OfficeRead.{OfficeRead}
+use Rattle.wire.specs.declared.public_target.PublicTarget.{PublicTarget}
 use Rattle.wire.specs.declared.target.OfficeTarget.{OfficeTarget}
 use Rattle.wire.specs.declared.target.OfficeTarget.TheVariants as office
 use Rattle.wire.specs.declared.target.RouteTarget.{RouteTarget}
 use Rattle.wire.specs.declared.target.RouteTarget.TheVariants as place
-use Rattle.wire.specs.declared.target.Resource.TheVariants.{Candidates, Declaration, Office as Reads, Sheet, Work}
+use Rattle.wire.specs.declared.target.Resource.TheVariants.{Candidates, Declaration, Keyed, Office as Reads, Sheet, Work}
 use Rattle.wire.specs.declared.target.Target.{Target}
-use Rattle.wire.specs.declared.target.Target.TheVariants.{Keying, Leave, Office, Page, Resource}
+use Rattle.wire.specs.declared.target.Target.TheVariants.{Keying, Leave, Office, Page, Public, Resource}
 use Rattle.wire.proofs.PartLemmas.{IsNumeric, numeric, one-part, one-taken, two-parts, walk-part, with_taken}
 
 -- ---- a target of one of the routes names something
 
--- a route with one parameter leads to a place, and names this by the number that the parameter writes
+-- a route with one parameter leads to a place, and names it by the number in the parameter
 pub record OneRoute : Type 0 where
   pub word : List ℕ
   pub rest : List ℕ
@@ -38,14 +41,14 @@ pub record OneRoute : Type 0 where
   pub to : RouteTarget
   pub kind : ℕ → Target
 
--- its path for a part
+-- the path of a route, given the text of its parameter
 abbrev path_of : OneRoute → List ℕ → List ℕ
 path_of r part = r.word ++ (part ++ (47 ∷ r.rest))
 
 abbrev route_of_one : OneRoute → RouteOf RouteTarget
 route_of_one r = record { pattern = r.word ++ (param_token ∷ (47 ∷ r.rest)); text = r.text; names = r.name ∷ []; value = r.to }
 
--- what is computed of such a route
+-- what is computed for such a route
 pub record IsOneRoute (r : OneRoute) : Type 0 where
   pub word_bytes : list_all (λ x. ltb x param_token) r.word ≡ true
   pub rest_bytes : list_all (λ x. ltb x param_token) (47 ∷ r.rest) ≡ true
@@ -55,7 +58,7 @@ pub record IsOneRoute (r : OneRoute) : Type 0 where
   pub names : (part : List ℕ) → named_at r.to (with_taken (part_of r.text r.name.0 r.name.1) part []) ≡ option_map r.kind (number_in part)
   pub own : (target part : List ℕ) (n : ℕ) → target ≡ path_of r part → number_in part ≡ Some n → IsTargetOf (r.kind n) target
 
--- what a route names of a target is something whose path the target is
+-- whatever a route names for a target has that target as its path
 abbrev NamesOwn : List ℕ → RouteOf RouteTarget → Type 0
 NamesOwn target route = (there : Target) → named_at route.value (walk route.pattern route.text target route.names 0 0) ≡ Some there → IsTargetOf there target
 
@@ -125,9 +128,9 @@ is-declaration : IsOneRoute declaration
 unfolding declaration
 is-declaration = record { word_bytes = refl; rest_bytes = refl; word_low = refl; rest_low = refl; stops = λ path from. refl; names = λ part. refl; own = λ target part n is own. (part, is, own) }
 
--- ---- the routes of a keying and of candidates, with two parameters
+-- ---- the routes with two parameters: a keying, the candidates, and an earlier keying
 
--- a route with two parameters: what follows the slash at its end, its text, where it leads, and what it names by two numbers
+-- a route with two parameters: what follows its final slash, its text, where it leads, and what it names given two numbers
 pub record TwoRoute : Type 0 where
   pub end : List ℕ
   pub text : List ℕ
@@ -147,7 +150,7 @@ route_of_two r = record { pattern = pattern_of r; text = r.text; names = (9, 10)
 abbrev pub kind_by : TwoRoute → Option ℕ → Option ℕ → Option Target
 kind_by r clerk batch = option_and_then (λ c. option_map (λ b. r.kind c b) batch) clerk
 
--- what is computed of such a route
+-- what is computed for such a route
 pub record IsTwoRoute (r : TwoRoute) : Type 0 where
   pub end_bytes : list_all (λ x. ltb x param_token) (47 ∷ r.end) ≡ true
   pub end_low : list_all is_ascii (47 ∷ r.end) ≡ true
@@ -187,6 +190,9 @@ keyings = record { end = codes "keying"; text = codes "/clerks/{c}/batches/{b}/k
 candidates : TwoRoute
 candidates = record { end = codes "candidates"; text = codes "/clerks/{c}/batches/{b}/candidates"; to = place.Candidates; kind = λ c b. Resource (Candidates c b) }
 
+keyed : TwoRoute
+keyed = record { end = codes "keyed"; text = codes "/clerks/{c}/batches/{b}/keyed"; to = place.Keyed; kind = λ c b. Resource (Keyed c b) }
+
 is-keyings : IsTwoRoute keyings
 unfolding keyings
 is-keyings = record {
@@ -213,6 +219,19 @@ is-candidates = record {
   own = λ target c b clerk batch at own other. (c, b, at, own, other);
 }
 
+is-keyed : IsTwoRoute keyed
+unfolding keyed
+is-keyed = record {
+  end_bytes = refl;
+  end_low = refl;
+  clerk = refl;
+  batch = refl;
+  stops_one = λ path from. refl;
+  stops_two = λ path from. refl;
+  names = λ c b. refl;
+  own = λ target c b clerk batch at own other. (c, b, at, own, other);
+}
+
 two-named : (r : TwoRoute) → IsTwoRoute r → (c b : List ℕ) (clerk batch : ℕ) → number_in c ≡ Some clerk → number_in b ≡ Some batch
     → first office_routes (two_path r c b) ≡ Some (route_of_two r) → routed_by (two_path r c b) ≡ Some (r.kind clerk batch)
 two-named r is c b clerk batch own other found =
@@ -223,7 +242,7 @@ two-named r is c b clerk batch own other found =
     ∙ ap (named_at r.to) (two-taken r is (two_path r c b) c b refl is_c.whole is_b.whole)
     ∙ is.names c b ∙ ap (λ n. kind_by r n (number_in b)) own ∙ ap (kind_by r (Some clerk)) other
 
--- ---- what the routes find
+-- ---- what the routes match
 
 clerk_rows : RowsOf (RouteOf RouteTarget)
 clerk_rows = steps (codes "/clerks/") office_routes
@@ -299,17 +318,29 @@ candidates-found c b is_c is_b =
     (seek-part batch_rows b (codes "candidates") (route_of_two candidates) batches-go is_b.some is_b.whole is_b.below
     (seek-word (codes "/candidates") (step param_token batch_rows) [] (route_of_two candidates) (seek-end _ _ refl)))))
 
--- ---- both ways
+keyed-found : (c b : List ℕ) → IsNumeric c → IsNumeric b → first office_routes (two_path keyed c b) ≡ Some (route_of_two keyed)
+unfolding keyed batch_rows clerk_rows scan
+keyed-found c b is_c is_b =
+    seek-word (codes "/clerks/") office_routes (c ++ (codes "/batches/" ++ (b ++ codes "/keyed"))) (route_of_two keyed)
+    (seek-part clerk_rows c (codes "batches/" ++ (b ++ codes "/keyed")) (route_of_two keyed) clerks-go is_c.some is_c.whole is_c.below
+    (seek-word (codes "/batches/") (step param_token clerk_rows) (b ++ codes "/keyed") (route_of_two keyed)
+    (seek-part batch_rows b (codes "keyed") (route_of_two keyed) batches-go is_b.some is_b.whole is_b.below
+    (seek-word (codes "/keyed") (step param_token batch_rows) [] (route_of_two keyed) (seek-end _ _ refl)))))
+
+-- ---- both directions
 
 routes-own : (target : List ℕ) → Gives (NamesOwn target) office_routes target
-unfolding keyings candidates work page leaving sheet declaration scan
+unfolding keyings candidates keyed work page leaving sheet declaration scan
 routes-own target = (
   two-own candidates is-candidates target,
   (
-    two-own keyings is-keyings target,
+    two-own keyed is-keyed target,
     (
-      one-own leaving is-leaving target,
-      (one-own work is-work target, (one-own page is-page target, (one-own declaration is-declaration target, (one-own sheet is-sheet target, tt)))),
+      two-own keyings is-keyings target,
+      (
+        one-own leaving is-leaving target,
+        (one-own work is-work target, (one-own page is-page target, (one-own declaration is-declaration target, (one-own sheet is-sheet target, tt)))),
+      ),
     ),
   ),
 )
@@ -351,13 +382,19 @@ office-own target what named = console (bytes_eq target (office_path office.Cons
         (bytes_eq-Decides target (office_path office.ConsolePage)).0 same ∙ ap office_path one
     console false other named = leave (bytes_eq target (office_path office.Leave)) refl named
 
--- ---- both
+-- ---- all of them
 
 named-own : (target : List ℕ) (there : Target) → named_by target ≡ Some there → IsTargetOf there target
 named-own target there named = by (office_by target) refl named
   where
-    read : (found : Option OfficeRead) → read_by target ≡ found → read_or_routed found target ≡ Some there → IsTargetOf there target
-    read None found named = routed-own target there named
+    shown : (found : Option PublicTarget) → public_by target ≡ found → public_or_routed found target ≡ Some there → IsTargetOf there target
+    shown None found named = routed-own target there named
+    shown (Some what) found named =
+        let same : Public what ≡ there = cc in
+        subst (λ t. IsTargetOf t target) same (public-own target what found)
+
+    read : (found : Option OfficeRead) → read_by target ≡ found → read_or_other found target ≡ Some there → IsTargetOf there target
+    read None found named = shown (public_by target) refl named
     read (Some its) found named =
         let same : Resource (Reads its) ≡ there = cc in
         subst (λ t. IsTargetOf t target) same (read-own target its found)
@@ -369,20 +406,25 @@ named-own target there named = by (office_by target) refl named
         subst (λ t. IsTargetOf t target) same (office-own target what found)
 
 own-named : (target : List ℕ) (there : Target) → IsTargetOf there target → named_by target ≡ Some there
-unfolding work page leaving sheet declaration keyings candidates
+unfolding work page leaving sheet declaration keyings candidates keyed
 own-named target (Page n) (part, is, own) = ap named_by is ∙ one-named page is-page part n own (page-found part (numeric part n own))
 own-named target (Leave n) (part, is, own) = ap named_by is ∙ one-named leaving is-leaving part n own (leaving-found part (numeric part n own))
 own-named target (Resource (Work n)) (part, is, own) = ap named_by is ∙ one-named work is-work part n own (work-found part (numeric part n own))
-own-named target (Resource (Sheet n)) (part, is, own) = ap named_by is ∙ one-named sheet is-sheet part n own (sheet-found part (numeric part n own))
-own-named target (Resource (Declaration n)) (part, is, own) = ap named_by is ∙ one-named declaration is-declaration part n own (declaration-found part (numeric part n own))
+own-named target (Resource (Sheet n)) (part, is, own) =
+    ap named_by is ∙ sheet-routed part n own ∙ one-named sheet is-sheet part n own (sheet-found part (numeric part n own))
+own-named target (Resource (Declaration n)) (part, is, own) =
+    ap named_by is ∙ declaration-routed part n own ∙ one-named declaration is-declaration part n own (declaration-found part (numeric part n own))
 own-named target (Resource (Candidates clerk batch)) (c, b, is, own, other) =
     ap named_by is ∙ two-named candidates is-candidates c b clerk batch own other (candidates-found c b (numeric c clerk own) (numeric b batch other))
+own-named target (Resource (Keyed clerk batch)) (c, b, is, own, other) =
+    ap named_by is ∙ two-named keyed is-keyed c b clerk batch own other (keyed-found c b (numeric c clerk own) (numeric b batch other))
 own-named target (Keying clerk batch) (c, b, is, own, other) =
     ap named_by is ∙ two-named keyings is-keyings c b clerk batch own other (keyings-found c b (numeric c clerk own) (numeric b batch other))
 own-named target (Resource (Reads read)) is = read-named target read is
+own-named target (Public what) is = public-named target what is
 own-named target (Office office.ConsolePage) is = ap named_by is
 own-named target (Office office.Leave) is = ap named_by is
 own-named target (Office office.Orders) is = ap named_by is
 
-pub NamesItsOwn-all : (target : List ℕ) → NamesItsOwn target
-NamesItsOwn-all target there = (named-own target there, own-named target there)
+pub NamesOnlyItsPath-all : (target : List ℕ) → NamesOnlyItsPath target
+NamesOnlyItsPath-all target there = (named-own target there, own-named target there)

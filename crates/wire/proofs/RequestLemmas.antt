@@ -1,4 +1,4 @@
--- What a request asks, from what was read of it.
+-- What a request asks for, as the bytes read from it show.
 use Rattle.std.proofs.Common.{◌≡◌, ◌∙◌, ◌≤◌, ◌-◌, subst, List, ◌++◌, Option, Some, None, Result, Ok, Err, drop, inl, inr, length, map, refl, sym, ap, take, arith, append_assoc, ℕ}
 use Rattle.std.specs.Prelude.{IfErr, IfOk, IfSome}
 use Rattle.std.specs.Io.KnownBytes.{Consumes}
@@ -9,8 +9,8 @@ use Rattle.httparse.specs.Spans.{IsRequestAt, IsRequestOf, header_bytes, name_an
 use Rattle.httparse.specs.declared.spans.HeaderSpan.{HeaderSpan}
 use Rattle.httparse.specs.declared.spans.RequestSpans.{RequestSpans}
 use Rattle.wire.proofs.HeadLemmas.{HasOneHead-all}
-use Rattle.wire.specs.Requests.{HttpRequestEntry, Asks, AsksOneThing, DeniesForeign, FailsAfter, IsWanting, MissesAt, MissesBehind, MissesBytes}
-use Rattle.wire.specs.Requests.{MissesFound, TakesOwn, asked_at, asked_by, http_request_entry, asked_of, denied, wanted, wanted_by}
+use Rattle.wire.specs.Requests.{HttpRequestEntry, Asks, AsksOneThing, DeniesForeign, FailsAfter, IsIncomplete, MissesAt, MissesBehind, MissesBytes}
+use Rattle.wire.specs.Requests.{MissesFound, DependsOnOwnBytes, asked_at, asked_by, http_request_entry, asked_of, denied, wanted, wanted_by}
 use Rattle.wire.specs.Gates.{HttpSettingsEntry}
 use Rattle.wire.specs.Heads.{BeginsWith, HasNoHead}
 use Rattle.wire.specs.Lengths.{NamedValue, body_length}
@@ -23,7 +23,7 @@ use Rattle.wire.specs.declared.target.Target.{Target}
 use Rattle.wire.specs.declared.read_failure.ReadFailure.{ReadFailure}
 use Rattle.wire.specs.declared.read_failure.ReadFailure.TheVariants.{Broken, Memory}
 
--- ---- one thing is asked
+-- ---- only one thing is requested
 
 pub AsksOneThing-all : (settings : HttpSettingsEntry) (bytes : List ℕ) → AsksOneThing settings bytes
 AsksOneThing-all settings bytes one two (inl (none, is)) (inl (none_too, is_too)) = is ∙ sym is_too
@@ -33,17 +33,19 @@ AsksOneThing-all settings bytes one two (inr (head, behind, begins, is)) (inr (o
     let (same_head, same_rest) = HasOneHead-all bytes head other behind others begins begins_too in
     is ∙ ap (λ h. asked_by settings h behind) same_head ∙ ap (asked_by settings other) same_rest ∙ sym is_too
 
--- ---- a page from elsewhere
+-- ---- a page from another site
 
 pub DeniesForeign-all : (settings : HttpSettingsEntry) (bytes : List ℕ) → DeniesForeign settings bytes
 DeniesForeign-all settings bytes head behind begins foreign asked asks =
     AsksOneThing-all settings bytes asked (asked_by settings head behind) asks (inr (head, behind, begins, refl))
-    ∙ ap (λ b. asked_of settings.gate (wanted_by b settings.gate (map name_and_value head.fields) head.method head.target) (body_length (map name_and_value head.fields)) behind) foreign
+    ∙ ap (λ b. asked_of settings.gate settings.public (wanted_by b settings.gate settings.public (map name_and_value head.fields) head.method head.target)
+    (body_length (map name_and_value head.fields)) behind) foreign
 
-pub TakesOwn-all : (settings : HttpSettingsEntry) (bytes : List ℕ) → TakesOwn settings bytes
-TakesOwn-all settings bytes head behind begins own asked asks =
+pub DependsOnOwnBytes-all : (settings : HttpSettingsEntry) (bytes : List ℕ) → DependsOnOwnBytes settings bytes
+DependsOnOwnBytes-all settings bytes head behind begins own asked asks =
     AsksOneThing-all settings bytes asked (asked_by settings head behind) asks (inr (head, behind, begins, refl))
-    ∙ ap (λ b. asked_of settings.gate (wanted_by b settings.gate (map name_and_value head.fields) head.method head.target) (body_length (map name_and_value head.fields)) behind) own
+    ∙ ap (λ b. asked_of settings.gate settings.public (wanted_by b settings.gate settings.public (map name_and_value head.fields) head.method head.target)
+    (body_length (map name_and_value head.fields)) behind) own
 
 -- ---- from what was read
 
@@ -52,7 +54,7 @@ pub Asks-none : (settings : HttpSettingsEntry) (old : Option (List ℕ)) → IfS
 Asks-none settings None none = tt
 Asks-none settings (Some bytes) none = inl (none, refl)
 
--- a head, what was read after it, and what is left
+-- a head, what was read after it, and what is left unread
 pub begins : (bytes got left : List ℕ) (headers : List HeaderSpan) (spans : RequestSpans) (head : RequestHead) → IsRequestAt got headers spans head → length got ≤ 8192 → length headers ≡ 32
     → bytes ≡ got ++ left → BeginsWith bytes head (drop spans.len got ++ left)
 begins bytes got left headers spans head is fits places e = record {
@@ -62,7 +64,7 @@ begins bytes got left headers spans head is fits places e = record {
   few = omega (arith, sym (length-map (take spans.headers headers) (header_bytes got)) ∙ ap length is.fields ∙ length-map head.fields name_and_value, length-take spans.headers headers);
 }
 
--- what a head asks, with what is left after it
+-- what a head asks for, given what is left after it
 Asks-entry : (settings : HttpSettingsEntry) (old mid : Option (List ℕ)) (got : List ℕ) (headers : List HeaderSpan) (spans : RequestSpans) → IsRequestOf got headers spans → (asked : HttpRequestEntry)
     → length got ≤ 8192 → length headers ≡ 32 → Consumes old mid got → IfSome mid (λ left. asked ≡ asked_at settings got headers spans left) → IfSome old (λ bytes. Asks settings bytes asked)
 Asks-entry settings None mid got headers spans found asked fits places took is = tt
@@ -74,9 +76,9 @@ Asks-entry settings (Some bytes) (Some left) got headers spans (head, there) ask
       head,
       behind,
       begins bytes got left headers spans head there fits places took,
-      is ∙ ap (λ m. asked_of settings.gate (wanted settings fields m (span_bytes got spans.path)) (body_length fields) behind) there.method
-          ∙ ap (λ p. asked_of settings.gate (wanted settings fields head.method p) (body_length fields) behind) there.path
-          ∙ ap (λ (f : List NamedValue). asked_of settings.gate (wanted settings f head.method head.target) (body_length f) behind) there.fields,
+      is ∙ ap (λ m. asked_of settings.gate settings.public (wanted settings fields m (span_bytes got spans.path)) (body_length fields) behind) there.method
+          ∙ ap (λ p. asked_of settings.gate settings.public (wanted settings fields head.method p) (body_length fields) behind) there.path
+          ∙ ap (λ (f : List NamedValue). asked_of settings.gate settings.public (wanted settings f head.method head.target) (body_length f) behind) there.fields,
     )
 
 pub Asks-head : {E : Type 0} (settings : HttpSettingsEntry) (old mid : Option (List ℕ)) (got : List ℕ) (headers : List HeaderSpan) (spans : RequestSpans)
@@ -87,10 +89,10 @@ Asks-head settings None mid got headers spans found r fits places took is = tt
 Asks-head settings (Some bytes) mid got headers spans found (Err e) fits places took is = tt
 Asks-head settings (Some bytes) mid got headers spans found (Ok asked) fits places took is = Asks-entry settings (Some bytes) mid got headers spans found (http_request_entry asked) fits places took is
 
--- ---- what doesn't say yet what is asked
+-- ---- bytes that don't yet determine what is requested
 
 module _ (settings : HttpSettingsEntry) (got : List ℕ) (headers : List HeaderSpan) (spans : RequestSpans) where
-  -- a head lacks what was found of it lacks
+  -- a head lacks bytes if the spans that were found for it do
   MissesBehind-of : (head : RequestHead) → IsRequestAt got headers spans head → (behind : List ℕ) → MissesFound settings got headers spans behind → MissesBehind settings head behind
   MissesBehind-of head there behind completeness_of =
       let fields = map (header_bytes got) (take spans.headers headers) in
@@ -98,23 +100,23 @@ module _ (settings : HttpSettingsEntry) (got : List ℕ) (headers : List HeaderS
       (subst (λ p. MissesBytes (wanted settings fields head.method p) (body_length fields) behind) there.path
       (subst (λ m. MissesBytes (wanted settings fields m (span_bytes got spans.path)) (body_length fields) behind) there.method completeness_of))
 
-  -- bytes that begin with what was read don't say what is asked, where what was found in that lacks more
-  pub IsWanting-found : (bytes left : List ℕ) → IsRequestOf got headers spans → length got ≤ 8192 → length headers ≡ 32 → bytes ≡ got ++ left
-      → MissesFound settings got headers spans (drop spans.len got ++ left) → IsWanting settings bytes
-  IsWanting-found bytes left (head, there) fits places e completeness_of =
+  -- bytes that begin with what was read don't determine what is requested if the head found in them needs more bytes
+  pub IsIncomplete-found : (bytes left : List ℕ) → IsRequestOf got headers spans → length got ≤ 8192 → length headers ≡ 32 → bytes ≡ got ++ left
+      → MissesFound settings got headers spans (drop spans.len got ++ left) → IsIncomplete settings bytes
+  IsIncomplete-found bytes left (head, there) fits places e completeness_of =
       let behind = drop spans.len got ++ left in
       inr (head, behind, begins bytes got left headers spans head there fits places e, MissesBehind-of head there behind completeness_of)
 
--- there is a whole head, and what it asks for isn't all there
+-- the head is complete, but what it asks for isn't
 pub FailsAfter-behind : (settings : HttpSettingsEntry) (old mid new : Option (List ℕ)) (got : List ℕ) (headers : List HeaderSpan) (spans : RequestSpans)
     → IsRequestOf got headers spans → (r : Result HttpRequest ReadFailure)
-    → length got ≤ 8192 → length headers ≡ 32 → Consumes old mid got → IfErr r (FailsAfter mid new (MissesAt settings got headers spans)) → IfErr r (FailsAfter old new (IsWanting settings))
+    → length got ≤ 8192 → length headers ≡ 32 → Consumes old mid got → IfErr r (FailsAfter mid new (MissesAt settings got headers spans)) → IfErr r (FailsAfter old new (IsIncomplete settings))
 FailsAfter-behind settings old mid new got headers spans found (Ok asked) fits places took after = tt
 FailsAfter-behind settings old mid new got headers spans found (Err Memory) fits places took after = tt
 FailsAfter-behind settings old mid new got headers spans found (Err Broken) fits places took (more, then, completeness_of) =
-    (got ++ more, Consumes-trans old mid new got more took then, IsWanting-found settings got headers spans (got ++ more) more found fits places refl completeness_of)
+    (got ++ more, Consumes-trans old mid new got more took then, IsIncomplete-found settings got headers spans (got ++ more) more found fits places refl completeness_of)
 
--- ---- by what its head says that was parsed
+-- ---- what the parsed head shows
 
 -- what follows a head, as a part of what was read
 pub rest_of : (n : ℕ) (got : List ℕ) → take (length got - n) (drop n got) ≡ drop n got
@@ -126,19 +128,22 @@ module _ (settings : HttpSettingsEntry) (got : List ℕ) (headers : List HeaderS
   SaysFound = Says settings (map (header_bytes got) (take spans.headers headers)) (span_bytes got spans.method) (span_bytes got spans.path) spans.len head
 
   pub Asks-said : {E : Type 0} (old mid : Option (List ℕ)) → IsRequestOf got headers spans → SaysFound → (r : Result HttpRequest E) → length got ≤ 8192 → length headers ≡ 32 → Consumes old mid got
-      → (behind : List ℕ) → behind ≡ drop spans.len got → IfSome mid (λ left. IfOk r (λ asked. http_request_entry asked ≡ asked_of settings.gate head.wanted head.body (behind ++ left)))
+      → (behind : List ℕ) → behind ≡ drop spans.len got → IfSome mid
+      (λ left. IfOk r (λ asked. http_request_entry asked ≡ asked_of settings.gate settings.public head.wanted head.body (behind ++ left)))
       → IfSome old (λ bytes. IfOk r (λ asked. Asks settings bytes (http_request_entry asked)))
   Asks-said old mid found says r fits places took behind there is =
       let fields = map (header_bytes got) (take spans.headers headers) in
       let target = wanted settings fields (span_bytes got spans.method) (span_bytes got spans.path) in
       Asks-head settings old mid got headers spans found r fits places took
-      (subst (λ b. IfSome mid (λ left. IfOk r (λ asked. http_request_entry asked ≡ asked_of settings.gate target b (drop spans.len got ++ left)))) says.body
-      (subst (λ (t : Result Target RequestError). IfSome mid (λ left. IfOk r (λ asked. http_request_entry asked ≡ asked_of settings.gate t head.body (drop spans.len got ++ left)))) says.wanted
-      (subst (λ (xs : List ℕ). IfSome mid (λ left. IfOk r (λ asked. http_request_entry asked ≡ asked_of settings.gate head.wanted head.body (xs ++ left)))) there is)))
+      (subst (λ b. IfSome mid (λ left. IfOk r (λ asked. http_request_entry asked ≡ asked_of settings.gate settings.public target b (drop spans.len got ++ left)))) says.body
+      (subst (λ (t : Result Target RequestError). IfSome mid (λ left. IfOk r (λ asked. http_request_entry asked ≡ asked_of settings.gate settings.public t head.body (drop spans.len got ++ left))))
+      says.wanted
+      (subst (λ (xs : List ℕ). IfSome mid (λ left. IfOk r (λ asked. http_request_entry asked ≡ asked_of settings.gate settings.public head.wanted head.body (xs ++ left)))) there is)))
 
   pub FailsAfter-said : (old mid new : Option (List ℕ)) → IsRequestOf got headers spans → SaysFound → (r : Result HttpRequest ReadFailure) → length got ≤ 8192
       → length headers ≡ 32 → Consumes old mid got
-      → (behind : List ℕ) → behind ≡ drop spans.len got → IfErr r (FailsAfter mid new (λ more. MissesBytes head.wanted head.body (behind ++ more))) → IfErr r (FailsAfter old new (IsWanting settings))
+      → (behind : List ℕ) → behind ≡ drop spans.len got → IfErr r (FailsAfter mid new (λ more. MissesBytes head.wanted head.body (behind ++ more)))
+      → IfErr r (FailsAfter old new (IsIncomplete settings))
   FailsAfter-said old mid new found says r fits places took behind there after =
       let fields = map (header_bytes got) (take spans.headers headers) in
       let target = wanted settings fields (span_bytes got spans.method) (span_bytes got spans.path) in

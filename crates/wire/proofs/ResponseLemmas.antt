@@ -1,4 +1,4 @@
--- The answers that stand fixed, letter by letter.
+-- The constant responses, character by character.
 use Rattle.std.proofs.Common.{◌≡◌, Some, ap, refl, ℕ}
 use Rattle.std.specs.Fmt.{digits}
 use Rattle.wire.specs.Requests.{has_left}
@@ -7,7 +7,7 @@ use Rattle.wire.specs.declared.account.Account.{Account}
 use Rattle.wire.specs.declared.request_error.RequestError.{RequestError}
 use Rattle.wire.specs.declared.request_error.RequestError.TheVariants.{BadRequest, Forbidden, MethodNotAllowed, NotFound, TooLarge, Unauthorized, WrongCode}
 use Rattle.wire.specs.declared.request_error.Verb.TheVariants.{Get, Post}
-use Rattle.wire.specs.declared.response.TheConstants.{BAD_REQUEST, FORBIDDEN, GONE, LEFT, NOT_FOUND, NO_MEMORY, ONLY_GET, ONLY_POST, OUTPUT_FAILED, TOO_LARGE, WAITS}
+use Rattle.wire.specs.declared.response.TheConstants.{BAD_REQUEST, FORBIDDEN, GONE, SIGNED_OUT, NOT_FOUND, NO_MEMORY, ONLY_GET, ONLY_POST, OUTPUT_FAILED, TOO_LARGE, WAITS}
 
 pub bad_request-told : BAD_REQUEST.now ≡ response_bytes (denied_response BadRequest)
 unfolding digits lines_and_body
@@ -49,11 +49,11 @@ pub output_failed-told : OUTPUT_FAILED.now ≡ response_bytes (fault_response 10
 unfolding digits lines_and_body
 output_failed-told = refl
 
-pub left-told : LEFT.now ≡ response_bytes (shown_response has_left)
+pub left-told : SIGNED_OUT.now ≡ response_bytes (shown_response has_left)
 unfolding digits lines_and_body
 left-told = refl
 
--- a denial by which an account's code is asked for
+-- a rejection that requests an account's code
 pub unauthorized-told : (why : RequestError) (account : Account) → account_kept_out why ≡ Some account → denied_response why ≡ unauthorized_response account
 unauthorized-told (Unauthorized a) account is = let same : a ≡ account = cc in ap unauthorized_response same
 unauthorized-told (WrongCode a) account is = let same : a ≡ account = cc in ap unauthorized_response same

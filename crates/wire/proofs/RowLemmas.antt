@@ -1,4 +1,4 @@
--- What a walk over the rows of a router finds: that the path fits the pattern of the row, and what it finds where it does.
+-- What a walk over the rows of a router finds: the path matches the pattern of the row found. Also, what is found if a path matches a pattern.
 use Rattle.std.proofs.Common.{◌≡◌, ◌∙◌, ◌⊎◌, ◌-◌, ◌+◌, ◌<◌, ◌==◌, zero, suc, ℕ, Bool, true, false, cond, List, [], ◌∷◌}
 use Rattle.std.proofs.Common.{◌++◌, Option, Some, None, append-nil, drop, inl, inr, length, ltb, refl, subst, sym, ap, take, arith}
 use Rattle.std.specs.Prelude.{IfSome, ⊤}
@@ -11,20 +11,20 @@ use Rattle.matchit.specs.Seek.{better, cuts, has_slash, longest_from, longest_su
 use Rattle.matchit.proofs.ParamLemmas.{better-short, drop-length, one_less}
 use Rattle.wire.proofs.TargetLemmas.{or_else-kind, seek-kind}
 
--- ---- a path fits a pattern
+-- ---- a path matches a pattern
 
--- no byte is a slash
+-- none of the bytes is a slash
 abbrev pub HasNoSlash : List ℕ → Type 0
 HasNoSlash [] = ⊤
 HasNoSlash (b ∷ bytes) = ((b == 47) ≡ false) × HasNoSlash bytes
 
--- the path begins with this byte, and continues so
+-- the path begins with the given byte, and the rest satisfies the given predicate
 pub record BeginsBy (b : ℕ) (path : List ℕ) (GoesOn : List ℕ → Type 0) : Type 0 where
   pub rest : List ℕ
   pub is : path ≡ b ∷ rest
   pub goes_on : GoesOn rest
 
--- the path begins with some bytes, none a slash, and continues so
+-- the path begins with bytes other than slashes, and the rest satisfies the given predicate
 pub record BeginsByPart (path : List ℕ) (GoesOn : List ℕ → Type 0) : Type 0 where
   pub part : List ℕ
   pub rest : List ℕ
@@ -32,7 +32,7 @@ pub record BeginsByPart (path : List ℕ) (GoesOn : List ℕ → Type 0) : Type 
   pub is : path ≡ part ++ rest
   pub goes_on : GoesOn rest
 
--- the path is what the tokens of a pattern stand for
+-- the path is an instance of the pattern
 abbrev pub Fits : List ℕ → List ℕ → Type 0
 Fits [] path = path ≡ []
 Fits (x ∷ t) path = BeginsBy x path (Fits t) ⊎ (((x ≡ param_token) × BeginsByPart path (Fits t)) ⊎ (x ≡ catch_all_token))
@@ -57,7 +57,7 @@ no_slash-whole (x ∷ path) none = by (x == 47) refl none (no_slash-whole path)
     by true is none later = let no : ⊥ = cc in absurd no
     by false is none later = (is, later none)
 
--- the segment of some bytes before a slash
+-- the segment formed by the bytes before a slash
 pub segment-part : (part rest : List ℕ) → HasNoSlash part → segment (part ++ (47 ∷ rest)) ≡ part ++ (47 ∷ [])
 segment-part [] rest whole = refl
 segment-part (x ∷ part) rest whole = rw whole.0 (ap (λ s. x ∷ s) (segment-part part rest whole.1))
@@ -65,10 +65,10 @@ segment-part (x ∷ part) rest whole = rw whole.0 (ap (λ s. x ∷ s) (segment-p
 length-after : (part : List ℕ) → length (part ++ (47 ∷ [])) ≡ length part + 1
 length-after part = length-append part (47 ∷ [])
 
--- ---- what is found fits
+-- ---- whatever is found matches
 
 module _ {K : Type 0} (G : K → Type 0) where
-  -- each row gives what is said of its key, where the path fits what is left of its pattern
+  -- if the path matches the rest of a row's pattern, what is claimed about the row's key holds
   abbrev pub Gives : RowsOf K → List ℕ → Type 0
   Gives [] path = ⊤
   Gives ((t, key) ∷ others) path = (Fits t path → G key) × Gives others path
@@ -132,7 +132,7 @@ module _ {K : Type 0} (G : K → Type 0) where
   shorter n m (inl none) some = omega arith
   shorter n m (inr fewer) some = fewer
 
-  -- what a parameter leaves: where some suffix ends the segment, or not, and a slash does, or not
+  -- what a parameter leaves, depending on whether a suffix ends the segment, and whether a slash does
   abbrev left_by : RowsOf K → List ℕ → Bool → Bool → ℕ × RowsOf K
   left_by rows path v u =
       cond v (length (segment path) - length (longest_suffix (segment path) rows), with_suffix (longest_suffix (segment path) rows) rows)
@@ -169,7 +169,7 @@ module _ {K : Type 0} (G : K → Type 0) where
       or_else-kind G _ _ (seek-gives 0 (step b rows) path (step-gives b rows path all))
       (or_else-kind G _ _ (seek-gives _ (param_step (step param_token rows) (b ∷ path)).1 path (param-gives rows b path all)) (caught-gives rows (b ∷ path) all))
 
--- ---- what fits is found
+-- ---- whatever matches is found
 
 slash-cuts : (part : List ℕ) → 0 < length part → cuts (part ++ (47 ∷ [])) (47 ∷ []) ≡ true
 slash-cuts part some =
@@ -184,7 +184,7 @@ pub record GoBySlash {K : Type 0} (rows : RowsOf K) : Type 0 where
   pub keeps : with_suffix (47 ∷ []) (step param_token rows) ≡ step param_token rows
 
 module _ {K : Type 0} where
-  -- the rows that go on with these bytes, with the bytes gone
+  -- the rows that continue with the given bytes, with those bytes removed
   abbrev pub steps : List ℕ → RowsOf K → RowsOf K
   steps [] rows = rows
   steps (b ∷ word) rows = steps word (step b rows)

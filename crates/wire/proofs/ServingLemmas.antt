@@ -1,4 +1,4 @@
--- What a connection tells and leaves.
+-- What a connection is sent, and the state that it leaves.
 use Rattle.std.proofs.Common.{◌≡◌, ℕ, Bool, List, Option, inl, inr, refl, subst}
 use Rattle.std.specs.Prelude.{IfSome}
 use Rattle.sqlite.specs.State.{State}
@@ -15,23 +15,23 @@ use Rattle.wire.specs.declared.response.Response.{Response}
 use Rattle.wire.specs.declared.serving.Served.{Served}
 use Rattle.wire.specs.declared.serving.Served.TheVariants.{Answered, ReadFailed, WriteFailed}
 
--- what is denied is answered without a look at the state
+-- a rejected request is answered without looking at the state
 pub IsDeniedAlike-all : (why : RequestError) → IsDeniedAlike why
 IsDeniedAlike-all why s t next answer is = (is.0, (refl, is.1), is.1)
 
--- and so is what is shown
+-- and so is a request for a page that is shown
 pub IsShownAlike-all : (show : ShowEntry) → IsShownAlike show
 IsShownAlike-all show clerk s t next answer is = (is.0, (refl, is.1), is.1)
 
 pub IsConsoleAlike-all : (show : ShowEntry) → IsConsoleAlike show
 IsConsoleAlike-all show s t next answer is = (is.0, (refl, is.1), is.1)
 
--- an answer was put
+-- a response was written
 pub IsServed-put : (IsReady : Response → Type 0) (old new : Option (List ℕ)) (response : Response) (served : Served) → IsReady response → IsPut old new response served
     → IsServed IsReady old new served
 IsServed-put IsReady old new response served ready put = record { response = response; ready = ready; put = put }
 
--- what was put was no failure of the reader
+-- if a response was written, the reader didn't fail
 pub put-apart : (old new : Option (List ℕ)) (response : Response) (served : Served) → IsPut old new response served → served ≡ ReadFailed → ⊥
 put-apart old new response served put is = subst (λ (e : Served). IsPut old new response e) is put
 
@@ -40,17 +40,17 @@ unread (Answered status) P apart = tt
 unread ReadFailed P apart = absurd (apart refl)
 unread WriteFailed P apart = tt
 
--- what was ready in one way was in another
+-- a response that was ready in one sense is ready in another
 ready-too : (P Q : Response → Type 0) (old new : Option (List ℕ)) (served : Served) → ((response : Response) → P response → Q response) → IsServed P old new served → IsServed Q old new served
 ready-too P Q old new served so it = record { response = it.response; ready = so it.response it.ready; put = it.put }
 
--- an answer that was ready was put
+-- a response that was ready was written
 ends-put : (IsReady : Response → Type 0) (ReadFailure : Type 0) (old new : Option (List ℕ)) (served : Served) → IsServed IsReady old new served → EndsWith IsReady ReadFailure old new served
 ends-put IsReady ReadFailure old new (Answered status) it = it
 ends-put IsReady ReadFailure old new ReadFailed it = absurd it.put
 ends-put IsReady ReadFailure old new WriteFailed it = it
 
--- what was asked was answered
+-- a request was answered
 pub Serves-asked : (settings : HttpSettingsEntry) (bytes old new : Option (List ℕ)) (s : OfficeState) (asked : HttpRequestEntry) (served : Served) (closed : Bool) (st : State)
     → IfSome bytes (λ xs. Asks settings xs asked)
     → IsServed (λ response. Readies s asked response closed st) old new served → Serves settings bytes old new s served closed st
@@ -59,14 +59,14 @@ Serves-asked settings bytes old new s asked served closed st asks it =
     (ready-too (λ response. Readies s asked response closed st) (λ response. ReadiesFor settings bytes s response closed st) old new served
     (λ response ready. inl (record { asked = asked; asks = asks; readies = ready })) it)
 
--- memory ran out for it
+-- an allocation failed for the request
 pub Serves-memory : (settings : HttpSettingsEntry) (bytes old new : Option (List ℕ)) (s : OfficeState) (served : Served) (closed : Bool) (st : State) → IsOpenAt s closed st
     → IsServed (IsWritten (fault_response 101)) old new served → Serves settings bytes old new s served closed st
 Serves-memory settings bytes old new s served closed st open_at it =
     ends-put _ _ old new served
     (ready-too (IsWritten (fault_response 101)) (λ response. ReadiesFor settings bytes s response closed st) old new served (λ response ready. inr (ready, open_at)) it)
 
--- the same where the office is closed
+-- a request was answered by a closed office
 pub ServesClosed-asked : (settings : HttpSettingsEntry) (bytes old new : Option (List ℕ)) (asked : HttpRequestEntry) (served : Served) → IfSome bytes (λ xs. Asks settings xs asked)
     → IsServed (IsTold (closed_response asked)) old new served → ServesClosed settings bytes old new served
 ServesClosed-asked settings bytes old new asked served asks it =
@@ -78,13 +78,13 @@ pub ServesClosed-memory : (settings : HttpSettingsEntry) (bytes old new : Option
 ServesClosed-memory settings bytes old new served it =
     ends-put _ _ old new served (ready-too (IsWritten (fault_response 101)) (ReadiesClosed settings bytes) old new served (λ response ready. inr ready) it)
 
--- what holds however the writing ended, and what holds where the answer was written whole
+-- what holds however the write ended, together with what holds if the response was written completely
 pub OnAnswered-both : (served : Served) (P Q : Type 0) → P → OnAnswered served Q → OnAnswered served (P × Q)
 OnAnswered-both (Answered status) P Q always own = (always, own)
 OnAnswered-both ReadFailed P Q always own = tt
 OnAnswered-both WriteFailed P Q always own = tt
 
--- the same where the writer failed
+-- what holds however the write ended, together with what holds if the writer failed
 pub OnWriteFailed-both : (served : Served) (P Q : Type 0) → P → OnWriteFailed served Q → OnWriteFailed served (P × Q)
 OnWriteFailed-both (Answered status) P Q always own = tt
 OnWriteFailed-both ReadFailed P Q always own = tt

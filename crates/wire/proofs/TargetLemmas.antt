@@ -1,4 +1,4 @@
--- What a target names: that the route found is one of ours, and that what its parameters took is text.
+-- What a target names: the route found is one of ours, and the values of its parameters are valid text.
 use Rattle.std.proofs.Common.{◌≡◌, ◌∙◌, ◌-◌, ◌==◌, ◌&&◌, zero, suc, ℕ, Bool, true, false, cond, List, [], ◌∷◌, Option, Some, None, drop, leb, length, ltb, refl, subst, sym, ap, take}
 use Rattle.std.specs.Prelude.{IfSome, ⊤}
 use Rattle.std.specs.Char.{is_ascii}
@@ -15,9 +15,9 @@ use Rattle.matchit.proofs.OnLiterals.{matchit_on_literals}
 use Rattle.wire.specs.Targets.{named_at, routed_by, office_routes}
 use Rattle.wire.specs.declared.target.RouteTarget.{RouteTarget}
 
--- ---- the route found is one of the rows
+-- ---- the route found belongs to one of the rows
 
--- each row's route is of a kind
+-- the route of each row satisfies the given predicate
 abbrev pub AllRoutes : {K : Type 0} → (K → Type 0) → RowsOf K → Type 0
 AllRoutes P [] = ⊤
 AllRoutes P ((t, key) ∷ others) = P key × AllRoutes P others
@@ -66,7 +66,7 @@ module _ {K : Type 0} (P : K → Type 0) where
       (seek-kind _ (param_step (step param_token rows) (b ∷ path)).1 path (param_step-kind (step param_token rows) (b ∷ path) (step-kind param_token rows all)))
       (own-kind (step catch_all_token rows) (step-kind catch_all_token rows all)))
 
--- ---- what its parameters took is text
+-- ---- the values of its parameters are valid text
 
 pub ascii_told : (bs : List ℕ) → IsAscii bs → list_all is_ascii bs ≡ true
 ascii_told [] all = refl
@@ -99,20 +99,20 @@ HasAsciiText route = list_all is_ascii route.text ≡ true
 
 pub office_routes-ascii : AllRoutes HasAsciiText office_routes
 unfolding matchit_on_literals
-office_routes-ascii = (refl, (refl, (refl, (refl, (refl, (refl, (refl, tt)))))))
+office_routes-ascii = (refl, (refl, (refl, (refl, (refl, (refl, (refl, (refl, tt))))))))
 
--- what the parameters of the route found took
+-- the parameter values for the route found
 pub taken-text : (target : List ℕ) (route : RouteOf RouteTarget) → IsAscii target → first office_routes target ≡ Some route → AllText (walk route.pattern route.text target route.names 0 0)
 taken-text target route own_target found =
     let text : HasAsciiText route = subst (λ o. IfSome o HasAsciiText) found (seek-kind HasAsciiText 0 office_routes target office_routes-ascii) in
     walk-text route.pattern route.text target route.names 0 0 (IsAscii-told route.text text) own_target
 
--- what a target names by the route found
+-- what a target names according to the route that was found
 pub routed_by-found : (target : List ℕ) (route : RouteOf RouteTarget) → IsAscii target → first office_routes target ≡ Some route
     → routed_by target ≡ named_at route.value (walk route.pattern route.text target route.names 0 0)
 routed_by-found target route own_target found = rw (ascii_told target own_target, found) refl
 
--- what our routes found: the text of the parameters, and what the target names
+-- what our routes find: the text of the parameters, and what the target names
 pub route-found : (routes : RowsOf (RouteOf RouteTarget)) (target text path : List ℕ) (route : RouteOf RouteTarget) → IsAscii target → text ≡ target → path ≡ text → routes ≡ office_routes
     → first routes text ≡ Some route
     → AllText (walk route.pattern route.text path route.names 0 0) × (routed_by target ≡ named_at route.value (walk route.pattern route.text path route.names 0 0))

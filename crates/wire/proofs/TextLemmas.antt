@@ -1,4 +1,4 @@
--- The texts of a list of values, read one after the other.
+-- The texts in a list of values, read one by one.
 use Rattle.std.proofs.Common.{◌≡◌, ◌∙◌, ◌<◌, Bool, true, false, List, Option, Some, None, [], ◌∷◌, ◌++◌, drop, get_or, length, map, refl, suc, sym, take, ap, append_assoc, ℕ}
 use Rattle.std.specs.Prelude.{String, if◌then◌else◌, option_map, string_bytes}
 use Rattle.std.specs.declared.alloc.Global.{Global}
@@ -13,7 +13,7 @@ use Rattle.std.specs.Str.{IsUtf8, is_utf8}
 use Rattle.std.proofs.lemmas.Str.{IsUtf8-from_is_utf8, is_utf8-from_IsUtf8}
 use Rattle.wire.specs.Bodies.{json_in, texts_in}
 
--- these values have these texts, and the others follow
+-- the values read so far have the given texts, and more values follow
 abbrev pub ReadsOn : List Data → List (List ℕ) → Type 0
 ReadsOn read texts = (others : List Data) → texts_in (items_of (read ++ others)) ≡ option_map (λ more. texts ++ more) (texts_in (items_of others))
 
@@ -37,7 +37,7 @@ pub ReadsOn-more : (read : List Data) (texts : List (List ℕ)) (value : Data) (
 ReadsOn-more read texts value text reads is others =
     ap (λ (l : List Data). texts_in (items_of l)) (append_assoc read (value ∷ []) others) ∙ reads (value ∷ others) ∙ rw is (with_more texts text (texts_in (items_of others)))
 
--- a value that is no text
+-- a value that isn't a string
 pub ReadsOn-stop : (read : List Data) (texts : List (List ℕ)) (value : Data) (others : List Data) → ReadsOn read texts → as_str value ≡ None → texts_in (items_of (read ++ value ∷ others)) ≡ None
 ReadsOn-stop read texts value others reads is = reads (value ∷ others) ∙ rw is refl
 
@@ -48,7 +48,7 @@ ReadsOn-all read texts reads = ap (λ (l : List Data). texts_in (items_of l)) (a
     append_back [] = refl
     append_back (d ∷ ds) = ap (λ (l : List Data). d ∷ l) (append_back ds)
 
--- what follows the values so far
+-- what follows the values read so far
 pub behind : {V : Type 0} (all so_far : List V) (value : V) → map (λ (x : V). x) so_far ≡ take (length so_far) all → (length so_far < length all) × (value ≡ get_or all (length so_far) value)
     → (others : List V) × (all ≡ so_far ++ value ∷ others)
 behind all so_far value first (there, is) = (
@@ -61,7 +61,7 @@ behind all so_far value first (there, is) = (
     same [] = refl
     same (x ∷ xs) = ap (λ t. x ∷ t) (same xs)
 
--- of values that follow some others one is no text
+-- one of the values after those read so far isn't a string
 pub texts_in-stop : (all so_far : List Value) (texts : List (List ℕ)) (value : Value) → ReadsOn (map view so_far) texts → map (λ (x : Value). x) so_far ≡ take (length so_far) all
     → (length so_far < length all) × (value ≡ get_or all (length so_far) value) → as_str (view value) ≡ None → None ≡ texts_in (items_view all)
 texts_in-stop all so_far texts value reads first there is =
@@ -69,7 +69,7 @@ texts_in-stop all so_far texts value reads first there is =
     sym (ap (λ l. texts_in (items_view l)) parts ∙ ap (λ l. texts_in (items_of l)) (map-append view so_far (value ∷ others)) ∙ ReadsOn-stop
     (map view so_far) texts (view value) (map view others) reads is)
 
--- one value and its text more
+-- another value, with its text
 pub ReadsOn-next : (so_far : List Value) (texts pushed : List (String Global)) (value : Value) (text : String Global) → ReadsOn (map view so_far) (map string_bytes texts)
     → pushed ≡ texts ++ text ∷ [] → Some (string_bytes text) ≡ as_str (view value) → ReadsOn (map view (so_far ++ value ∷ [])) (map string_bytes pushed)
 ReadsOn-next so_far texts pushed value text reads is e others =

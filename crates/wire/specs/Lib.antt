@@ -1,7 +1,8 @@
--- What requests ask, and the bytes of the responses.
+-- What requests ask for, and the bytes of the responses to them.
 pub mod Heads
 pub mod Numbers
 pub mod OfficeTargets
+pub mod PublicTargets
 pub mod Targets
 pub mod Lengths
 pub mod Origins
@@ -9,11 +10,14 @@ pub mod Bodies
 pub mod ConsoleOrders
 pub mod Gates
 pub mod Requests
+pub mod PublicRequests
 pub mod Completeness
 pub mod Parsing
 pub mod Replies
 pub mod OfficeReads
 pub mod OfficeReplies
+pub mod PublicReplies
 pub mod Responses
 pub mod Told
 pub mod Serving
+pub mod PublicLaws

@@ -1,4 +1,4 @@
--- The JSON of what the officer's console reads: the value that each body is written for.
+-- The JSON of what the officer's console reads: the value that each body represents.
 use Rattle.std.specs.Prelude.{◌&&◌, ◌==◌, Bool, List, [], Option, Some, None, codes, if◌then◌else◌, min, unwrap_or, ℕ}
 use Rattle.std.specs.List.{sum_by}
 use Rattle.serde_json.specs.Data.{Data, boolean, member, no_members, object, string}
@@ -27,14 +27,14 @@ numbers_data numbers = list_data number_data numbers
 
 -- ---- the wards
 
--- a phase, in a word
+-- the word for a phase
 abbrev pub phase_word : Phase → List ℕ
 phase_word phase.Nominations = codes "nominations"
 phase_word phase.Keying = codes "keying"
 phase_word phase.Sealed = codes "sealed"
 phase_word phase.Declared = codes "declared"
 
--- a ward: its status, and those elected, once it is declared
+-- a ward: its status, and the elected candidates once it is declared
 abbrev pub ward_data : WardView → Data
 ward_data v = object
     (member (codes "batches") (number_data v.status.batches)
@@ -55,22 +55,23 @@ wards_data v = object (member (codes "receipts") (number_data v.receipts) (membe
 
 -- ---- the next step in a ward
 
--- a step of which there is nothing more to say
+-- a step that needs no further details
 abbrev pub word_data : List ℕ → Data
 word_data word = object (member (codes "step") (string word) no_members)
 
--- what comes next in keying: nothing without a batch; the seal, once all batches are taken and all their doubtful papers have a verdict; and before that the rest of the papers
+-- the next step of keying: to create batches, if there are none; to seal, once all batches are taken and all their doubtful papers have a verdict; until then, the remaining
+-- papers
 abbrev pub papers_word : StatusEntry → List ℕ
 papers_word s = if s.batches == 0 then codes "batches" else (if s.taken == s.batches && s.doubtful_open == 0 then codes "seal" else codes "papers")
 
--- what a stage does
+-- the word for what a stage does
 abbrev pub action_word : Action → List ℕ
 action_word First = codes "first"
 action_word (Surplus candidate) = codes "surplus"
 action_word (Exclude candidate) = codes "exclusion"
 action_word (ExcludeLast candidate) = codes "last exclusion"
 
--- with which candidate, or 0
+-- the candidate that a stage concerns, or 0
 abbrev pub action_candidate : Action → ℕ
 action_candidate First = 0
 action_candidate (Surplus candidate) = candidate
@@ -84,7 +85,7 @@ stage_data stage action = object
     (member (codes "stage") (number_data stage)
     (member (codes "step") (string (codes "stage")) no_members))))
 
--- what a lot decides
+-- the word for what a lot decides
 abbrev pub lot_word : TiedFor → List ℕ
 lot_word for_surplus = codes "surplus"
 lot_word for_exclusion = codes "exclusion"
@@ -96,7 +97,7 @@ lot_data stage kind tied = object
     (member (codes "step") (string (codes "lot"))
     (member (codes "tied") (numbers_data tied) no_members))))
 
--- what is due in a count: its next stage, with this number; a lot; or the declaration
+-- what comes next in a count: the next stage, with the given number; a lot; or the declaration
 abbrev pub due_data : ℕ → Due → Data
 due_data stage (Act action) = stage_data stage action
 due_data stage (Lot at kind tied) = lot_data at kind tied
@@ -110,7 +111,7 @@ step_data nothing_comes = word_data (codes "nothing")
 
 -- ---- the batches of a ward
 
--- a clerk of a batch, and whether the clerk has keyed its current round
+-- a clerk of a batch, and whether the clerk has keyed the current round
 abbrev pub batch_clerk_data : ℕ × Bool → Data
 batch_clerk_data (clerk, keyed) = object (member (codes "clerk") (number_data clerk) (member (codes "keyed") (boolean keyed) no_members))
 
@@ -135,21 +136,21 @@ batches_data ward batches = object (member (codes "batches") (list_data batch_da
 
 -- ---- one ward
 
--- the most papers that a reply has
+-- the maximum number of papers in a reply
 abbrev pub most_papers : ℕ
 most_papers = 18446744073709551615
 
--- the sizes of batches, added up
+-- the total size of the batches
 abbrev pub given_out : List BatchView → ℕ
 given_out batches = min (sum_by (λ (v : BatchView). v.batch.size) batches) most_papers
 
--- the size of a batch, if it is taken
+-- the size of a batch if it is taken, otherwise 0
 abbrev pub size_in : BatchStanding → ℕ → ℕ
 size_in Taken size = size
 size_in Differing size = 0
 size_in Waiting size = 0
 
--- the sizes of the taken ones
+-- the total size of the taken batches
 abbrev pub agreed_in : List BatchView → ℕ
 agreed_in batches = min (sum_by (λ (v : BatchView). size_in v.standing v.batch.size) batches) most_papers
 
@@ -170,13 +171,13 @@ preferences_of (judged.Valid preferences) = preferences
 preferences_of (judged.Rejected code) = []
 preferences_of judged.Open = []
 
--- how a paper counts, in a word
+-- the word for how a paper counts
 abbrev pub judgement_word : Judgement → List ℕ
 judgement_word (judged.Valid preferences) = codes "valid"
 judgement_word (judged.Rejected code) = codes "rejected"
 judgement_word judged.Open = codes "open"
 
--- the code of a rejected paper, or 0
+-- the code of a rejected paper, or 0 for any other
 abbrev pub judgement_code : Judgement → ℕ
 judgement_code (judged.Valid preferences) = 0
 judgement_code (judged.Rejected code) = code
@@ -197,12 +198,12 @@ papers_data batch v = object
 
 -- ---- doubtful papers
 
--- a verdict: accepted, or rejected with a code
+-- the word for a verdict
 abbrev pub verdict_word : Option JudgedEntry → List ℕ
 verdict_word None = codes "open"
 verdict_word (Some v) = if v.code == 0 then codes "accepted" else codes "rejected"
 
--- the code of a rejected paper, or 0
+-- the code of a rejected paper, or 0 for any other
 abbrev pub verdict_code : Option JudgedEntry → ℕ
 verdict_code None = 0
 verdict_code (Some v) = v.code
@@ -227,7 +228,7 @@ doubtful_papers_data ward v = object
     (member (codes "papers") (list_data doubtful_data v.papers)
     (member (codes "ward") (number_data ward) no_members)))
 
--- ---- differences, and receipts
+-- ---- differences and receipts
 
 abbrev pub differences_data : ℕ → DifferencesView → Data
 differences_data batch v = object

@@ -1,4 +1,4 @@
--- The bytes of a response over HTTP.
+-- The bytes of an HTTP response.
 use Rattle.std.specs.Prelude.{◌∷◌, List, [], ◌++◌, Option, Some, None, codes, decimal, length, unwrap_or, ℕ}
 use Rattle.http.specs.StatusCode.{reason_phrase}
 use Rattle.wire.specs.Requests.{ShowEntry, has_left, page, verb_text}
@@ -11,8 +11,8 @@ use Rattle.wire.specs.declared.request_error.Verb.{Verb}
 use Rattle.wire.specs.declared.response.Content.{Content}
 use Rattle.wire.specs.declared.response.Content.TheVariants.{Html, Json, Text}
 
--- What the further header lines of a response say: nothing; the verb that is served; that an account's code is asked for; or that the client must wait a minute. Or they say
--- what a browser may do with a page, by its policy; or that it is to forget a code.
+-- What the additional header lines of a response say, if anything: the method that is served, that an account's code is required, or that the client must wait for a
+-- minute. Or they say what a page may do in a browser (its policy), or that the browser should forget a code.
 pub data More : Type 0 where
   nothing : More
   allows : Verb → More
@@ -21,7 +21,7 @@ pub data More : Type 0 where
   guards : List ℕ → More
   forgets : More
 
--- a response: its status, its further header lines, and its body with its media type
+-- a response: its status, its additional header lines, and its body with its media type
 pub record ResponseEntry : Type 0 where
   pub status : ℕ
   pub more : More
@@ -44,16 +44,16 @@ media_type Text = codes "text/plain; charset=utf-8"
 media_type Json = codes "application/json"
 media_type Html = codes "text/html; charset=utf-8"
 
--- what names an account in a realm
+-- the text that identifies an account in a realm
 abbrev pub realm_of : Account → List ℕ
 realm_of (Clerk clerk) = codes "clerk " ++ decimal clerk
 realm_of Office = codes "office"
 
--- the line that asks for an account's code; its realm names the account, so that no browser sends another's
+-- the line that requests an account's code; the realm names the account, so that no browser sends another account's code
 unfoldable pub code_line : List ℕ → List ℕ
 code_line realm = codes "WWW-Authenticate: Basic realm=\"" ++ (realm ++ (codes "\", charset=\"UTF-8\"" ++ line_end))
 
--- the lines that guard a page: its policy; in no frame; no other media type; separate from windows and pages of other servers; not stored
+-- the lines that restrict a page: its policy; not in a frame; no other media type; isolated from windows and pages of other servers; not stored
 unfoldable pub guard_lines : List ℕ → List ℕ
 guard_lines policy =
     codes "Content-Security-Policy: " ++ (policy ++ (line_end
@@ -64,7 +64,7 @@ guard_lines policy =
     ++ (codes "Cross-Origin-Resource-Policy: same-origin" ++ (line_end
     ++ (codes "Cache-Control: no-store" ++ line_end)))))))))))))
 
--- the further header lines
+-- the additional header lines
 abbrev pub more_lines : More → List ℕ
 more_lines nothing = []
 more_lines (allows verb) = codes "Allow: " ++ (verb_text verb ++ line_end)
@@ -94,7 +94,7 @@ response_bytes r = lines_and_body r.status (phrase r.status) (media_type r.conte
 abbrev pub json_response : ℕ → List ℕ → ResponseEntry
 json_response status body = record { status = status; more = nothing; content = Json; body = body }
 
--- a text that was asked for
+-- a text, as requested
 abbrev pub text_response : List ℕ → ResponseEntry
 text_response text = record { status = 200; more = nothing; content = Text; body = text }
 
@@ -108,16 +108,24 @@ account_kept_out (Unauthorized account) = Some account
 account_kept_out (WrongCode account) = Some account
 account_kept_out other = None
 
--- the client must wait
+-- the response to a client that must wait
 abbrev pub waits_response : ResponseEntry
 waits_response = record { status = 429; more = waits; content = Json; body = codes "{\"error\":\"too many wrong codes\"}" }
 
--- what is shown, independently of the state
+-- what is shown, whatever the state
 abbrev pub shown_response : ShowEntry → ResponseEntry
 shown_response (page its) = record { status = 200; more = guards its.policy; content = Html; body = its.text }
 shown_response has_left = record { status = 200; more = forgets; content = Json; body = codes "{\"left\":true}" }
 
--- a request is rejected
+-- the content security policy of a page printed by an order: the page has its own styles, and no script
+abbrev pub printed_policy : List ℕ
+printed_policy = codes "default-src 'none'; style-src 'unsafe-inline'; base-uri 'none'; form-action 'none'; frame-ancestors 'none'"
+
+-- a page that an order prints
+abbrev pub printed_response : List ℕ → ResponseEntry
+printed_response text = shown_response (page (record { text = text; policy = printed_policy }))
+
+-- the response to a rejected request
 abbrev pub denied_response : RequestError → ResponseEntry
 denied_response BadRequest = json_response 400 (codes "{\"error\":\"bad request\"}")
 denied_response Forbidden = json_response 403 (codes "{\"error\":\"forbidden\"}")

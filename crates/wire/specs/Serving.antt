@@ -1,4 +1,4 @@
--- The response at a state of the office, and what a connection leaves.
+-- The response in each state of the office, and the state that a connection leaves.
 use Rattle.std.specs.Prelude.{◌≡◌, ◌==◌, ◌⊎◌, ◌∷◌, ⊤, Bool, List, [], Option, Some, None, Result, Ok, Err, IfSome, find, map, string_bytes, ℕ}
 use Rattle.std.specs.Io.KnownBytes.{Appends}
 use Rattle.sqlite.specs.State.{State}
@@ -18,42 +18,48 @@ use Rattle.tables.specs.Faults.{fault_number}
 use Rattle.tables.specs.declared.fault.Fault.{Fault}
 use Rattle.tables.specs.declared.fault.Fault.TheVariants.{Closed, Store}
 use Rattle.office.specs.Answers.{IsClosedIn, IsKeptOpen, IsOpenAt, Told, again, done, no, told_of}
+use Rattle.store.specs.EarlierKeyings.{KeyedRoundEntry}
 use Rattle.store.specs.Overviews.{WardView}
-use Rattle.office.specs.Overviews.{batches_told, differences_told, doubtful_told, papers_told, receipts_told}
-use Rattle.office.specs.Reads.{IsClosedReading, paper_told, work_told}
-use Rattle.office.specs.Sheets.{text_told}
-use Rattle.office.specs.declared.answers.Stop.{Stop}
-use Rattle.office.specs.declared.answers.Stop.TheVariants.{Refused, Fault as Failed}
-use Rattle.office.specs.declared.sheets.Text.TheVariants as text
-use Rattle.wire.specs.Requests.{HttpRequestEntry, Asks, ShowEntry, console, denied, keying, order, reading, shown}
+use Rattle.office.specs.Index.{index_answer}
+use Rattle.office.specs.Overviews.{batches_answer, differences_answer, doubtful_answer, papers_answer, receipts_answer, wards_answer}
+use Rattle.office.specs.EarlierKeyings.{earlier_told}
+use Rattle.office.specs.Reads.{IsClosedReading, paper_answer, work_answer}
+use Rattle.office.specs.Sheets.{text_answer}
+use Rattle.office.specs.declared.answers.ReadError.{ReadError}
+use Rattle.office.specs.declared.answers.ReadError.TheVariants.{Refused, Fault as Failed}
+use Rattle.office.specs.declared.sheets.WardText.TheVariants as text
+use Rattle.wire.specs.Requests.{HttpRequestEntry, Asks, ShowEntry, console, denied, keying, order, page, public, reading, shown}
 use Rattle.wire.specs.Bodies.{KeyingEntry}
-use Rattle.wire.specs.Gates.{HttpSettingsEntry}
+use Rattle.wire.specs.Gates.{HttpSettingsEntry, PublicEntry}
 use Rattle.wire.specs.OfficeReads.{WardReadView, ward_read_told, wards_read_told}
 use Rattle.wire.specs.OfficeReplies.{batches_data, differences_data, doubtful_papers_data, papers_data, receipts_data, ward_read_data, wards_data}
-use Rattle.wire.specs.Replies.{paper_body, work_body}
-use Rattle.wire.specs.Responses.{ResponseEntry, denied_response, fault_response, json_response, refusal_response, reply_response, shown_response, text_response}
+use Rattle.wire.specs.PublicReplies.{page_told, screen_of}
+use Rattle.wire.specs.Replies.{keyed_data, paper_body, work_body}
+use Rattle.wire.specs.Responses.{ResponseEntry, denied_response, fault_response, json_response, printed_response, refusal_response, reply_response, shown_response, text_response}
 use Rattle.wire.specs.Told.{IsTold, IsWritten, told_bytes}
 use Rattle.wire.specs.declared.office_read.OfficeRead.{OfficeRead}
 use Rattle.wire.specs.declared.office_read.OfficeRead.TheVariants as read
+use Rattle.wire.specs.declared.public_target.PublicTarget.{PublicTarget}
+use Rattle.wire.specs.declared.public_target.PublicTarget.TheVariants as public_target
 use Rattle.wire.specs.declared.request_error.RequestError.{RequestError}
 use Rattle.wire.specs.declared.request_error.RequestError.TheVariants.{NotFound}
 use Rattle.wire.specs.declared.response.Response.{Response}
 use Rattle.wire.specs.declared.serving.Served.{Served}
 use Rattle.wire.specs.declared.serving.Served.TheVariants.{Answered, ReadFailed, WriteFailed}
 use Rattle.wire.specs.declared.target.Resource.{Resource}
-use Rattle.wire.specs.declared.target.Resource.TheVariants.{Candidates, Declaration, Office, Sheet, Work}
+use Rattle.wire.specs.declared.target.Resource.TheVariants.{Candidates, Declaration, Keyed, Office, Sheet, Work}
 
--- the refusal for a reason
+-- the response with a refusal for the given reason
 abbrev pub refused_for : Reason → ResponseEntry
 refused_for why = refusal_response (reason_number why) (reason_text why)
 
--- the response for the office's answer to a keying
+-- the response that carries the office's answer to a keying
 abbrev pub told_response : Told → ResponseEntry
 told_response (done reply) = reply_response reply
 told_response (again reply) = reply_response reply
 told_response (no why) = refused_for why
 
--- what is read, or the refusal
+-- the response with what was read, or with the refusal
 abbrev pub read_response : {X : Type 0} → (X → ResponseEntry) → Result X Reason → ResponseEntry
 read_response told (Ok x) = told x
 read_response told (Err why) = refused_for why
@@ -66,9 +72,14 @@ work_response clerk work = json_response 200 (work_body clerk work)
 abbrev pub paper_response : ℕ → BallotPaperEntry → ResponseEntry
 paper_response batch paper = json_response 200 (paper_body batch paper)
 
--- the JSON of a value
+-- the response with the JSON of a value
 abbrev pub data_response : Data → ResponseEntry
 data_response value = json_response 200 (compact_text value)
+
+-- what a clerk keyed for a batch in an earlier round, or "not found" if there is no such round
+abbrev pub earlier_response : ℕ → Option KeyedRoundEntry → ResponseEntry
+earlier_response batch (Some keyed) = data_response (keyed_data batch keyed)
+earlier_response batch None = denied_response NotFound
 
 -- a ward with its next step and its papers, if it is among the wards that were read
 abbrev pub found_response : WardReadView → Option WardView → ResponseEntry
@@ -78,25 +89,33 @@ found_response v None = refused_for NoSuchWard
 abbrev pub ward_response : ℕ → WardReadView → ResponseEntry
 ward_response ward v = found_response v (find (λ (w : WardView). w.ward.number == ward) v.progress.wards)
 
--- the response to a read of the console at a state
+-- the response to a read of the console in a given state
 abbrev pub office_response : OfficeState → OfficeRead → ResponseEntry
 office_response s read.Wards = read_response (λ wards. data_response (wards_data wards)) (wards_read_told s)
 office_response s (read.Ward ward) = read_response (ward_response ward) (ward_read_told s ward)
-office_response s (read.Batches ward) = read_response (λ batches. data_response (batches_data ward batches)) (batches_told s ward)
-office_response s (read.Doubtful ward) = read_response (λ papers. data_response (doubtful_papers_data ward papers)) (doubtful_told s ward)
-office_response s (read.Differences batch) = read_response (λ differences. data_response (differences_data batch differences)) (differences_told s batch)
-office_response s (read.Papers batch) = read_response (λ papers. data_response (papers_data batch papers)) (papers_told s batch)
-office_response s (read.Receipts actor) = read_response (λ receipts. data_response (receipts_data receipts)) (receipts_told s actor)
+office_response s (read.Batches ward) = read_response (λ batches. data_response (batches_data ward batches)) (batches_answer s ward)
+office_response s (read.Doubtful ward) = read_response (λ papers. data_response (doubtful_papers_data ward papers)) (doubtful_answer s ward)
+office_response s (read.Differences batch) = read_response (λ differences. data_response (differences_data batch differences)) (differences_answer s batch)
+office_response s (read.Papers batch) = read_response (λ papers. data_response (papers_data batch papers)) (papers_answer s batch)
+office_response s (read.Receipts actor) = read_response (λ receipts. data_response (receipts_data receipts)) (receipts_answer s actor)
 
--- the response to a read at a state
+-- the response to a read in a given state
 abbrev pub reading_response : OfficeState → Resource → ResponseEntry
-reading_response s (Work clerk) = read_response (work_response clerk) (work_told s clerk)
-reading_response s (Candidates clerk batch) = read_response (paper_response batch) (paper_told s clerk batch)
-reading_response s (Sheet ward) = read_response text_response (text_told text.Sheet s ward)
-reading_response s (Declaration ward) = read_response text_response (text_told text.Declaration s ward)
+reading_response s (Work clerk) = read_response (work_response clerk) (work_answer s clerk)
+reading_response s (Candidates clerk batch) = read_response (paper_response batch) (paper_answer s clerk batch)
+reading_response s (Keyed clerk batch) = read_response (earlier_response batch) (earlier_told s clerk batch)
+reading_response s (Sheet ward) = read_response text_response (text_answer text.Sheet s ward)
+reading_response s (Declaration ward) = read_response text_response (text_answer text.Declaration s ward)
 reading_response s (Office its) = office_response s its
 
--- the request as which a clerk's keying of a batch is sent to the office
+-- the response that shows something in public, in a given state
+abbrev pub public_response : OfficeState → PublicEntry → PublicTarget → ResponseEntry
+public_response s its public_target.Index = read_response printed_response (index_answer its.title s)
+public_response s its public_target.Screen = shown_response (page its.screen)
+public_response s its public_target.Wards = read_response (λ views. data_response (screen_of its.title views)) (wards_answer s)
+public_response s its (public_target.Page ward) = read_response printed_response (page_told its.title s ward)
+
+-- the request that sends a clerk's keying of a batch to the office
 pub record IsHandedOn (clerk batch : ℕ) (entry : KeyingEntry) (request : Request) : Type 0 where
   pub actor : request.actor ≡ clerk
   pub id : string_bytes request.id ≡ entry.id
@@ -106,64 +125,68 @@ pub record IsHandedOn (clerk batch : ℕ) (entry : KeyingEntry) (request : Reque
   pub round : handed.round ≡ entry.round
   pub papers : map string_bytes handed.papers.items ≡ entry.papers
 
--- the outcome of a clerk's keying at a state: that of each request as which the keying may be sent to the office
+-- the outcome of a clerk's keying in a given state: the outcome of any request that may send the keying to the office
 pub record IsOutcome (s : OfficeState) (clerk batch : ℕ) (entry : KeyingEntry) (outcome : Outcome) : Type 0 where
   pub request : Request
   pub is : IsHandedOn clerk batch entry request
   pub each : (other : Request) → IsHandedOn clerk batch entry other → outcome ≡ step_of s other
 
--- The response to what is asked at a state, and the state after it. An order is followed by the server, and not here: here nothing is found at its target.
+-- The response to the request in a given state, and the state after it. The server carries out orders; here the response to an order is "not found".
 abbrev pub IsAnswer : OfficeState → HttpRequestEntry → OfficeState → ResponseEntry → Type 0
 IsAnswer s (denied why) next answer = (next ≡ s) × (answer ≡ denied_response why)
 IsAnswer s (shown clerk show) next answer = (next ≡ s) × (answer ≡ shown_response show)
 IsAnswer s (reading what) next answer = (next ≡ s) × (answer ≡ reading_response s what)
 IsAnswer s (console show) next answer = (next ≡ s) × (answer ≡ shown_response show)
 IsAnswer s (order entry) next answer = (next ≡ s) × (answer ≡ denied_response NotFound)
+IsAnswer s (public its what) next answer = (next ≡ s) × (answer ≡ public_response s its what)
 IsAnswer s (keying clerk batch entry) next answer =
     (outcome : Outcome) × IsOutcome s clerk batch entry outcome × (next ≡ state_after s outcome) × (answer ≡ told_response (told_of outcome))
 
--- ---- what each exit leaves
+-- ---- what each outcome leaves
 
--- the office is open at the state after what was asked
+-- the office is open, in the state after the request
 pub record IsAnswered (s : OfficeState) (asked : HttpRequestEntry) (answer : ResponseEntry) (closed : Bool) (st : State) : Type 0 where
   pub next : OfficeState
   pub is : IsAnswer s asked next answer
   pub open_at : IsOpenAt next closed st
 
--- What a fault of the office leaves: the office as it was, or closed. Then a stop leaves the state before, or, for a keying that is accepted, the one after.
+-- What a fault of the office leaves: the office as it was, or closed. If it is closed, a stop leaves the state before the request or, for an accepted keying, the state
+-- after it.
 abbrev pub FaultLeaves : OfficeState → HttpRequestEntry → Fault → Bool → State → Type 0
 FaultLeaves s (denied why) f closed st = ⊥
 FaultLeaves s (shown clerk show) f closed st = ⊥
 FaultLeaves s (console show) f closed st = ⊥
 FaultLeaves s (order entry) f closed st = ⊥
+FaultLeaves s (public its what) f closed st = IsKeptOpen s f closed st ⊎ IsClosedReading s f closed st
 FaultLeaves s (reading what) f closed st = IsKeptOpen s f closed st ⊎ IsClosedReading s f closed st
 FaultLeaves s (keying clerk batch entry) f closed st =
     (outcome : Outcome) × IsOutcome s clerk batch entry outcome × (IsKeptOpen s f closed st ⊎ IsClosedIn s outcome f closed st)
 
--- the response to what is asked and what it leaves, or the fault of the office
+-- the response to the request, and the state that it leaves; or the fault of the office
 abbrev pub Leaves : OfficeState → HttpRequestEntry → ResponseEntry → Bool → State → Type 0
 Leaves s asked answer closed st =
     IsAnswered s asked answer closed st ⊎ ((f : Fault) × (answer ≡ fault_response (fault_number f)) × FaultLeaves s asked f closed st)
 
--- the same for a response that is ready to be written, for which an allocation may fail
+-- such a response is ready to be written, or its allocation failed
 abbrev pub Readies : OfficeState → HttpRequestEntry → Response → Bool → State → Type 0
 Readies s asked response closed st = (answer : ResponseEntry) × IsTold answer response × Leaves s asked answer closed st
 
--- a response that is ready has the result of a read, seen through a view
-abbrev pub IsReadTold : {X Y : Type 0} → (X → ResponseEntry) → (Y → X) → Result Y Stop → Response → Type 0
+-- the response that is ready is the one for the result of a read, mapped by the given view
+abbrev pub IsReadTold : {X Y : Type 0} → (X → ResponseEntry) → (Y → X) → Result Y ReadError → Response → Type 0
 IsReadTold entry view (Ok y) response = IsTold (entry (view y)) response
 IsReadTold entry view (Err (Refused why)) response = IsTold (refused_for why) response
 IsReadTold entry view (Err (Failed f)) response = IsTold (fault_response (fault_number f)) response
 
--- ---- the response, and what the office is sent for it
+-- ---- the response, and what is sent to the office for it
 
--- The requests that the office is sent for what is asked at a state, and the response. A clerk's keying is sent, and the response is the office's answer to it.
+-- The requests sent to the office for what is requested in a given state, and the response. A clerk's keying is forwarded, and the response is the office's answer to it.
 abbrev pub TellsAsked : OfficeState → HttpRequestEntry → Response → List Request → Type 0
 TellsAsked s (denied why) response sent = IsTold (denied_response why) response × (sent ≡ [])
 TellsAsked s (shown clerk show) response sent = IsTold (shown_response show) response × (sent ≡ [])
 TellsAsked s (reading what) response sent = IsTold (reading_response s what) response × (sent ≡ [])
 TellsAsked s (console show) response sent = IsTold (shown_response show) response × (sent ≡ [])
 TellsAsked s (order entry) response sent = IsTold (denied_response NotFound) response × (sent ≡ [])
+TellsAsked s (public its what) response sent = IsTold (public_response s its what) response × (sent ≡ [])
 TellsAsked s (keying clerk batch entry) response sent =
     (request : Request) × IsHandedOn clerk batch entry request × IsTold (told_response (told_of (step_of s request))) response × (sent ≡ request ∷ [])
 
@@ -171,79 +194,87 @@ TellsAsked s (keying clerk batch entry) response sent =
 abbrev pub TellsFault : Response → Type 0
 TellsFault response = IsTold (fault_response (fault_number Store)) response
 
--- The response is the one to what is asked. Or an allocation failed, and the office was sent nothing, or what it was sent is as if it had never come.
+-- The response answers the request. Or an allocation failed, and either nothing was sent to the office, or what was sent counts as never sent.
 abbrev pub TellsFor : HttpSettingsEntry → Option (List ℕ) → OfficeState → List Request → Response → Type 0
 TellsFor settings bytes s sent response = ((asked : HttpRequestEntry) × IfSome bytes (λ xs. Asks settings xs asked)
     × TellsAsked s asked response sent) ⊎ (IsWritten (fault_response 101) response × (sent ≡ []))
 
 -- ---- a closed office
 
--- Its response to what is asked. What is rejected is rejected, what is shown at any state is shown, and everything else gets the fault that the office is closed.
+-- the response of a closed office for something that is shown in public; the page for the screen is the same in any state
+abbrev pub closed_public : PublicEntry → PublicTarget → ResponseEntry
+closed_public its public_target.Index = fault_response (fault_number Closed)
+closed_public its public_target.Screen = shown_response (page its.screen)
+closed_public its public_target.Wards = fault_response (fault_number Closed)
+closed_public its (public_target.Page ward) = fault_response (fault_number Closed)
+
+-- The response of a closed office. A rejected request is rejected, what is shown in any state is shown, and everything else gets the fault for a closed office.
 abbrev pub closed_response : HttpRequestEntry → ResponseEntry
 closed_response (denied why) = denied_response why
 closed_response (shown clerk show) = shown_response show
 closed_response (console show) = shown_response show
 closed_response (order entry) = denied_response NotFound
+closed_response (public its what) = closed_public its what
 closed_response (reading what) = fault_response (fault_number Closed)
 closed_response (keying clerk batch entry) = fault_response (fault_number Closed)
 
--- The response to a rejected request, such as one of a page from elsewhere, is the same at every state, and for a closed office too. It changes nothing.
+-- The response to a rejected request, such as one from a page on another site, is the same in every state, and for a closed office too. The request changes nothing.
 abbrev pub IsDeniedAlike : RequestError → Type 0
 IsDeniedAlike why =
     (s t next : OfficeState) (answer : ResponseEntry) → IsAnswer s (denied why) next answer → (next ≡ s) × IsAnswer t (denied why) t answer × (answer ≡ closed_response (denied why))
 
--- the same for what is shown at any state
+-- what is shown to a clerk is also the same in every state, and for a closed office
 abbrev pub IsShownAlike : ShowEntry → Type 0
 IsShownAlike show =
     (clerk : ℕ) (s t next : OfficeState) (answer : ResponseEntry) → IsAnswer s (shown clerk show) next answer
     → (next ≡ s) × IsAnswer t (shown clerk show) t answer × (answer ≡ closed_response (shown clerk show))
 
--- and for what is shown to the office
+-- what is shown to the office is also the same in every state, and for a closed office
 abbrev pub IsConsoleAlike : ShowEntry → Type 0
 IsConsoleAlike show =
     (s t next : OfficeState) (answer : ResponseEntry) → IsAnswer s (console show) next answer → (next ≡ s) × IsAnswer t (console show) t answer × (answer ≡ closed_response (console show))
 
--- this response is ready to be written, and if the client's bytes are known, they ask exactly that
+-- the given response is ready to be written, and if the client's bytes are known, it answers what they ask for
 pub record TellsClosed (settings : HttpSettingsEntry) (bytes : Option (List ℕ)) (response : Response) : Type 0 where
   pub asked : HttpRequestEntry
   pub asks : IfSome bytes (λ xs. Asks settings xs asked)
   pub tells : IsTold (closed_response asked) response
 
--- that; or the allocation for reading the request failed
+-- such a response is ready; or the allocation for reading the request failed
 abbrev pub ReadiesClosed : HttpSettingsEntry → Option (List ℕ) → Response → Type 0
 ReadiesClosed settings bytes response = TellsClosed settings bytes response ⊎ IsWritten (fault_response 101) response
 
 -- ---- one connection
 
--- the response to what a client asks is ready, with what it leaves; if the client's bytes are known, they ask exactly that
+-- the response to a client's request is ready, along with the state that it leaves; if the client's bytes are known, they ask for exactly that
 pub record ReadiesAsked (settings : HttpSettingsEntry) (bytes : Option (List ℕ)) (s : OfficeState) (response : Response) (closed : Bool) (st : State) : Type 0 where
   pub asked : HttpRequestEntry
   pub asks : IfSome bytes (λ xs. Asks settings xs asked)
   pub readies : Readies s asked response closed st
 
--- that; or the allocation for reading the request failed, and the office was sent nothing
+-- the response to a client's request is ready; or the allocation for reading the request failed, and nothing was sent to the office
 abbrev pub ReadiesFor : HttpSettingsEntry → Option (List ℕ) → OfficeState → Response → Bool → State → Type 0
 ReadiesFor settings bytes s response closed st = ReadiesAsked settings bytes s response closed st ⊎ (IsWritten (fault_response 101) response × IsOpenAt s closed st)
 
--- a response was written whole; or a beginning of it, if the writer failed
+-- a response was written completely, or only a prefix of it if the writer failed
 abbrev pub IsPut : Option (List ℕ) → Option (List ℕ) → Response → Served → Type 0
 IsPut old new response (Answered status) = (status ≡ response.status) × Appends old new (told_bytes response.bytes)
 IsPut old new response ReadFailed = ⊥
 IsPut old new response WriteFailed = AppendsBeginning old new (told_bytes response.bytes)
 
--- a response that was ready, and what was written of it
+-- a response that was ready, and how much of it was written
 pub record IsServed (IsReady : Response → Type 0) (old new : Option (List ℕ)) (served : Served) : Type 0 where
   pub response : Response
   pub ready : IsReady response
   pub put : IsPut old new response served
 
--- how a connection ended: a response that was ready was written; or the reader failed
+-- how a connection ended: a response that was ready was written, or the reader failed
 abbrev pub EndsWith : (Response → Type 0) → Type 0 → Option (List ℕ) → Option (List ℕ) → Served → Type 0
 EndsWith IsReady ReadFailure old new (Answered status) = IsServed IsReady old new (Answered status)
 EndsWith IsReady ReadFailure old new ReadFailed = ReadFailure
 EndsWith IsReady ReadFailure old new WriteFailed = IsServed IsReady old new WriteFailed
 
--- what each outcome of a connection writes and leaves; if the reader failed, the office was sent nothing
+-- what each outcome of a connection writes and leaves; if the reader failed, nothing was sent to the office
 abbrev pub Serves : HttpSettingsEntry → Option (List ℕ) → Option (List ℕ) → Option (List ℕ) → OfficeState → Served → Bool → State → Type 0
 Serves settings bytes old new s served closed st = EndsWith (λ response. ReadiesFor settings bytes s response closed st) (IsOpenAt s closed st) old new served
 
@@ -251,19 +282,19 @@ Serves settings bytes old new s served closed st = EndsWith (λ response. Readie
 abbrev pub ServesClosed : HttpSettingsEntry → Option (List ℕ) → Option (List ℕ) → Option (List ℕ) → Served → Type 0
 ServesClosed settings bytes old new served = EndsWith (ReadiesClosed settings bytes) (new ≡ old) old new served
 
--- P, if a response was written whole
+-- P holds if a response was written completely
 abbrev pub OnAnswered : Served → Type 0 → Type 0
 OnAnswered (Answered status) P = P
 OnAnswered ReadFailed P = ⊤
 OnAnswered WriteFailed P = ⊤
 
--- P, if the reader failed
+-- P holds if the reader failed
 abbrev pub OnReadFailed : Served → Type 0 → Type 0
 OnReadFailed (Answered status) P = ⊤
 OnReadFailed ReadFailed P = P
 OnReadFailed WriteFailed P = ⊤
 
--- P, if the writer failed
+-- P holds if the writer failed
 abbrev pub OnWriteFailed : Served → Type 0 → Type 0
 OnWriteFailed (Answered status) P = ⊤
 OnWriteFailed ReadFailed P = ⊤

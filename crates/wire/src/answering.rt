@@ -1,4 +1,4 @@
-//! What the office is asked for a request, and the response.
+//! Asking the office on behalf of a request, and building the response.
 
 ghost use Rattle.std.specs.Prelude.{◌≡◌, false, map, true, string_bytes};
 ghost use Rattle.register.specs.Status.{paper_entry, work_entry};
@@ -14,7 +14,9 @@ ghost use Rattle.wire.specs.Serving.{IsReadTold, Readies, closed_response, paper
 ghost use Rattle.wire.specs.Told.{IsTold};
 
 use crate::candidates::paper_body;
+use crate::earlier_keying::answer_earlier;
 use crate::office_responses::{faulted, refused, replied};
+use crate::public::answer_public;
 use crate::read_responses::answer_office;
 use crate::request::{HttpRequest, Keying};
 use crate::request_error::RequestError;
@@ -22,7 +24,7 @@ use crate::response::{Content, Response};
 use crate::target::Resource;
 use crate::work::work_body;
 use http::StatusCode;
-use office::{Answer, Office, Stop};
+use office::{Answer, Office, ReadError};
 use register::{BallotPaper, Command, KeyingCommand, Work};
 use sqlite::Alter;
 use std::alloc::Global;
@@ -39,7 +41,7 @@ fn answered(alloc: Global, answer: &Answer) -> Response
     }
 }
 
-/// Sends a clerk's keying to the office, and returns the response. A closed office stays as it is.
+/// Sends a clerk's keying to the office and returns the response. A closed office stays as it is.
 pub fn answer_keying<S: Alter>(alloc: Global, office: &mut Office<S>, keying: Keying) -> Response
     ensures answers { HasCleanDisk (state S.Store office.new.held) → office.old.closed ≡ false → (s : OfficeState) → IsAt s (state S.Store office.old.held)
         → Readies s (http_request_entry (HttpRequest.Keying keying)) result office.new.closed (state S.Store office.new.held) }
@@ -66,18 +68,18 @@ pub fn answer_keying<S: Alter>(alloc: Global, office: &mut Office<S>, keying: Ke
 }
 
 /// Returns the response with a ward's stage sheet or declaration, or with the refusal or fault.
-fn answer_text(alloc: Global, told: Result<String, Stop>) -> Response
+fn answer_text(alloc: Global, told: Result<String, ReadError>) -> Response
     ensures { IsReadTold text_response string_bytes told result }
 {
     match told {
         Ok(text) => Response::made(alloc, StatusCode::OK, Content::Text, Ok(text)),
-        Err(Stop::Refused(why)) => refused(alloc, &why),
-        Err(Stop::Fault(fault)) => faulted(alloc, fault),
+        Err(ReadError::Refused(why)) => refused(alloc, &why),
+        Err(ReadError::Fault(fault)) => faulted(alloc, fault),
     }
 }
 
 /// Returns the response with a clerk's work, or with the refusal or fault.
-fn answer_work(alloc: Global, clerk: u32, told: Result<Vec<Work>, Stop>) -> Response
+fn answer_work(alloc: Global, clerk: u32, told: Result<Vec<Work>, ReadError>) -> Response
     ensures { IsReadTold (work_response clerk) (λ work. map work_entry work.items) told result }
 {
     match told {
@@ -85,13 +87,13 @@ fn answer_work(alloc: Global, clerk: u32, told: Result<Vec<Work>, Stop>) -> Resp
             let body = work_body(alloc, clerk, &work);
             Response::made(alloc, StatusCode::OK, Content::Json, body)
         }
-        Err(Stop::Refused(why)) => refused(alloc, &why),
-        Err(Stop::Fault(fault)) => faulted(alloc, fault),
+        Err(ReadError::Refused(why)) => refused(alloc, &why),
+        Err(ReadError::Fault(fault)) => faulted(alloc, fault),
     }
 }
 
 /// Returns the response with the candidates of a batch, or with the refusal or fault.
-fn answer_paper(alloc: Global, batch: u32, told: Result<BallotPaper, Stop>) -> Response
+fn answer_paper(alloc: Global, batch: u32, told: Result<BallotPaper, ReadError>) -> Response
     ensures { IsReadTold (paper_response batch) paper_entry told result }
 {
     match told {
@@ -99,8 +101,8 @@ fn answer_paper(alloc: Global, batch: u32, told: Result<BallotPaper, Stop>) -> R
             let body = paper_body(alloc, batch, &paper);
             Response::made(alloc, StatusCode::OK, Content::Json, body)
         }
-        Err(Stop::Refused(why)) => refused(alloc, &why),
-        Err(Stop::Fault(fault)) => faulted(alloc, fault),
+        Err(ReadError::Refused(why)) => refused(alloc, &why),
+        Err(ReadError::Fault(fault)) => faulted(alloc, fault),
     }
 }
 
@@ -117,13 +119,17 @@ fn answer_reading<S: Alter>(alloc: Global, office: &mut Office<S>, what: Resourc
         Resource::Candidates { clerk, batch } => {
             answer_paper(alloc, batch, office.paper(clerk, batch))
         }
+        Resource::Keyed { clerk, batch } => {
+            answer_earlier(alloc, batch, office.earlier_keying(clerk, batch))
+        }
         Resource::Sheet { ward } => answer_text(alloc, office.sheet(ward)),
         Resource::Declaration { ward } => answer_text(alloc, office.result(ward)),
         Resource::Office(read) => answer_office(alloc, office, read),
     }
 }
 
-/// Processes a request in the office, and returns the response. An order isn't followed here: nothing is found at its target.
+/// Processes a request in the office and returns the response. Orders aren't carried out here; the response to an order is "not
+/// found".
 pub(crate) fn answer<S: Alter>(
     alloc: Global,
     office: &mut Office<S>,
@@ -137,10 +143,11 @@ pub(crate) fn answer<S: Alter>(
 {
     match asked {
         HttpRequest::Denied(why) => Response::denied(alloc, why),
-        HttpRequest::Shown(_, show) => Response::shown(alloc, show),
+        HttpRequest::ClerkPage(_, show) => Response::shown(alloc, show),
         HttpRequest::Keying(keying) => answer_keying(alloc, office, keying),
         HttpRequest::Resource(what) => answer_reading(alloc, office, what),
         HttpRequest::ConsolePage(show) => Response::shown(alloc, show),
         HttpRequest::Order(_) => Response::denied(alloc, RequestError::NotFound),
+        HttpRequest::Public(shown, what) => answer_public(alloc, office, shown, what),
     }
 }

@@ -7,28 +7,28 @@ ghost use Rattle.wire.specs.Replies.{fault_body, fault_data, order_body, order_d
 use serde_json::{Value, json};
 use std::alloc::{AllocError, Global};
 
-/// Returns the body with a reply, as a value.
+/// Returns the body for a reply, as a JSON value.
 fn reply_value(alloc: Global, text: &str) -> Result<Value, AllocError>
     ensures { IfOk result (λ value. view value ≡ reply_data text.now) }
 {
     json!(in alloc; {"reply": text})
 }
 
-/// Returns the body with a reply.
+/// Returns the body for a reply.
 pub(crate) fn reply_body(alloc: Global, text: &str) -> Result<String, AllocError>
     ensures { IfOk result (λ body. string_bytes body ≡ reply_body text.now) }
 {
     reply_value(alloc, text)?.to_string(alloc)
 }
 
-/// Returns the body with the outcome of an order, as a value.
+/// Returns the body for the outcome of an order, as a JSON value.
 fn order_value(alloc: Global, status: u8, output: &str, errors: &str) -> Result<Value, AllocError>
     ensures { IfOk result (λ value. view value ≡ order_data status output.now errors.now) }
 {
     json!(in alloc; {"errors": errors, "output": output, "status": status})
 }
 
-/// Returns the body with the outcome of an order.
+/// Returns the body for the outcome of an order.
 pub(crate) fn order_body(
     alloc: Global,
     status: u8,
@@ -40,28 +40,28 @@ pub(crate) fn order_body(
     order_value(alloc, status, output, errors)?.to_string(alloc)
 }
 
-/// Returns the body with a refusal, as a value.
+/// Returns the body for a refusal, as a JSON value.
 fn refusal_value(alloc: Global, number: u32, text: &str) -> Result<Value, AllocError>
     ensures { IfOk result (λ value. view value ≡ refusal_data number text.now) }
 {
     json!(in alloc; {"refusal": number, "text": text})
 }
 
-/// Returns the body with a refusal.
+/// Returns the body for a refusal.
 pub(crate) fn refusal_body(alloc: Global, number: u32, text: &str) -> Result<String, AllocError>
     ensures { IfOk result (λ body. string_bytes body ≡ refusal_body number text.now) }
 {
     refusal_value(alloc, number, text)?.to_string(alloc)
 }
 
-/// Returns the body with a fault, as a value.
+/// Returns the body for a fault, as a JSON value.
 fn fault_value(alloc: Global, number: u32) -> Result<Value, AllocError>
     ensures { IfOk result (λ value. view value ≡ fault_data number) }
 {
     json!(in alloc; {"fault": number})
 }
 
-/// Returns the body with a fault.
+/// Returns the body for a fault.
 pub(crate) fn fault_body(alloc: Global, number: u32) -> Result<String, AllocError>
     ensures { IfOk result (λ body. string_bytes body ≡ fault_body number) }
 {

@@ -6,14 +6,14 @@ ghost use Rattle.std.specs.Io.KnownBytes.{Consumes};
 ghost use Rattle.serde_json.specs.View.{view, items_view, members_view};
 ghost use Rattle.serde_json.specs.Find.{as_object, as_str};
 ghost use Rattle.wire.specs.Requests.{FailsAfter, HasRead, IsUnread};
-ghost use Rattle.wire.specs.Bodies.{body_entry, body_in, json_in, key_members, keying_of, list_in, round_in, said_by, texts_in};
+ghost use Rattle.wire.specs.Bodies.{body_entry, body_in, json_in, key_members, keying_of, list_in, round_in, keying_from, texts_in};
 
 use crate::read_failure::ReadFailure;
 use serde_json::{Category, Map, Value};
 use std::alloc::{AllocError, Global};
 use streams::{Broken, Source};
 
-/// The body of a keying: its id, its round (a number of 32 bits, in range or not), and the marks text of each paper.
+/// The body of a keying: its id, its round (any 32-bit number, in range or not), and the marks text of each paper.
 #[derive(Drop)]
 pub(crate) struct KeyingBody {
     pub id: String,
@@ -21,7 +21,7 @@ pub(crate) struct KeyingBody {
     pub papers: Vec<String>,
 }
 
-/// Fills a buffer; returns false if the source ends before that.
+/// Fills a buffer. Returns false if the source ends first.
 fn fill<R: Source>(reader: &mut R, room: &mut [u8]) -> Result<bool, Broken>
     requires { R.failed reader.old < 2 ^ 64 - 1 }
     ensures full { IfOk result (λ full. full ≡ true → Consumes (R.held reader.old) (R.held reader.new) room.new) }
@@ -40,7 +40,7 @@ fn fill<R: Source>(reader: &mut R, room: &mut [u8]) -> Result<bool, Broken>
     Ok(true)
 }
 
-/// Returns a buffer of this size that begins with these bytes.
+/// Returns a buffer of the given size that begins with the given bytes.
 fn buffer_from(alloc: Global, front: &[u8], size: usize) -> Result<Vec<u8>, AllocError>
     requires { length front.now ≤ size }
     ensures size { IfOk result (λ buffer. vec_len buffer ≡ size) }
@@ -52,10 +52,10 @@ fn buffer_from(alloc: Global, front: &[u8], size: usize) -> Result<Vec<u8>, Allo
     Ok(buffer)
 }
 
-/// Reads a body of this size, which begins with the bytes that were already read after the head. Returns `None` if the source
+/// Reads a body of the given size. The body begins with the bytes already read after the head. Returns `None` if the source
 /// ends before the body does.
 ///
-/// `Broken` comes only from the source, which counts one failure more, and only while the body isn't complete.
+/// Returns `Broken` only if the source fails while the body is still incomplete; the source's failure count is then one higher.
 pub(crate) fn read_body<R: Source>(
     alloc: Global,
     reader: &mut R,
@@ -77,7 +77,7 @@ pub(crate) fn read_body<R: Source>(
     }
 }
 
-/// Returns the text of a value, if the value is a text.
+/// Returns the text in a value, if the value is a string.
 pub(crate) fn text_in(value: Value) -> Option<String>
     ensures { option_map string_bytes result ≡ as_str (view value) }
 {
@@ -87,7 +87,7 @@ pub(crate) fn text_in(value: Value) -> Option<String>
     }
 }
 
-/// Returns the round in a value, if the value is a number of 32 bits.
+/// Returns the round in a value, if the value is a 32-bit number.
 fn round_in(value: &Value) -> Option<u32>
     ensures { result ≡ round_in (view value.now) }
 {
@@ -95,7 +95,7 @@ fn round_in(value: &Value) -> Option<u32>
     u32::try_from(round).ok()
 }
 
-/// Returns the texts in a list of values, if all of them are texts.
+/// Returns the texts in a list of values, if all of them are strings.
 fn texts_in(alloc: Global, values: Vec<Value>) -> Result<Option<Vec<String>>, AllocError>
     ensures { IfOk result (λ found. option_map (λ texts. map string_bytes texts.items) found ≡ texts_in (items_view values.items)) }
 {
@@ -109,7 +109,7 @@ fn texts_in(alloc: Global, values: Vec<Value>) -> Result<Option<Vec<String>>, Al
     Ok(Some(texts))
 }
 
-/// Returns the texts in a value, if the value is a list of texts.
+/// Returns the texts in a value, if the value is a list of strings.
 pub(crate) fn list_in(alloc: Global, value: Value) -> Result<Option<Vec<String>>, AllocError>
     ensures { IfOk result (λ found. option_map (λ texts. map string_bytes texts.items) found ≡ list_in (view value)) }
 {
@@ -119,7 +119,7 @@ pub(crate) fn list_in(alloc: Global, value: Value) -> Result<Option<Vec<String>>
     }
 }
 
-/// Returns the values of the members `id`, `papers` and `round`, if an object has exactly these members.
+/// Returns the values of `id`, `papers` and `round`, if the object has exactly these members.
 fn key_members(mut members: Map<String, Value>) -> Option<(Value, Value, Value)>
     ensures { option_map (λ found. (view found.0, view found.1, view found.2)) result ≡ key_members (members_view members.entries) }
 {
@@ -136,14 +136,14 @@ fn key_members(mut members: Map<String, Value>) -> Option<(Value, Value, Value)>
     }
 }
 
-/// Returns the keying made of three values, if each of them has its type.
-fn said_by(
+/// Returns the keying made from three values, if each has the correct type.
+fn keying_from(
     alloc: Global,
     id: Value,
     papers: Value,
     round: Value,
 ) -> Result<Option<KeyingBody>, AllocError>
-    ensures { IfOk result (λ found. option_map body_entry found ≡ said_by (view id, view papers, view round)) }
+    ensures { IfOk result (λ found. option_map body_entry found ≡ keying_from (view id, view papers, view round)) }
 {
     let Some(id) = text_in(id) else {
         return Ok(None);
@@ -157,7 +157,7 @@ fn said_by(
     Ok(Some(KeyingBody { id, round, papers }))
 }
 
-/// Parses the JSON of a text. The only error is a failed allocation.
+/// Parses a text as JSON. The only error is a failed allocation.
 pub(crate) fn json_in(alloc: Global, text: &[u8]) -> Result<Option<Value>, AllocError>
     ensures { IfOk result (λ found. option_map view found ≡ json_in text.now) }
 {
@@ -180,13 +180,13 @@ pub(crate) fn members_in(value: Value) -> Option<Map<String, Value>>
     }
 }
 
-/// Parses a body, if it is the JSON of a keying. The only error is a failed allocation.
+/// Parses a body as the JSON of a keying; returns `None` if it isn't one. The only error is a failed allocation.
 pub(crate) fn keying_of(alloc: Global, body: &[u8]) -> Result<Option<KeyingBody>, AllocError>
     ensures { IfOk result (λ found. option_map body_entry found ≡ keying_of body.now) }
 {
     let value = json_in(alloc, body)?;
     match value.and_then(members_in).and_then(key_members) {
-        Some((id, papers, round)) => said_by(alloc, id, papers, round),
+        Some((id, papers, round)) => keying_from(alloc, id, papers, round),
         None => Ok(None),
     }
 }

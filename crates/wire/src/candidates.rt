@@ -1,4 +1,4 @@
-//! The JSON of the candidates on the papers of a batch.
+//! The JSON for the candidates on a batch's papers.
 
 ghost use Rattle.std.specs.Prelude.{◌≡◌, IfOk, map, string_bytes};
 ghost use Rattle.serde_json.specs.View.{view};
@@ -10,14 +10,14 @@ use register::{BallotPaper, Candidate};
 use serde_json::{Value, json};
 use std::alloc::{AllocError, Global};
 
-/// Returns a candidate, as a value.
+/// Returns a candidate, as a JSON value.
 fn candidate_value(alloc: Global, candidate: &Candidate) -> Result<Value, AllocError>
     ensures { IfOk result (λ value. view value ≡ candidate_data (candidate_entry candidate.now)) }
 {
     json!(in alloc; {"candidate": candidate.number, "name": candidate.name.as_str()})
 }
 
-/// Returns the candidates, as a list of values.
+/// Returns the candidates, as a list of JSON values.
 pub(crate) fn candidates_value(alloc: Global, candidates: &[Candidate]) -> Result<Value, AllocError>
     ensures { IfOk result (λ value. view value ≡ list_data candidate_data (map candidate_entry candidates.now)) }
 {
@@ -28,7 +28,7 @@ pub(crate) fn candidates_value(alloc: Global, candidates: &[Candidate]) -> Resul
     Ok(Value::Array(values))
 }
 
-/// Returns the candidates on the papers of a batch, as a value.
+/// Returns the candidates on a batch's papers, as a JSON value.
 fn paper_value(alloc: Global, batch: u32, paper: &BallotPaper) -> Result<Value, AllocError>
     ensures { IfOk result (λ value. view value ≡ paper_data batch (paper_entry paper.now)) }
 {
@@ -38,7 +38,7 @@ fn paper_value(alloc: Global, batch: u32, paper: &BallotPaper) -> Result<Value, 
     })
 }
 
-/// Returns the body with the candidates on the papers of a batch.
+/// Returns the body for the candidates on a batch's papers.
 pub(crate) fn paper_body(
     alloc: Global,
     batch: u32,

@@ -1,10 +1,10 @@
 //! Whether a request is complete.
 
-/// Whether the bytes that were received of a request are a complete request.
+/// Whether the bytes received so far make a complete request.
 #[derive(Clone, Copy, PartialEq, Eq)]
 pub enum Completeness {
-    /// Nothing: what they ask, they ask whatever follows.
+    /// They do: what they ask for doesn't depend on what follows.
     Complete,
-    /// Bytes: fewer than so many in all are never enough.
+    /// They don't; at least this many bytes are needed in total.
     AtLeast(usize),
 }

@@ -1,4 +1,4 @@
-//! An order that the officer's console sends, in the body of a request.
+//! An order sent by the officer's console, in the body of a request.
 
 ghost use Rattle.std.specs.Prelude.{◌≡◌, ◌++◌, IfOk, IfSome, map, option_map, string_bytes};
 ghost use Rattle.serde_json.specs.View.{members_view, view};
@@ -8,28 +8,27 @@ use crate::body::{json_in, list_in, members_in, text_in};
 use serde_json::{Map, Value};
 use std::alloc::{AllocError, Global};
 
-/// The most words of an order.
+/// The maximum number of words in an order.
 const MOST_WORDS: usize = 1000;
 
-/// The most files of an order.
+/// The maximum number of files in an order.
 const MOST_FILES: usize = 16;
 
-/// A file that an order names, and its text.
+/// A file that an order names, with its text.
 #[derive(Drop)]
 pub struct ConsoleFile {
     pub name: String,
     pub text: String,
 }
 
-/// An order of the console: 1 to 1000 words, as they are typed after the name of the database, and the files that they name, 16 at
-/// most.
+/// An order from the console: 1 to 1000 words, as typed after the name of the database, and the files they name, at most 16.
 #[derive(Drop)]
 pub struct ConsoleOrder {
     pub words: Vec<String>,
     pub files: Vec<ConsoleFile>,
 }
 
-/// Returns the files that are the members of an object, if each has a text.
+/// Returns the members of an object as files, if the value of each is a string.
 fn files_of(
     alloc: Global,
     members: Map<String, Value>,
@@ -47,7 +46,7 @@ fn files_of(
     Ok(Some(files))
 }
 
-/// Returns the files in a value, if the value is an object of texts, and has no more than an order may have.
+/// Returns the files in a value, if the value is an object of strings and has no more members than an order may have files.
 fn files_in(alloc: Global, value: Value) -> Result<Option<Vec<ConsoleFile>>, AllocError>
     ensures { IfOk result (λ found. option_map (λ files. map console_file_entry files.items) found ≡ files_in (view value)) }
 {
@@ -60,7 +59,7 @@ fn files_in(alloc: Global, value: Value) -> Result<Option<Vec<ConsoleFile>>, All
     }
 }
 
-/// Returns the words in a value, if the value is a list of texts, and has as many as an order may have.
+/// Returns the words in a value, if the value is a list of strings and isn't too short or too long for an order.
 fn words_in(alloc: Global, value: Value) -> Result<Option<Vec<String>>, AllocError>
     ensures { IfOk result (λ found. option_map (λ words. map string_bytes words.items) found ≡ words_in (view value)) }
 {
@@ -70,7 +69,7 @@ fn words_in(alloc: Global, value: Value) -> Result<Option<Vec<String>>, AllocErr
     }
 }
 
-/// Returns the values of the members `files` and `words`, if an object has exactly these members.
+/// Returns the values of `files` and `words`, if the object has exactly these members.
 fn order_members(mut members: Map<String, Value>) -> Option<(Value, Value)>
     ensures { option_map (λ found. (view found.0, view found.1)) result ≡ order_members (members_view members.entries) }
 {
@@ -86,7 +85,7 @@ fn order_members(mut members: Map<String, Value>) -> Option<(Value, Value)>
     }
 }
 
-/// Returns the order made of two values, if each of them has its type.
+/// Returns the order made from two values, if each has the correct type.
 fn order_by(alloc: Global, files: Value, words: Value) -> Result<Option<ConsoleOrder>, AllocError>
     ensures { IfOk result (λ found. option_map console_order_entry found ≡ order_by (view files, view words)) }
 {
@@ -99,7 +98,7 @@ fn order_by(alloc: Global, files: Value, words: Value) -> Result<Option<ConsoleO
     }
 }
 
-/// Parses a body, if it is the JSON of an order. The only error is a failed allocation.
+/// Parses a body as the JSON of an order; returns `None` if it isn't one. The only error is a failed allocation.
 pub(crate) fn order_of(alloc: Global, body: &[u8]) -> Result<Option<ConsoleOrder>, AllocError>
     ensures { IfOk result (λ found. option_map console_order_entry found ≡ order_of body.now) }
 {

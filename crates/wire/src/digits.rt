@@ -8,17 +8,17 @@ ghost use Rattle.wire.specs.Numbers.{number_in};
 
 use std::str;
 
-/// The most digits of a number in a target.
+/// The maximum number of digits in a target's numbers.
 const MOST_DIGITS: usize = 5;
 
-/// Returns whether bytes are all digits.
+/// Returns whether all bytes are digits.
 pub(crate) fn all_digits(text: &[u8]) -> bool
     ensures { result ≡ list_all is_ascii_digit text.now }
 {
     text.iter().all(|b| b.is_ascii_digit())
 }
 
-/// Returns how many digits a text begins with.
+/// Returns the number of digits at the start of a text.
 pub(crate) fn digits_length(text: &[u8]) -> usize
     ensures bound { result ≤ length text.now }
     ensures is { result ≡ prefix_len is_ascii_digit text.now }
@@ -33,7 +33,7 @@ pub(crate) fn digits_length(text: &[u8]) -> usize
     length
 }
 
-/// Parses a number of 1 to 5 digits, the first not 0.
+/// Parses a number of 1 to 5 digits without leading zeros.
 pub(crate) fn number_in(text: &str) -> Option<u32>
     ensures { result ≡ number_in text.now }
 {
@@ -45,7 +45,7 @@ pub(crate) fn number_in(text: &str) -> Option<u32>
     text.parse().ok()
 }
 
-/// Parses such a number in bytes.
+/// Parses a number of that form from bytes.
 pub(crate) fn number_of(text: &[u8]) -> Option<u32>
     ensures { result ≡ number_in text.now }
 {
@@ -58,7 +58,7 @@ pub(crate) fn number_of(text: &[u8]) -> Option<u32>
     }
 }
 
-/// Returns the value of some digits, or `most` if the value is greater.
+/// Returns the value of a run of digits, or `most` if the value is greater.
 pub(crate) fn capped_value(digits: &[u8], most: u32) -> u64
     requires { list_all is_ascii_digit digits.now ≡ true }
     ensures { result ≡ min (digits_value 10 digits.now) most }

@@ -4,29 +4,29 @@ ghost use Rattle.std.specs.Prelude.{◌≡◌, ◌+◌, ◌-◌, ◌^◌, ◌<�
 ghost use Rattle.std.specs.Io.KnownBytes.{Consumes};
 ghost use Rattle.httparse.specs.Spans.{IsRequestOf, IsRequestWithin};
 ghost use Rattle.wire.specs.Requests.{HasRead};
-ghost use Rattle.wire.specs.Heads.{HasNoHead, IsHeadWanting};
+ghost use Rattle.wire.specs.Heads.{HasNoHead, IsHeadIncomplete};
 
 use httparse::Status;
 use httparse::spans::{HeaderSpan, RequestSpans, parse_request};
 use streams::{Broken, Source};
 
-/// The most bytes that a head may have.
+/// The maximum size of a head, in bytes.
 pub const MAX_HEAD_BYTES: usize = 8192;
 
-/// The most headers that a head may have.
+/// The maximum number of headers in a head.
 pub const MAX_HEADERS: usize = 32;
 
-/// The spans of a head in the buffer into which it was read, and how much of the buffer is filled: with the head, and with the
-/// bytes after it.
+/// The spans of a head in the buffer that it was read into, and how much of the buffer is filled by the head and the bytes
+/// after it.
 #[derive(Clone, Copy)]
 pub(crate) struct Front {
     pub spans: RequestSpans,
     pub filled: usize,
 }
 
-/// Reads until a head is complete; returns `None` as soon as it can't become one.
+/// Reads until a head is complete. Returns `None` as soon as it can't become one.
 ///
-/// `Broken` comes only from the source, which counts one failure more, and only while the head isn't complete.
+/// Returns `Broken` only if the source fails while the head is still incomplete; the source's failure count is then one higher.
 pub(crate) fn read_head<R: Source>(
     reader: &mut R,
     buffer: &mut [u8],
@@ -42,7 +42,7 @@ pub(crate) fn read_head<R: Source>(
     ensures none { IfOk result (λ found. IfNone found (IfSome (R.held reader.old) HasNoHead)) }
     ensures ok { OnOk result (R.failed reader.new ≡ R.failed reader.old) }
     ensures err { OnErr result (R.failed reader.new ≡ R.failed reader.old + 1) }
-    ensures wanting { OnErr result (HasRead (R.held reader.old) (R.held reader.new) IsHeadWanting) }
+    ensures wanting { OnErr result (HasRead (R.held reader.old) (R.held reader.new) IsHeadIncomplete) }
 {
     let mut filled = 0;
     'reading: loop {

@@ -10,10 +10,10 @@ use crate::digits::{all_digits, capped_value};
 use crate::request_error::RequestError;
 use httparse::spans::HeaderSpan;
 
-/// The most bytes that a body may have.
+/// The maximum size of a body, in bytes.
 pub const MAX_BODY_BYTES: u32 = 1_048_576;
 
-/// Parses the length of a body; `TooLarge` if it is over the limit.
+/// Parses the length of a body. Returns `TooLarge` if it exceeds the limit.
 fn length_in(text: &[u8]) -> Result<usize, RequestError>
     ensures is { result ≡ length_in text.now }
     ensures fits { IfOk result (λ length. length ≤ MAX_BODY_BYTES) }
@@ -28,14 +28,14 @@ fn length_in(text: &[u8]) -> Result<usize, RequestError>
     Ok(length as usize)
 }
 
-/// Returns whether two header names are equal, ignoring the case of letters.
+/// Returns whether two header names are equal, ignoring case.
 pub(crate) fn is_named(name: &[u8], other: &[u8]) -> bool
     ensures { result ≡ str_eq_ignore_ascii_case name.now other.now }
 {
     name.eq_ignore_ascii_case(other)
 }
 
-/// Returns the value of the header with this name, if there is one; `BadRequest` if there are several.
+/// Returns the value of the header with the given name, if there is one. Returns `BadRequest` if there are several.
 pub(crate) fn value_of<'b>(
     buffer: &'b [u8],
     headers: &[HeaderSpan],
@@ -57,8 +57,8 @@ pub(crate) fn value_of<'b>(
     Ok(found)
 }
 
-/// Returns the length of a body by the header fields, whose names and values are in a buffer. Without a length it is 0. A
-/// transfer coding is an error, and so is more than one length.
+/// Returns the length of a body according to the header fields, which refer to a buffer. The length is 0 if none is sent. A
+/// transfer coding is an error, and so are two lengths.
 pub(crate) fn body_length(buffer: &[u8], headers: &[HeaderSpan]) -> Result<usize, RequestError>
     requires { All (IsHeaderWithin (length buffer.now)) headers.now }
     ensures is { result ≡ body_length (map (header_bytes buffer.now) headers.now) }

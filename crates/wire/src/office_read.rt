@@ -1,20 +1,20 @@
-//! What the officer's console reads, and the target of each read.
+//! The reads of the officer's console, and the target of each.
 
 ghost use Rattle.std.specs.Prelude.{◌≡◌, ◌≤◌, drop, length};
-ghost use Rattle.wire.specs.OfficeTargets.{actor_in, batch_read, behind_digits, leading_number, numbered_read, of_batch, of_ward, read_by, ward_read};
+ghost use Rattle.wire.specs.OfficeTargets.{actor_in, batch_read, after_digits, leading_number, numbered_read, of_batch, of_ward, read_by, ward_read};
 
 use crate::digits::{digits_length, number_of};
 
-/// The prefix of the targets of a ward.
+/// The prefix of a ward's targets.
 const WARDS: &[u8] = b"/office/wards/";
 
-/// The prefix of the targets of a batch.
+/// The prefix of a batch's targets.
 const BATCHES: &[u8] = b"/office/batches/";
 
-/// The prefix of the target of an actor's receipts.
+/// The prefix of the target for an actor's receipts.
 const ACTOR: &[u8] = b"/office/receipts?actor=";
 
-/// What the officer's console reads.
+/// A read of the officer's console.
 #[derive(Clone, Copy, Debug, PartialEq, Eq)]
 pub enum OfficeRead {
     /// All wards, and the number of receipts.
@@ -25,29 +25,29 @@ pub enum OfficeRead {
     Batches { ward: u32 },
     /// The doubtful papers of a ward.
     Doubtful { ward: u32 },
-    /// The papers on which the keyings of a batch differ.
+    /// The papers on which a batch's keyings differ.
     Differences { batch: u32 },
-    /// The papers of a batch, as they count.
+    /// The papers of a batch, and how each counts.
     Papers { batch: u32 },
-    /// The receipts of an actor, or of all.
+    /// The receipts of one actor, or of all actors.
     Receipts { actor: Option<u32> },
 }
 
-/// Returns the number with which a text begins.
-fn leading_number(text: &[u8]) -> Option<u32>
+/// Returns the number at the start of a text.
+pub(crate) fn leading_number(text: &[u8]) -> Option<u32>
     ensures { result ≡ leading_number text.now }
 {
     number_of(&text[..digits_length(text)])
 }
 
-/// Returns what follows the digits with which a text begins.
-fn behind_digits(text: &[u8]) -> &[u8]
-    ensures { result.now ≡ behind_digits text.now }
+/// Returns the rest of a text after its leading digits.
+pub(crate) fn after_digits(text: &[u8]) -> &[u8]
+    ensures { result.now ≡ after_digits text.now }
 {
     &text[digits_length(text)..]
 }
 
-/// Returns what is read of a ward, by what follows its number.
+/// Returns the read of a ward, given the part of the target after its number.
 fn of_ward(rest: &[u8], ward: u32) -> Option<OfficeRead>
     ensures { result ≡ of_ward rest.now ward }
 {
@@ -63,7 +63,7 @@ fn of_ward(rest: &[u8], ward: u32) -> Option<OfficeRead>
     None
 }
 
-/// Returns what is read of a batch, by what follows its number.
+/// Returns the read of a batch, given the part of the target after its number.
 fn of_batch(rest: &[u8], batch: u32) -> Option<OfficeRead>
     ensures { result ≡ of_batch rest.now batch }
 {
@@ -76,27 +76,27 @@ fn of_batch(rest: &[u8], batch: u32) -> Option<OfficeRead>
     None
 }
 
-/// Returns what is read of a ward, by what follows its prefix.
+/// Returns the read of a ward, given the part of the target after the prefix.
 fn ward_read(behind: &[u8]) -> Option<OfficeRead>
     ensures { result ≡ ward_read behind.now }
 {
     match leading_number(behind) {
-        Some(ward) => of_ward(behind_digits(behind), ward),
+        Some(ward) => of_ward(after_digits(behind), ward),
         None => None,
     }
 }
 
-/// Returns what is read of a batch, by what follows its prefix.
+/// Returns the read of a batch, given the part of the target after the prefix.
 fn batch_read(behind: &[u8]) -> Option<OfficeRead>
     ensures { result ≡ batch_read behind.now }
 {
     match leading_number(behind) {
-        Some(batch) => of_batch(behind_digits(behind), batch),
+        Some(batch) => of_batch(after_digits(behind), batch),
         None => None,
     }
 }
 
-/// Parses an actor: 0, the office itself, or a number.
+/// Parses an actor: 0, which is the office itself, or a number.
 fn actor_in(text: &[u8]) -> Option<u32>
     ensures { result ≡ actor_in text.now }
 {
@@ -106,7 +106,7 @@ fn actor_in(text: &[u8]) -> Option<u32>
     number_of(text)
 }
 
-/// Returns what is read at a target that has a number.
+/// Returns the read at a target that contains a number.
 fn numbered_read(target: &[u8]) -> Option<OfficeRead>
     ensures { result ≡ numbered_read target.now }
 {
@@ -125,7 +125,7 @@ fn numbered_read(target: &[u8]) -> Option<OfficeRead>
     None
 }
 
-/// Returns what the console reads at a target, if it reads anything there.
+/// Returns the console's read at a target, if there is one.
 pub(crate) fn read_by(target: &[u8]) -> Option<OfficeRead>
     ensures { result ≡ read_by target.now }
 {

@@ -17,7 +17,7 @@ use serde_json::Value;
 use std::alloc::{AllocError, Global};
 use store::Fault;
 
-/// Returns the response with a reply.
+/// Returns the response for a reply.
 pub(crate) fn replied(alloc: Global, text: &str) -> Response
     ensures { IsTold (reply_response text.now) result }
 {
@@ -29,7 +29,7 @@ pub(crate) fn replied(alloc: Global, text: &str) -> Response
     )
 }
 
-/// Returns the JSON of a value, if the value could be made.
+/// Returns the JSON of a value, unless building the value failed.
 fn value_text(alloc: Global, made: Result<Value, AllocError>) -> Result<String, AllocError>
     ensures { (json : Data) → has_float json ≡ false → IfOk made (λ value. view value ≡ json) → IfOk result (λ text. string_bytes text ≡ compact_text json) }
 {
@@ -39,7 +39,7 @@ fn value_text(alloc: Global, made: Result<Value, AllocError>) -> Result<String, 
     }
 }
 
-/// Returns the response with the JSON of a value, which has no float.
+/// Returns the response with the JSON of a value, which contains no floats.
 pub(crate) fn valued(alloc: Global, made: Result<Value, AllocError>) -> Response
     ensures { (json : Data) → has_float json ≡ false → IfOk made (λ value. view value ≡ json) → IsTold (data_response json) result }
 {
@@ -51,7 +51,7 @@ pub(crate) fn valued(alloc: Global, made: Result<Value, AllocError>) -> Response
     )
 }
 
-/// Returns the response with a refusal.
+/// Returns the response for a refusal.
 pub(crate) fn refused(alloc: Global, why: &Refusal) -> Response
     ensures { IsTold (refused_for why.now) result }
 {
@@ -59,7 +59,7 @@ pub(crate) fn refused(alloc: Global, why: &Refusal) -> Response
     Response::made(alloc, StatusCode::CONFLICT, Content::Json, body)
 }
 
-/// Returns the response with a fault.
+/// Returns the response for a fault.
 pub(crate) fn faulted(alloc: Global, fault: Fault) -> Response
     ensures { IsTold (fault_response (fault_number fault)) result }
 {

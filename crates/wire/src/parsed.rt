@@ -1,4 +1,4 @@
-//! A parsed request: its head is parsed once, and everything but the text of the body is decided from the result.
+//! A parsed request. The head is parsed once, and the result determines everything except the text of the body.
 
 ghost use Rattle.std.specs.Prelude.{◌≡◌, ◌≤◌, ◌++◌, IfOk, IfSome, List, Some, ℕ, length, map, option_map, take};
 ghost use Rattle.httparse.specs.Spans.{IsRequestWithin, header_bytes, span_bytes};
@@ -8,16 +8,18 @@ ghost use Rattle.wire.specs.Completeness.{IsCompletenessOf};
 ghost use Rattle.wire.specs.Parsing.{IsParsed, Says, needed, read_in};
 ghost use Rattle.wire.specs.declared.target.Resource.{Resource};
 
-use crate::authentication::{Authentication, account_at, authentication_by, kept_out};
+use crate::authentication::{
+    Authentication, account_at, authentication_by, authentication_failure,
+};
 use crate::body::{KeyingBody, keying_of};
 use crate::completeness::Completeness;
 use crate::console_order::order_of;
 use crate::head::{MAX_HEAD_BYTES, MAX_HEADERS};
 use crate::length::{MAX_BODY_BYTES, body_length};
 use crate::origin::is_foreign;
-use crate::request::{HttpRequest, Keying, asked_for, console_at, page_at, served_at};
+use crate::request::{HttpRequest, Keying, asked_for, console_at, page_at, public_at, served_at};
 use crate::request_error::RequestError;
-use crate::settings::{HttpSettings, Show};
+use crate::settings::{FixedPage, HttpSettings};
 use crate::target::{OfficeTarget, Resource, Routes, Target};
 use httparse::Status;
 use httparse::spans::{EMPTY_HEADER_SPAN, HeaderSpan, RequestSpans, parse_request};
@@ -26,28 +28,28 @@ use std::alloc::{AllocError, Global};
 /// A parsed head.
 #[derive(Clone, Copy)]
 pub struct Head {
-    /// What is asked for, or why the request is rejected.
+    /// What is requested, or why the request is rejected.
     pub(crate) wanted: Result<Target, RequestError>,
-    /// The authentication; `None` if the request needs no code, or comes from elsewhere.
+    /// The authentication; `None` if the request needs no code or comes from another site.
     pub(crate) authentication: Option<Authentication>,
     /// The length of the body in bytes, or why it isn't accepted.
     pub(crate) body: Result<usize, RequestError>,
-    /// The length of the head itself, in bytes.
+    /// The length of the head, in bytes.
     pub(crate) size: usize,
 }
 
-/// The result of parsing the bytes that were received of a request.
+/// The result of parsing the bytes received so far.
 #[derive(Clone, Copy)]
 pub enum Parsed {
     /// The head is complete.
     Head(Head),
     /// The head isn't complete yet.
     Partial,
-    /// There is no head, whatever follows.
+    /// The bytes don't begin with a head, whatever follows them.
     Malformed,
 }
 
-/// Parses a clerk's keying of a batch, by the length of its body and the bytes that follow the head.
+/// Parses a clerk's keying of a batch, given the length of its body and the bytes that follow the head.
 fn keying_in<'a>(
     alloc: Global,
     clerk: u32,
@@ -76,7 +78,7 @@ fn keying_in<'a>(
     }
 }
 
-/// Parses an order of the office, by the length of its body and the bytes that follow the head.
+/// Parses an order from the office, given the length of its body and the bytes that follow the head.
 fn order_in<'a>(
     alloc: Global,
     body: Result<usize, RequestError>,
@@ -98,7 +100,7 @@ fn order_in<'a>(
 }
 
 impl Head {
-    /// Returns what the head in a buffer says, by the spans of its parts there.
+    /// Returns what the head in a buffer says, given the spans of its parts.
     pub(crate) fn found(
         settings: HttpSettings<'_>,
         routes: &Routes,
@@ -122,14 +124,11 @@ impl Head {
         }
         let target = spans.path.of(read);
         let account = account_at(settings.gate, target);
-        let why = kept_out(settings.gate, account, read, headers);
+        let why = authentication_failure(settings.gate, account, read, headers);
         let authentication = authentication_by(settings.gate, account, why);
         let wanted = match why {
             Some(why) => Err(why),
-            None => asked_for(
-                spans.method.of(read),
-                served_at(settings.gate, routes, target),
-            ),
+            None => asked_for(spans.method.of(read), served_at(settings, routes, target)),
         };
         Head {
             wanted,
@@ -139,30 +138,33 @@ impl Head {
         }
     }
 
-    /// Returns what is asked by this head and the bytes that follow it. The only error is a failed allocation.
+    /// Returns what this head and the bytes after it ask for. The only error is a failed allocation.
     pub(crate) fn asked_with<'a>(
         &self,
         alloc: Global,
         settings: HttpSettings<'a>,
         behind: &[u8],
     ) -> Result<HttpRequest<'a>, AllocError>
-        ensures { IfOk result (λ asked. http_request_entry asked ≡ asked_of (settings_entry settings.entry).gate self.now.wanted self.now.body behind.now) }
+        ensures { IfOk result (λ asked. http_request_entry asked ≡ asked_of (settings_entry settings.entry).gate (settings_entry settings.entry).public self.now.wanted self.now.body behind.now) }
     {
         match self.wanted {
             Ok(Target::Keying { clerk, batch }) => {
                 keying_in(alloc, clerk, batch, self.body, behind)
             }
             Ok(Target::Page { clerk }) => Ok(page_at(settings.gate, clerk)),
-            Ok(Target::Leave { clerk }) => Ok(HttpRequest::Shown(clerk, Show::Left)),
+            Ok(Target::Leave { clerk }) => Ok(HttpRequest::ClerkPage(clerk, FixedPage::SignedOut)),
             Ok(Target::Resource(what)) => Ok(HttpRequest::Resource(what)),
             Ok(Target::Office(OfficeTarget::ConsolePage)) => Ok(console_at(settings.gate)),
-            Ok(Target::Office(OfficeTarget::Leave)) => Ok(HttpRequest::ConsolePage(Show::Left)),
+            Ok(Target::Office(OfficeTarget::Leave)) => Ok(HttpRequest::ConsolePage(
+                FixedPage::SignedOut,
+            )),
             Ok(Target::Office(OfficeTarget::Orders)) => order_in(alloc, self.body, behind),
+            Ok(Target::Public(what)) => Ok(public_at(settings.public, what)),
             Err(why) => Ok(HttpRequest::Denied(why)),
         }
     }
 
-    /// Returns the resource that is read, if the request is a read.
+    /// Returns the resource to read, if the request is a read.
     fn reading(&self) -> Option<Resource>
         ensures { result ≡ read_in self.now.wanted }
     {
@@ -172,7 +174,8 @@ impl Head {
         }
     }
 
-    /// Returns how many bytes after the head are needed to know what is asked: the body of a keying or an order, and otherwise none.
+    /// Returns how many bytes after the head are needed to know what is requested: the length of the body for a keying or an
+    /// order, otherwise 0.
     fn needed(&self) -> usize
         ensures { result ≡ needed self.now.wanted self.now.body }
     {
@@ -186,9 +189,9 @@ impl Head {
     }
 }
 
-/// Parses the head of a request of which these bytes were received. Allocates nothing.
+/// Parses the head of a request, given the bytes received so far. Allocates nothing.
 ///
-/// If there are as many bytes as a head may have, more bytes don't change the result.
+/// Once there are as many bytes as a head may have, further bytes don't change the result.
 pub fn parse(settings: HttpSettings<'_>, routes: &Routes, got: &[u8]) -> Parsed
     ensures is { IsParsed (settings_entry settings.entry) got.now result }
     ensures lasts { MAX_HEAD_BYTES ≤ length got.now → (more : List ℕ) → IsParsed (settings_entry settings.entry) (got.now ++ more) result }
@@ -206,9 +209,9 @@ pub fn parse(settings: HttpSettings<'_>, routes: &Routes, got: &[u8]) -> Parsed
 }
 
 impl Parsed {
-    /// Returns whether the request is complete, if `come` bytes of it were received.
+    /// Returns whether the request is complete once `come` bytes of it have been received.
     ///
-    /// The bytes of a complete request ask the same, whatever follows them.
+    /// What a complete request asks for doesn't depend on the bytes that follow it.
     pub fn completeness_of(&self, come: usize) -> Completeness
         ensures { (its : HttpSettingsEntry) (got : List ℕ) → length got ≡ come → IsParsed its got self.now → IsCompletenessOf its got result }
     {
@@ -226,8 +229,8 @@ impl Parsed {
         }
     }
 
-    /// Returns the authentication of the request: the account whose code it needs, and whether its code is wrong. `None` if it needs
-    /// no code, comes from elsewhere, or has no complete head.
+    /// Returns the authentication of the request: the account whose code it needs, and whether the code it carries is wrong.
+    /// `None` if it needs no code, comes from another site, or has no complete head.
     pub fn authentication(&self) -> Option<Authentication>
         ensures { (its : HttpSettingsEntry) (got : List ℕ) → IsParsed its got self.now → IsAuthentication its got (option_map authentication_entry result) }
     {
@@ -250,7 +253,7 @@ impl Parsed {
         }
     }
 
-    /// Returns what the request asks, by the bytes that were parsed. The only error is a failed allocation.
+    /// Returns what the request asks for, given the bytes that were parsed. The only error is a failed allocation.
     pub fn asked<'a>(
         &self,
         alloc: Global,
@@ -268,11 +271,11 @@ impl Parsed {
         }
     }
 
-    /// Returns how many bytes of the body are still to come, after so many bytes of the request. That is what the head says of the
-    /// body's length, or 1 MiB if that length isn't accepted. Without a complete head it is 0.
+    /// Returns how many bytes of the body are still missing once `come` bytes of the request have been received. The length of
+    /// the body is the length stated in the head, or 1 MiB if that isn't accepted. Returns 0 if there is no complete head.
     ///
-    /// The server reads that many bytes more before it closes the connection. Otherwise the system would reset the connection,
-    /// and a proxy would report that instead of the response.
+    /// The server reads that many more bytes before it closes the connection. Otherwise the system would reset the connection,
+    /// and a proxy would report the reset instead of the response.
     pub fn body_to_come(&self, come: usize) -> usize
         ensures { (its : HttpSettingsEntry) (got : List ℕ) → IsParsed its got self.now → result ≤ MAX_BODY_BYTES }
     {

@@ -9,7 +9,7 @@ use streams::Broken;
 /// Why a request couldn't be read.
 #[derive(Clone, Copy, PartialEq, Eq)]
 pub enum ReadFailure {
-    /// The source failed, and counts one failure more.
+    /// The source failed; its failure count is one higher.
     Broken,
     /// An allocation failed.
     Memory,

@@ -1,4 +1,4 @@
-//! What the officer's console reads: each read of the office, and the response.
+//! The reads of the officer's console: what each asks the office, and its response.
 
 ghost use Rattle.std.specs.Prelude.{◌≡◌, false, true};
 ghost use Rattle.sqlite.specs.State.{HasCleanDisk};
@@ -37,8 +37,9 @@ use std::alloc::Global;
 use store::Fault;
 use ward::answer_ward;
 use wards::answer_wards;
+pub(crate) use wards::phase_word;
 
-/// Reads for the officer's console, and returns the response. A closed office stays as it is.
+/// Performs a read for the officer's console, and returns the response. A closed office stays as it is.
 pub(crate) fn answer_office<S: Alter>(
     alloc: Global,
     office: &mut Office<S>,

@@ -12,18 +12,18 @@ pub enum Verb {
 /// Why a request is rejected before the office is asked.
 #[derive(Clone, Copy, Debug, PartialEq, Eq)]
 pub enum RequestError {
-    /// Its head can't be read, the length of its body isn't known, or the body isn't a keying or an order.
+    /// Its head can't be parsed, the length of its body isn't known, or the body isn't a keying or an order.
     BadRequest,
-    /// A page from elsewhere sent it, or it came by a foreign name.
+    /// A page from another site sent it, or it was addressed to a foreign host name.
     Forbidden,
     /// Its target names nothing that is served.
     NotFound,
-    /// Its target is served by another method.
+    /// Its target is served only with another method.
     MethodNotAllowed { allowed: Verb },
-    /// Its body is longer than the limit.
+    /// Its body exceeds the size limit.
     TooLarge,
-    /// It needs this account's code, and has none.
+    /// It needs this account's code, but carries none.
     Unauthorized(Account),
-    /// It needs this account's code, and has another, or several.
+    /// It needs this account's code, but carries a different one, or several.
     WrongCode(Account),
 }

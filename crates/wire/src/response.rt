@@ -5,12 +5,12 @@ ghost use Rattle.wire.specs.Told.{IsTold, IsWritten, told_bytes};
 ghost use Rattle.wire.specs.Requests.{has_left, show_entry};
 ghost use Rattle.wire.specs.Gates.{page_entry};
 ghost use Rattle.wire.specs.Responses.{account_kept_out, code_line, denied_response, fault_response, guard_lines, lines_and_body};
-ghost use Rattle.wire.specs.Responses.{media_type, nothing, order_response, phrase, realm_of, response_bytes, shown_response, unauthorized_response, waits_response};
+ghost use Rattle.wire.specs.Responses.{media_type, nothing, order_response, phrase, printed_response, realm_of, response_bytes, shown_response, unauthorized_response, waits_response};
 
 use crate::account::Account;
 use crate::bodies::order_body;
 use crate::request_error::{RequestError, Verb};
-use crate::settings::{Page, Show};
+use crate::settings::{FixedPage, Page};
 use http::StatusCode;
 use std::alloc::{AllocError, Global};
 
@@ -22,7 +22,7 @@ pub(crate) enum Content {
     Html,
 }
 
-/// The bytes of a response; constant ones need no allocation.
+/// The bytes of a response. Constant ones need no allocation.
 #[derive(Drop)]
 pub(crate) enum Bytes {
     Fixed(&'static str),
@@ -48,7 +48,7 @@ pub struct Response {
     pub(crate) bytes: Bytes,
 }
 
-/// The responses to requests that are rejected before the office is asked.
+/// The responses to requests rejected before the office is asked.
 const BAD_REQUEST: &str =
     "HTTP/1.1 400 Bad Request\r\nContent-Type: application/json\r\nContent-Length: 23\r\nConnection: close\r\n\r\n{\"error\":\"bad request\"}";
 
@@ -67,11 +67,11 @@ const ONLY_POST: &str =
 const TOO_LARGE: &str =
     "HTTP/1.1 413 Payload Too Large\r\nContent-Type: application/json\r\nContent-Length: 21\r\nConnection: close\r\n\r\n{\"error\":\"too large\"}";
 
-/// The response to a client that must wait.
+/// The response to a rate-limited client.
 const WAITS: &str =
     "HTTP/1.1 429 Too Many Requests\r\nContent-Type: application/json\r\nContent-Length: 32\r\nRetry-After: 60\r\nConnection: close\r\n\r\n{\"error\":\"too many wrong codes\"}";
 
-/// The response while the file of the office is gone or replaced.
+/// The response when the file of the office is gone or replaced.
 const GONE: &str =
     "HTTP/1.1 503 Service Unavailable\r\nContent-Type: application/json\r\nContent-Length: 13\r\nConnection: close\r\n\r\n{\"fault\":113}";
 
@@ -80,17 +80,21 @@ const OUTPUT_FAILED: &str =
     "HTTP/1.1 503 Service Unavailable\r\nContent-Type: application/json\r\nContent-Length: 13\r\nConnection: close\r\n\r\n{\"fault\":107}";
 
 /// The response to signing out.
-const LEFT: &str =
+const SIGNED_OUT: &str =
     "HTTP/1.1 200 OK\r\nContent-Type: application/json\r\nContent-Length: 13\r\nClear-Site-Data: \"cookies\"\r\nCache-Control: no-store\r\nConnection: close\r\n\r\n{\"left\":true}";
 
-/// The response to a request without a code, or with a wrong one.
+/// The response to a request without a code or with the wrong one.
 const NO_CODE: &str = "{\"error\":\"unauthorized\"}";
 
-/// The response after a failed allocation; it is constant, so it needs none itself.
+/// The response when an allocation failed. It is constant, so it needs no allocation itself.
 const NO_MEMORY: &str =
     "HTTP/1.1 503 Service Unavailable\r\nContent-Type: application/json\r\nContent-Length: 13\r\nConnection: close\r\n\r\n{\"fault\":101}";
 
-/// Returns the response to a request with another method than the one that is served.
+/// The content security policy of a page printed by an order: the page has its own styles, and no script.
+const PRINTED_POLICY: &str =
+    "default-src 'none'; style-src 'unsafe-inline'; base-uri 'none'; form-action 'none'; frame-ancestors 'none'";
+
+/// Returns the response to a request with a method that the target doesn't allow.
 fn only_text(allowed: Verb) -> &'static str
     ensures { result.now ≡ response_bytes (denied_response (RequestError.MethodNotAllowed allowed)) }
 {
@@ -162,7 +166,7 @@ fn phrase(status: StatusCode) -> &'static str
     }
 }
 
-/// Returns what names an account in a realm.
+/// Returns the text that identifies an account in a realm.
 fn realm_of(alloc: Global, account: Account) -> Result<String, AllocError>
     ensures { IfOk result (λ text. string_bytes text ≡ realm_of account) }
 {
@@ -173,7 +177,7 @@ fn realm_of(alloc: Global, account: Account) -> Result<String, AllocError>
 }
 
 #[tactic(auto, unfolding(crate::specs::Responses::code_line))]
-/// Returns the header line that asks for the code of a realm.
+/// Returns the header line that requests the code for a realm.
 fn code_line(alloc: Global, realm: &str) -> Result<String, AllocError>
     ensures { IfOk result (λ text. string_bytes text ≡ code_line realm.now) }
 {
@@ -181,7 +185,7 @@ fn code_line(alloc: Global, realm: &str) -> Result<String, AllocError>
 }
 
 #[tactic(auto, unfolding(crate::specs::Responses::guard_lines))]
-/// Returns the header lines that restrict what a browser lets a page do.
+/// Returns the header lines that restrict what a page may do in the browser.
 fn guard_lines(alloc: Global, policy: &str) -> Result<String, AllocError>
     ensures { IfOk result (λ text. string_bytes text ≡ guard_lines policy.now) }
 {
@@ -194,7 +198,7 @@ Cache-Control: no-store\r\n"
 }
 
 #[tactic(auto, unfolding(crate::specs::Responses::lines_and_body))]
-/// Returns a response with a status, further header lines, an empty line, and a body. The only error is a failed allocation.
+/// Returns a response with a status, additional header lines, an empty line and a body. The only error is a failed allocation.
 fn response_with(
     alloc: Global,
     status: StatusCode,
@@ -223,7 +227,7 @@ pub(crate) fn response_text(
     response_with(alloc, status, content, "", body)
 }
 
-/// Returns the response that asks for an account's code.
+/// Returns the response that requests an account's code.
 fn unauthorized_text(alloc: Global, account: Account) -> Result<String, AllocError>
     ensures { IfOk result (λ text. string_bytes text ≡ response_bytes (unauthorized_response account)) }
 {
@@ -238,9 +242,9 @@ fn unauthorized_text(alloc: Global, account: Account) -> Result<String, AllocErr
     )
 }
 
-/// Returns the response that is a page.
+/// Returns the response that serves a page.
 fn page_response_text(alloc: Global, page: Page<'_>) -> Result<String, AllocError>
-    ensures { IfOk result (λ text. string_bytes text ≡ response_bytes (shown_response (show_entry (Show.Page page.entry)))) }
+    ensures { IfOk result (λ text. string_bytes text ≡ response_bytes (shown_response (show_entry (FixedPage.Page page.entry)))) }
 {
     let beside = guard_lines(alloc, page.policy)?;
     response_with(
@@ -253,7 +257,7 @@ fn page_response_text(alloc: Global, page: Page<'_>) -> Result<String, AllocErro
 }
 
 impl Response {
-    /// Returns the response with this status and text, or the out-of-memory response if the text couldn't be allocated.
+    /// Returns the response with the given status and text, or the out-of-memory response if the text couldn't be allocated.
     fn of_text(status: u16, text: Result<String, AllocError>) -> Response
         ensures told { IfOk text (λ made. (result.status ≡ status) × (told_bytes result.bytes ≡ string_bytes made)) }
         ensures memory { OnErr text (IsWritten (fault_response 101) result) }
@@ -280,27 +284,35 @@ impl Response {
         }
     }
 
-    /// Returns the response to signing out.
+    /// Returns the response to a sign-out.
     fn left() -> Response
         ensures { IsWritten (shown_response has_left) result }
     {
         Response {
             status: 200,
-            bytes: Bytes::Fixed(LEFT),
+            bytes: Bytes::Fixed(SIGNED_OUT),
         }
     }
 
-    /// Returns the response that shows a page, or that somebody is signed out; or the out-of-memory response if the allocation fails.
-    pub(crate) fn shown(alloc: Global, show: Show<'_>) -> Response
+    /// Returns the response that shows a page or confirms a sign-out; or the out-of-memory response if the allocation fails.
+    pub(crate) fn shown(alloc: Global, show: FixedPage<'_>) -> Response
         ensures { IsTold (shown_response (show_entry show.entry)) result }
     {
         match show {
-            Show::Page(page) => Response::of_text(200, page_response_text(alloc, page)),
-            Show::Left => Response::left(),
+            FixedPage::Page(page) => Response::of_text(200, page_response_text(alloc, page)),
+            FixedPage::SignedOut => Response::left(),
         }
     }
 
-    /// Returns the response to a client that must wait.
+    /// Returns the response for a page that an order prints, or the out-of-memory response if the allocation fails.
+    pub(crate) fn printed(alloc: Global, text: &str) -> Response
+        ensures { IsTold (printed_response text.now) result }
+    {
+        let policy = PRINTED_POLICY;
+        Response::of_text(200, page_response_text(alloc, Page { text, policy }))
+    }
+
+    /// Returns the response to a rate-limited client.
     pub(crate) fn waits() -> Response
         ensures { IsWritten waits_response result }
     {
@@ -310,7 +322,7 @@ impl Response {
         }
     }
 
-    /// Returns the response while the file of the office is gone or replaced.
+    /// Returns the response when the file of the office is gone or replaced.
     pub(crate) fn gone() -> Response
         ensures { IsWritten (fault_response 113) result }
     {
@@ -320,7 +332,7 @@ impl Response {
         }
     }
 
-    /// Returns the response to an order whose output isn't UTF-8, so that it can't be sent (107).
+    /// Returns the response to an order whose output isn't UTF-8, and so can't be sent (107).
     pub fn output_failed() -> Response
         ensures { IsWritten (fault_response 107) result }
     {
@@ -340,8 +352,8 @@ impl Response {
         }
     }
 
-    /// Returns the response with the outcome of an order: its status, and what it printed. Or the out-of-memory response, if an
-    /// allocation failed.
+    /// Returns the response for the outcome of an order: its status, and what it printed. Returns the out-of-memory response if
+    /// an allocation failed.
     pub fn of_order(alloc: Global, status: u8, output: &str, errors: &str) -> Response
         ensures { IsTold (order_response status output.now errors.now) result }
     {

@@ -5,7 +5,7 @@ ghost use Rattle.sqlite.specs.State.{HasCleanDisk};
 ghost use Rattle.sqlite.specs.Held.{state};
 ghost use Rattle.register.specs.Offices.{OfficeState};
 ghost use Rattle.store.specs.StateTables.{IsAt};
-ghost use Rattle.wire.specs.Requests.{HasRead, IsWanting, http_request_entry};
+ghost use Rattle.wire.specs.Requests.{HasRead, IsIncomplete, http_request_entry};
 ghost use Rattle.wire.specs.Gates.{settings_entry};
 ghost use Rattle.wire.specs.Responses.{fault_response, waits_response};
 ghost use Rattle.wire.specs.Told.{IsTold, IsWritten};
@@ -24,17 +24,18 @@ use streams::{Sink, Source, put_all};
 /// How serving a connection ended.
 #[derive(Clone, Copy, Debug, PartialEq, Eq)]
 pub enum Served {
-    /// A response with this status was written whole.
+    /// A complete response with this status was written.
     Answered(u16),
     /// The reader failed: nothing was written, and the office wasn't asked.
     ReadFailed,
-    /// The writer failed: a beginning of the response was written.
+    /// The writer failed: only a prefix of the response was written.
     WriteFailed,
 }
 
 /// Writes a response.
 ///
-/// `WriteFailed` comes only from the writer, which counts one failure more: a beginning of the response was written.
+/// Returns `WriteFailed` only if the writer failed; the writer's failure count is then one higher, and a prefix of the response
+/// was written.
 pub fn write_response<W: Sink>(writer: &mut W, response: &Response) -> Served
     requires { W.failed writer.old < 2 ^ 64 - 1 }
     ensures puts { IsPut (W.taken writer.old) (W.taken writer.new) response.now result }
@@ -47,9 +48,10 @@ pub fn write_response<W: Sink>(writer: &mut W, response: &Response) -> Served
     }
 }
 
-/// Writes that the client must wait, because the limit of wrong codes is reached.
+/// Writes the response that tells the client to wait because the limit on wrong codes is reached.
 ///
-/// `WriteFailed` comes only from the writer, which counts one failure more: a beginning of the response was written.
+/// Returns `WriteFailed` only if the writer failed; the writer's failure count is then one higher, and a prefix of the response
+/// was written.
 pub fn write_wait_response<W: Sink>(writer: &mut W) -> Served
     requires { W.failed writer.old < 2 ^ 64 - 1 }
     ensures told { IsServed (IsWritten waits_response) (W.taken writer.old) (W.taken writer.new) result }
@@ -59,9 +61,10 @@ pub fn write_wait_response<W: Sink>(writer: &mut W) -> Served
     write_response(writer, &Response::waits())
 }
 
-/// Writes that the file of the office is gone or replaced (113).
+/// Writes the response saying that the file of the office is gone or replaced (113).
 ///
-/// `WriteFailed` comes only from the writer, which counts one failure more: a beginning of the response was written.
+/// Returns `WriteFailed` only if the writer failed; the writer's failure count is then one higher, and a prefix of the response
+/// was written.
 pub fn write_gone_response<W: Sink>(writer: &mut W) -> Served
     requires { W.failed writer.old < 2 ^ 64 - 1 }
     ensures told { IsServed (IsWritten (fault_response 113)) (W.taken writer.old) (W.taken writer.new) result }
@@ -71,9 +74,10 @@ pub fn write_gone_response<W: Sink>(writer: &mut W) -> Served
     write_response(writer, &Response::gone())
 }
 
-/// Writes that an allocation failed (101).
+/// Writes the response saying that an allocation failed (101).
 ///
-/// `WriteFailed` comes only from the writer, which counts one failure more: a beginning of the response was written.
+/// Returns `WriteFailed` only if the writer failed; the writer's failure count is then one higher, and a prefix of the response
+/// was written.
 pub fn write_no_memory_response<W: Sink>(writer: &mut W) -> Served
     requires { W.failed writer.old < 2 ^ 64 - 1 }
     ensures told { IsServed (IsWritten (fault_response 101)) (W.taken writer.old) (W.taken writer.new) result }
@@ -83,10 +87,10 @@ pub fn write_no_memory_response<W: Sink>(writer: &mut W) -> Served
     write_response(writer, &Response::no_memory())
 }
 
-/// Processes a request in the office, and writes the response.
+/// Processes a request in the office and writes the response.
 ///
-/// `WriteFailed` comes only from the writer, which counts one failure more: a beginning of the response was written, and the
-/// office's answer remains valid. A closed office stays as it is.
+/// Returns `WriteFailed` only if the writer failed; the writer's failure count is then one higher, a prefix of the response was
+/// written, and the office's answer remains valid. A closed office stays as it is.
 pub fn respond<W: Sink, S: Alter>(
     alloc: Global,
     asked: HttpRequest<'_>,
@@ -109,18 +113,19 @@ pub fn respond<W: Sink, S: Alter>(
 
 /// Serves one connection: reads a request, processes it in the office, and writes the response.
 ///
-/// `Answered`: the response to what the reader's bytes ask was written whole, the office is at the state after it, and neither
-/// the reader nor the writer failed. After a fault of the office the response is that fault (503). The office is then as it was;
-/// or it is closed, and a stop leaves the state before the request or, of an accepted one, the state after it. The response is
-/// 101 (503) if an allocation failed: for the request, which then wasn't sent to the office; for the response, and then the
-/// office is at the state after the request; or in the office, like any fault.
+/// `Answered`: the response to the request in the reader's bytes was written completely, the office is in the state after the
+/// request, and neither the reader nor the writer failed. After a fault of the office, the response is that fault (503). The
+/// office is then as it was; or it is closed, and a stop leaves the state before the request or, if the request was accepted,
+/// the state after it. The response is 101 (503) if an allocation failed. If that was for the request, it wasn't sent to the
+/// office; if it was for the response, the office is in the state after the request. If it was in the office, it is a fault
+/// like any other.
 ///
-/// `ReadFailed` comes only from the reader, which counts one failure more, and only while what was read doesn't say yet what is
-/// asked. A failed read gets no response: nothing was written, and the office is as it was. `WriteFailed` comes only from the
-/// writer, which counts one failure more, while the reader counts none. A beginning of the response was written, the write isn't
-/// repeated, and the office's answer remains valid. A closed office, if it is asked anything, answers that it is closed, 104
-/// (503), and stays as it is. The response to a rejected request, such as one of a page from elsewhere, is the same at every
-/// state, and so is a page that is shown.
+/// Returns `ReadFailed` only if the reader failed while the bytes read so far didn't determine what is requested; the reader's
+/// failure count is then one higher. There is no response to a failed read: nothing was written, and the office is as it was.
+/// Returns `WriteFailed` only if the writer failed; its failure count is then one higher, and the reader's is unchanged. A
+/// prefix of the response was written, the write isn't repeated, and the office's answer remains valid. A closed office
+/// responds to everything it is asked with the fault for a closed office, 104 (503), and stays as it is. The response to a
+/// rejected request, such as one from a page on another site, is the same in every state, and so is a page that is shown.
 pub fn serve_one<R: Source, W: Sink, S: Alter>(
     alloc: Global,
     settings: HttpSettings<'_>,
@@ -133,7 +138,7 @@ pub fn serve_one<R: Source, W: Sink, S: Alter>(
     ensures served { HasCleanDisk (state S.Store office.new.held) → office.old.closed ≡ false → (s : OfficeState) → IsAt s (state S.Store office.old.held)
         → Serves (settings_entry settings.entry) (R.held reader.old) (W.taken writer.old) (W.taken writer.new) s result office.new.closed (state S.Store office.new.held) }
     ensures read_failed { OnReadFailed result ((R.failed reader.new ≡ R.failed reader.old + 1) × (writer.new ≡ writer.old) × (office.new ≡ office.old)) }
-    ensures wanting { OnReadFailed result (HasRead (R.held reader.old) (R.held reader.new) (IsWanting (settings_entry settings.entry))) }
+    ensures wanting { OnReadFailed result (HasRead (R.held reader.old) (R.held reader.new) (IsIncomplete (settings_entry settings.entry))) }
     ensures answered { OnAnswered result ((R.failed reader.new ≡ R.failed reader.old) × (W.failed writer.new ≡ W.failed writer.old)) }
     ensures write_failed { OnWriteFailed result ((R.failed reader.new ≡ R.failed reader.old) × (W.failed writer.new ≡ W.failed writer.old + 1)) }
     ensures closed { office.old.closed ≡ true → office.new ≡ office.old }

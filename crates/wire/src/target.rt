@@ -1,12 +1,14 @@
-//! What the target of a request names.
+//! What a request's target names.
 
 ghost use Rattle.std.specs.Prelude.{◌≡◌, IfOk};
 ghost use Rattle.matchit.specs.Params.{AllText};
 ghost use Rattle.wire.specs.OfficeTargets.{read_by};
-ghost use Rattle.wire.specs.Targets.{named_at, named_by, office_by, office_routes, parameter, read_or_routed, routed_by, taken_by};
+ghost use Rattle.wire.specs.PublicTargets.{public_by};
+ghost use Rattle.wire.specs.Targets.{named_at, named_by, office_by, office_routes, parameter, public_or_routed, read_or_other, routed_by, taken_by};
 
 use crate::digits::number_in;
 use crate::office_read::{OfficeRead, read_by};
+use crate::public_target::{PublicTarget, public_by};
 use matchit::{InsertError, Params, Router};
 use std::alloc::{AllocError, Global};
 use std::str;
@@ -14,49 +16,54 @@ use std::str;
 /// A resource that can be read.
 #[derive(Clone, Copy, Debug, PartialEq, Eq)]
 pub enum Resource {
-    /// The batches that a clerk is to key.
+    /// The batches that a clerk has been given to key.
     Work { clerk: u32 },
     /// The candidates on the papers of a batch that a clerk keys.
     Candidates { clerk: u32, batch: u32 },
+    /// What a clerk keyed for a batch in an earlier round.
+    Keyed { clerk: u32, batch: u32 },
     /// The stage sheet of a ward.
     Sheet { ward: u32 },
     /// The declaration of a ward.
     Declaration { ward: u32 },
-    /// What the officer's console reads.
+    /// A read of the officer's console.
     Office(OfficeRead),
 }
 
-/// What a target of the officer's console names.
+/// What a target on the officer's console names.
 #[derive(Clone, Copy, Debug, PartialEq, Eq)]
 pub(crate) enum OfficeTarget {
     /// The console.
     ConsolePage,
-    /// The signing out of the office.
+    /// Signing the office out.
     Leave,
-    /// The orders, to be sent.
+    /// Where orders are submitted.
     Orders,
 }
 
 /// What a target names.
 #[derive(Clone, Copy)]
 pub(crate) enum Target {
-    /// A clerk's keying of a batch, to be sent.
+    /// Where a clerk's keying of a batch is submitted.
     Keying { clerk: u32, batch: u32 },
     /// The page on which a clerk keys.
     Page { clerk: u32 },
-    /// The signing out of a clerk.
+    /// Signing a clerk out.
     Leave { clerk: u32 },
     /// A resource that can be read.
     Resource(Resource),
-    /// Something of the officer's console.
+    /// A part of the officer's console.
     Office(OfficeTarget),
+    /// Something that is shown in public.
+    Public(PublicTarget),
 }
 
-/// Where a route leads.
+/// The destination of a route.
 #[derive(Clone, Copy)]
 enum RouteTarget {
     Keying,
     Candidates,
+    Keyed,
     Page,
     Leave,
     Work,
@@ -64,7 +71,7 @@ enum RouteTarget {
     Declaration,
 }
 
-/// Returns the router with the seven routes.
+/// Returns the router with the eight routes.
 fn office_router(alloc: Global) -> Result<Router<RouteTarget>, InsertError>
     ensures { IfOk result (λ router. router ≡ office_routes) }
 {
@@ -75,6 +82,7 @@ fn office_router(alloc: Global) -> Result<Router<RouteTarget>, InsertError>
         "/clerks/{c}/batches/{b}/candidates",
         RouteTarget::Candidates,
     )?;
+    router.insert("/clerks/{c}/batches/{b}/keyed", RouteTarget::Keyed)?;
     router.insert("/clerks/{c}/", RouteTarget::Page)?;
     router.insert("/clerks/{c}/leave", RouteTarget::Leave)?;
     router.insert("/wards/{w}/sheet", RouteTarget::Sheet)?;
@@ -82,7 +90,7 @@ fn office_router(alloc: Global) -> Result<Router<RouteTarget>, InsertError>
     Ok(router)
 }
 
-/// Returns the number in a parameter, if it has one.
+/// Returns the number in a parameter, if it is one.
 fn parameter(params: &Params<'_, '_>, name: &str) -> Option<u32>
     requires { AllText (taken_by params.now) }
     ensures { result ≡ parameter name.now (taken_by params.now) }
@@ -90,7 +98,7 @@ fn parameter(params: &Params<'_, '_>, name: &str) -> Option<u32>
     number_in(params.get(name)?)
 }
 
-/// Returns what a target names, by its route and its parameters.
+/// Returns what a target names, given its route and its parameters.
 fn named_at(place: RouteTarget, params: &Params<'_, '_>) -> Option<Target>
     requires { AllText (taken_by params.now) }
     ensures { result ≡ named_at place (taken_by params.now) }
@@ -105,6 +113,11 @@ fn named_at(place: RouteTarget, params: &Params<'_, '_>) -> Option<Target>
             let clerk = parameter(params, "c")?;
             let batch = parameter(params, "b")?;
             Some(Target::Resource(Resource::Candidates { clerk, batch }))
+        }
+        RouteTarget::Keyed => {
+            let clerk = parameter(params, "c")?;
+            let batch = parameter(params, "b")?;
+            Some(Target::Resource(Resource::Keyed { clerk, batch }))
         }
         RouteTarget::Page => {
             let clerk = parameter(params, "c")?;
@@ -129,7 +142,7 @@ fn named_at(place: RouteTarget, params: &Params<'_, '_>) -> Option<Target>
     }
 }
 
-/// Returns what of the officer's console a target names, if it names anything there.
+/// Returns the part of the officer's console that a target names, if any.
 fn office_by(target: &[u8]) -> Option<OfficeTarget>
     ensures { result ≡ office_by target.now }
 {
@@ -145,11 +158,11 @@ fn office_by(target: &[u8]) -> Option<OfficeTarget>
     None
 }
 
-/// The seven routes. A server makes them once.
+/// The eight routes. A server builds them once.
 #[derive(Drop)]
 pub struct Routes {
     router: Router<RouteTarget>,
-    pub ghost seven: { router ≡ office_routes },
+    pub ghost eight: { router ≡ office_routes },
 }
 
 impl Routes {
@@ -161,7 +174,7 @@ impl Routes {
         }
     }
 
-    /// Returns what a target names by its route, if it has one. Allocates nothing.
+    /// Returns what a target names according to its route, if it has one. Allocates nothing.
     fn routed_by(&self, target: &[u8]) -> Option<Target>
         ensures { result ≡ routed_by target.now }
     {
@@ -177,13 +190,23 @@ impl Routes {
         }
     }
 
-    /// Returns what a target names that isn't of the console itself: what the console reads, or what its route leads to.
-    fn read_or_routed(&self, target: &[u8]) -> Option<Target>
-        ensures { result ≡ read_or_routed (read_by target.now) target.now }
+    /// Returns what a target outside the console names: what is shown in public, or what its route leads to.
+    fn public_or_routed(&self, target: &[u8]) -> Option<Target>
+        ensures { result ≡ public_or_routed (public_by target.now) target.now }
+    {
+        match public_by(target) {
+            Some(what) => Some(Target::Public(what)),
+            None => self.routed_by(target),
+        }
+    }
+
+    /// Returns what a target other than the console itself names: what the console reads, or what is outside the console.
+    fn read_or_other(&self, target: &[u8]) -> Option<Target>
+        ensures { result ≡ read_or_other (read_by target.now) target.now }
     {
         match read_by(target) {
             Some(read) => Some(Target::Resource(Resource::Office(read))),
-            None => self.routed_by(target),
+            None => self.public_or_routed(target),
         }
     }
 
@@ -193,7 +216,7 @@ impl Routes {
     {
         match office_by(target) {
             Some(place) => Some(Target::Office(place)),
-            None => self.read_or_routed(target),
+            None => self.read_or_other(target),
         }
     }
 }

@@ -1,4 +1,4 @@
-//! The JSON of a clerk's work.
+//! The JSON for a clerk's work.
 
 ghost use Rattle.std.specs.Prelude.{◌≡◌, IfOk, map, string_bytes};
 ghost use Rattle.serde_json.specs.View.{view};
@@ -10,7 +10,7 @@ use register::Work;
 use serde_json::{Value, json};
 use std::alloc::{AllocError, Global};
 
-/// Returns the columns of a batch's papers, as a list of numbers.
+/// Returns the columns of a batch's papers, as a JSON list of numbers.
 fn columns_value(alloc: Global, columns: Columns) -> Result<Value, AllocError>
     ensures { IfOk result (λ value. view value ≡ list_data number_data columns) }
 {
@@ -21,7 +21,7 @@ fn columns_value(alloc: Global, columns: Columns) -> Result<Value, AllocError>
     Ok(Value::Array(values))
 }
 
-/// Returns a batch of the work, as a value.
+/// Returns a batch of the work, as a JSON value.
 fn batch_value(alloc: Global, work: &Work) -> Result<Value, AllocError>
     ensures { IfOk result (λ value. view value ≡ work_data (work_entry work.now)) }
 {
@@ -32,7 +32,7 @@ fn batch_value(alloc: Global, work: &Work) -> Result<Value, AllocError>
     })
 }
 
-/// Returns the batches of the work, as a list of values.
+/// Returns the batches of the work, as a list of JSON values.
 fn batches_value(alloc: Global, work: &[Work]) -> Result<Value, AllocError>
     ensures { IfOk result (λ value. view value ≡ list_data work_data (map work_entry work.now)) }
 {
@@ -43,7 +43,7 @@ fn batches_value(alloc: Global, work: &[Work]) -> Result<Value, AllocError>
     Ok(Value::Array(values))
 }
 
-/// Returns the work of a clerk, as a value.
+/// Returns the work of a clerk, as a JSON value.
 fn work_value(alloc: Global, clerk: u32, work: &[Work]) -> Result<Value, AllocError>
     ensures { IfOk result (λ value. view value ≡ clerk_data clerk (map work_entry work.now)) }
 {
@@ -51,7 +51,7 @@ fn work_value(alloc: Global, clerk: u32, work: &[Work]) -> Result<Value, AllocEr
     json!(in alloc; {"clerk": clerk, "work": batches})
 }
 
-/// Returns the body with the work of a clerk.
+/// Returns the body for the work of a clerk.
 pub(crate) fn work_body(alloc: Global, clerk: u32, work: &[Work]) -> Result<String, AllocError>
     ensures { IfOk result (λ body. string_bytes body ≡ work_body clerk (map work_entry work.now)) }
 {

@@ -1,4 +1,4 @@
-# What bash offers behind `count-office`: the path of an office, an order, and the order's options or files.
+# What bash offers after `count-office`: the path of an office, an order, and the order's options or files.
 _count_office() {
     local word=${COMP_WORDS[COMP_CWORD]} options='' files=''
     COMPREPLY=()

@@ -1,4 +1,4 @@
-# What fish offers behind `count-office`: the path of an office, an order, and the order's options or files.
+# What fish offers after `count-office`: the path of an office, an order, and the order's options or files.
 function __count_office_words -d 'Whether so many words stand before the one that is typed'
     test (count (commandline -opc)) -eq $argv[1]
 end

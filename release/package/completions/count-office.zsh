@@ -1,5 +1,5 @@
 #compdef count-office
-# What zsh offers behind `count-office`: the path of an office, an order, and the order's options or files.
+# What zsh offers after `count-office`: the path of an office, an order, and the order's options or files.
 _count_office() {
     local -a orders
     orders=(

@@ -2,16 +2,15 @@
 
 An office has a ward of PAPERS papers, by default 1000 10000 100000, which come from a fixed generator; it has 10 candidates and 4 seats,
 and two clerks keyed it alike, in batches of 500. Next to it the small election of tools/try is played, and each of its orders is timed on a
-copy of the file: the shortest of five runs counts. Then the large ward is counted. The first line is what the stock SQLite of Python takes
-to read all rows, and the last one the highest peak of memory, which is that of `journal`. Take the machine for half an hour.
+copy of the file: the shortest of five runs counts. Then the large ward is counted. The last line is the highest peak of memory, which is
+that of `journal`. Take the machine for half an hour.
 """
 import contextlib
 import random
 import resource
-import sqlite3
 
-from office_tools.election import COPYING, ELECTION, END, READS, REPLAY, SCRIPTED, Order, keying, ward_orders
-from office_tools.office import TOWN, Office, Wrong, temporary_folder, timed
+from office_tools.election import COPYING, ELECTION, END, READS, REPLAY, SCRIPTED, Order, keying, marks_of, ward_orders
+from office_tools.office import Office, Wrong, temporary_folder, timed
 from office_tools.tables import Table
 
 CANDIDATES, SEATS, BATCH, RUNS = 10, 4, 500, 5
@@ -22,13 +21,8 @@ LARGE = [Order(line.split()) for line in (
 
 def papers(chance, count):
     """Returns the marks of papers: a few preferences each, the lower numbers more often first, so that no lot is needed."""
-    found = []
-    for _ in range(count):
-        marks, order = [""] * CANDIDATES, sorted(range(CANDIDATES), key=lambda candidate: candidate + 12 * chance.random())
-        for place, candidate in enumerate(order[:chance.randint(1, 6)], 1):
-            marks[candidate] = str(place)
-        found.append(",".join(marks))
-    return found
+    orders = [sorted(range(CANDIDATES), key=lambda candidate: candidate + 12 * chance.random()) for _ in range(count)]
+    return [marks_of(order[:chance.randint(1, 6)], CANDIDATES) for order in orders]
 
 
 def nominated(folder, *batches):
@@ -60,20 +54,12 @@ def best(office, order, is_served=False):
     return min(found)
 
 
-def read_all(office):
-    """Reads all rows of all tables."""
-    with contextlib.closing(sqlite3.connect(office.folder / TOWN)) as base:
-        for (table,) in base.execute("SELECT name FROM sqlite_schema WHERE type = 'table'").fetchall():
-            base.execute(f"SELECT * FROM {table}").fetchall()
-
-
 def measured(count):
     """Returns {what: its cell} in an office with so many papers."""
     reads = [*READS, (SCRIPTED[0], REPLAY), (END, COPYING)]
     with temporary_folder() as folder:
         office = keyed_ward(folder / "town", count)
-        found = {"all rows read by the stock sqlite": f"{1000 * min(timed(read_all, office)[1] for _ in range(RUNS)):.0f} ms",
-                 "`init`": f"{best(Office(folder / 'empty'), ELECTION[0]):.0f} ms"}
+        found = {"`init`": f"{best(Office(folder / 'empty'), ELECTION[0]):.0f} ms"}
         for number, order in enumerate([*ELECTION[1:], *LARGE], 1):
             for one in (*(read for place, read in reads if place == number), order):
                 found[f"`{one.name[:32].strip()}`"] = f"{best(office, one):.0f} ms; {best(office, one, is_served=True):.0f} ms"

@@ -2,17 +2,15 @@
 
 Each program that --program A --program B names serves a few times, in turns, or the one alone that is set: the table has the middle of
 its turns, and what part that is of the first one's. Next to 300 silent connections one clerk keys, and then 19 at once, all as fast as they
-are answered. Reads are requests for a clerk's work, as `ab` counts. Memory is that of `serve` after all this, and with 512 connections
-that have each sent half of a body of 1 MiB. ROUNDS is how many seconds `ab` asks, and a third of the batches that each clerk keys.
+are answered. Reads are requests for a clerk's work, as `ab` counts. Memory is that of `serve` after all this. ROUNDS is how many seconds
+`ab` asks, and a third of the batches that each clerk keys.
 """
-import contextlib
 import json
 import os
 import random
 import select
 import statistics
 import subprocess
-import time
 from concurrent.futures import ThreadPoolExecutor
 
 from office_tools import office
@@ -21,7 +19,7 @@ from office_tools.office import Wrong, needs, temporary_folder, timed
 from office_tools.tables import Table
 from office_tools.web import HERE, request, status
 
-CLERKS, CLIENTS, SILENT, CROWD, HALF = range(1, 21), (1, 20, 200), 300, 512, b" " * 524288
+CLERKS, CLIENTS, SILENT = range(1, 21), (1, 20, 200), 300
 # How often each program serves, and how many `ab` run side by side: one has one thread, and is slower than `serve`.
 TURNS, LOADS = 5, 3
 WORK = "/clerks/1/work"
@@ -54,14 +52,6 @@ def keyed(serving, requests):
     return len(times) / seconds, 1000 * max(times)
 
 
-def closed(lines):
-    """Returns how many connections the other side has closed, or answered on, and closes all."""
-    count = sum(bool(select.select([line], [], [], 0)[0]) for line in lines)
-    for line in lines:
-        line.close()
-    return count
-
-
 def reads_a_second(port, clients, seconds):
     """Returns how many requests for a clerk's work are answered a second, as `ab` counts them; none may fail."""
     def count(part):
@@ -76,24 +66,6 @@ def reads_a_second(port, clients, seconds):
         return sum(pool.map(count, parts))
 
 
-def read_and_held(serving, rounds):
-    """Yields how many reads are answered a second, and the memory of `serve`."""
-    for clients in CLIENTS:
-        yield f"reads a second, {clients} clients", reads_a_second(serving.port, clients, rounds)
-    yield "memory, MB", serving.memory()
-    lines = []
-    for _ in range(CROWD):
-        lines.append(serving.connect(1))
-        # If more bytes are held than may be, a connection is closed.
-        with contextlib.suppress(OSError):
-            lines[-1].sendall(b"POST /clerks/1/batches/1/keying HTTP/1.1\r\nContent-Length: 1048576\r\n\r\n" + HALF)
-    # What was sent may still be in the sockets.
-    time.sleep(2)
-    asked(serving, request(WORK))
-    yield f"memory with {CROWD} half bodies, MB", serving.memory()
-    yield "of these are let go", closed(lines)
-
-
 def figures(folder, rounds):
     """Returns what the program that is set answers a second, and its memory: {what: the number}."""
     found = {}
@@ -105,10 +77,13 @@ def figures(folder, rounds):
             for who, own in (("one clerk", [alone]), (f"{len(others)} clerks", others)):
                 what = f"{who}, {size} papers"
                 found[f"keyings a second, {what}"], found[f"the slowest of them, ms, {what}"] = keyed(serving, own)
-            if closed(silent):
+            if select.select(silent, [], [], 0)[0]:
                 raise Wrong("a silent connection was disconnected")
+            for line in silent:
+                line.close()
             if size == BATCH:
-                found.update(read_and_held(serving, rounds))
+                found |= {f"reads a second, {clients} clients": reads_a_second(serving.port, clients, rounds) for clients in CLIENTS}
+                found["memory, MB"] = serving.memory()
     return found
 
 

@@ -1,4 +1,4 @@
-"""Compares the configuration of nginx that count-office-lan writes with that of docs/HTTP.md, and tries words that it has to refuse.
+"""Compares the configuration of nginx that count-office-lan writes with that of docs/officer/network.md, and tries wrong words.
 
 Both have to be the same but for the paths of the certificate and its key. What is refused ends with status 2 and a sentence.
 """
@@ -39,8 +39,8 @@ def wrongly_answered():
 
 
 def main():
-    page = re.search(r"```nginx\n(.*?)```", (ROOT / "docs/HTTP.md").read_text(encoding="utf-8"), re.DOTALL)[1]
+    page = re.search(r"```nginx\n(.*?)```", (ROOT / "docs/officer/network.md").read_text(encoding="utf-8"), re.DOTALL)[1]
     own = OWN.sub(lambda path: DOCUMENTED[path[1]], told(NAME, "--network", NETWORK, "--port", "8080")[1])
-    differing = [f"docs/HTTP.md has the line {theirs!r}, and count-office-lan {ours!r}"
+    differing = [f"docs/officer/network.md has the line {theirs!r}, and count-office-lan {ours!r}"
                  for theirs, ours in itertools.zip_longest(page.split("\n"), own.split("\n")) if theirs != ours]
     return [*differing[:1], *wrongly_answered()]

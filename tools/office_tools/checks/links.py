@@ -1,14 +1,14 @@
 """Compares the links of the pages with what they lead to.
 
 A link within the repository leads to a file that is there, and what comes after its # is a heading of that page. Each refusal, file
-fault and fault that docs/ELECTION.md shows as printed has a link there to its own heading in docs/REFUSALS.md.
+fault and fault that the pages of GUIDE show as printed has a link there to its own heading in docs/officer/when-it-says-no.md.
 """
 import re
 
 from office_tools.office import ROOT
 from office_tools.releasing.book import slug
 
-GUIDE = ROOT / "docs/ELECTION.md"
+GUIDE, MESSAGES = [ROOT / f"docs/officer/{name}.md" for name in ("by-words", "putting-right")], "when-it-says-no.md#"
 FENCED = re.compile(r"^(```|~~~)([^\n]*)\n(.*?)^\1[^\n]*$", re.S | re.M)
 LINK = re.compile(r"\]\(([^)\s]+)\)")
 PRINTED = re.compile(r"^(refused \d+|file fault \d+|fault \d+)\b", re.M)
@@ -38,11 +38,11 @@ def lost(page):
 
 def unlinked():
     """Yields what the guide shows as printed, and has no link for."""
-    text = GUIDE.read_text(encoding="utf-8")
-    linked = [target.removeprefix("REFUSALS.md#") for target in LINK.findall(text) if target.startswith("REFUSALS.md#")]
+    text = "\n".join(page.read_text(encoding="utf-8") for page in GUIDE)
+    linked = [target.removeprefix(MESSAGES) for target in LINK.findall(text) if target.startswith(MESSAGES)]
     for found in sorted({found for block in FENCED.findall(text) for found in PRINTED.findall(block[2])}):
         if not any(heading.startswith(found.replace(" ", "-") + "-") for heading in linked):
-            yield f"{GUIDE.name}: no link for {found}"
+            yield f"the guide: no link for {found}"
 
 
 def main():

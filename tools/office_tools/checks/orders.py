@@ -1,8 +1,8 @@
 """Compares what names the orders of the program with the program's own help.
 
 These are what `--help` tells of the words of orders, and their examples; the tables of orders and of words, with their ranges, in
-docs/ORDERS.md; the orders that a script may have, in docs/IMPORTS.md; the orders that examples/help.sh plays; and the election of
-tools/try, which has each order that a script may have. Which these are, the program tells of a script of one line.
+docs/formats/orders.md; the orders that a script may have, in docs/formats/files.md; the orders that examples/help.sh plays; and the
+election of tools/try, which has each order that a script may have. Which these are, the program tells of a script of one line.
 """
 import re
 import shlex
@@ -39,33 +39,33 @@ def in_script(order):
     with temporary_folder() as folder:
         office = Office(folder).begin()
         office.write(SCRIPT, [shlex.join(order.example)])
-        return "stands in no script" not in office.run("replay", SCRIPT).err
+        return "can't be used in a script" not in office.run("replay", SCRIPT).err
 
 
 def unlike(place, found, wanted):
-    """Yields the names that stand in one of two lists alone, and whether one stands twice."""
+    """Yields the names that are in only one of two lists, and whether one is there twice."""
     yield from (f"{place}: {name} {'is no order there' if name in found else 'is missing'}" for name in sorted(set(found) ^ set(wanted)))
     if len(set(found)) < len(found):
         yield f"{place}: an order stands twice"
 
 
 def unlike_in_pages(orders, scripted):
-    """Yields what the tables of docs/ORDERS.md, the list of docs/IMPORTS.md and examples/help.sh have otherwise."""
-    text = (ROOT / "docs/ORDERS.md").read_text(encoding="utf-8")
+    """Yields what the tables of docs/formats/orders.md, the list of docs/formats/files.md and examples/help.sh have otherwise."""
+    text = (ROOT / "docs/formats/orders.md").read_text(encoding="utf-8")
     rows = re.findall(r"^\| `([a-z-]+)([^`]*)` \| (.*)$", text.split("\n## All orders\n")[1].split("\n## ")[0], re.M)
-    yield from unlike("docs/ORDERS.md", [name for name, _, _ in rows], orders)
+    yield from unlike("formats/orders.md", [name for name, _, _ in rows], orders)
     for order, words, rest in ((orders[name], words, rest) for name, words, rest in rows if name in orders):
         if order.name + words != order.typed:
-            yield f"docs/ORDERS.md: {order.name + words} is not {order.typed}"
-        yield from (f"docs/ORDERS.md: {order.name}: {option} is missing" for option in order.options if f"`{option}`" not in rest)
+            yield f"formats/orders.md: {order.name + words} is not {order.typed}"
+        yield from (f"formats/orders.md: {order.name}: {option} is missing" for option in order.options if f"`{option}`" not in rest)
     table = re.findall(r"^\| ([A-Z_, ]+) \| (.*) \|$", text.split("| Word | Range |")[1].split("\n\n")[0], re.M)
     ranges = {name: RANGE.findall(told)[:1] for names, told in table for name in names.split(", ")}
     for order in orders.values():
         for word, told in order.ranges.items():
             if ranges.get(word) != told:
-                yield f"docs/ORDERS.md: {word} of {order.name}: {ranges.get(word)} is not {told}"
-    imports = (ROOT / "docs/IMPORTS.md").read_text(encoding="utf-8").split("These orders may stand in it:")[1].split("\n")[0]
-    yield from unlike("docs/IMPORTS.md, scripts", re.findall(r"`([a-z-]+)`", imports), scripted)
+                yield f"formats/orders.md: {word} of {order.name}: {ranges.get(word)} is not {told}"
+    files = (ROOT / "docs/formats/files.md").read_text(encoding="utf-8").split("- *Orders.* These")[1].split("\n")[0]
+    yield from unlike("formats/files.md, scripts", re.findall(r"`([a-z-]+)`", files), scripted)
     played = (ROOT / "examples/help.sh").read_text(encoding="utf-8").split("for order in ")[1].split("; do")[0]
     yield from unlike("examples/help.sh", played.replace("\\\n", " ").split(), orders)
 

@@ -1,9 +1,9 @@
-"""Checks that the pages for clerks and for the returning officer may run their own script and style, and nothing else.
+"""Checks that the pages for clerks, for the returning officer and for the hall may run their own script and style, and nothing else.
 
-A page of crates/keying_page or crates/console_page is ASCII, has one script and one style, loads nothing from elsewhere, makes no markup
-of a text, and has no style or handler in an attribute, which its policy forbids. The page and the policy that the code of the crate makes
-are those of the crate's definitions, byte for byte, and the policy has the SHA-256 of the page's script and style. If COUNT_OFFICE names a
-program, it serves an office, and both pages and the policies of their responses are compared with the sources, byte for byte.
+A page of crates/keying_page, console_page or screen_page is ASCII, has one script and one style, loads nothing from elsewhere, makes no
+markup of a text, and has no style or handler in an attribute, which its policy forbids. The policy has the SHA-256 of the page's script
+and style. That both are those of the crate's definitions is proved. If COUNT_OFFICE names a program, it serves an office, and the pages
+that it serves and the policies of their responses are compared with the sources, byte for byte.
 """
 import base64
 import hashlib
@@ -17,12 +17,10 @@ from office_tools.web import basic, request
 CONSTANT = re.compile(r'const (\w+): &str =\s+r#"(.*?)"#;', re.DOTALL)
 FORMAT = re.compile(r'format!\(in alloc;\s*"(.*?)"\s*\)', re.DOTALL)
 HASHED = re.compile(r"let (\w+) = hash_source\(alloc, (\w+)\.as_bytes\(\)\)")
-# What a definition is made of: a text, a constant, how a policy names a text, or another definition by its name.
-PIECE = re.compile(r'codes "([^"]*)"|([A-Z]+)\.now|hash_source (\w+)|\b(?:its_)?(script|style)\b')
-PAGES = KEYING, CONSOLE = "keying_page", "console_page"
+PAGES = KEYING, CONSOLE, SCREEN = "keying_page", "console_page", "screen_page"
 PARTS, CLERK = ("script", "style"), 4
-# Where a program serves a page, and to whom.
-SERVED = {KEYING: (f"/clerks/{CLERK}/", CLERK, CODES[CLERK]), CONSOLE: ("/office/", "office", OFFICE_CODE)}
+# The address at which a program serves each page, and to whom: the last one to anyone.
+SERVED = {KEYING: (f"/clerks/{CLERK}/", CLERK, CODES[CLERK]), CONSOLE: ("/office/", "office", OFFICE_CODE), SCREEN: ("/screen", "", "")}
 FORBIDDEN = {
     "a text from elsewhere": r"""(?i)\b(src|href)\s*=(?!\s*["']?data:,)|@import|\burl\(|https?://""",
     "markup made of a text": r"innerHTML|outerHTML|insertAdjacentHTML|document\.write|\beval\b|new Function|DOMParser",
@@ -50,46 +48,26 @@ def page_of_sources(crate=KEYING):
     return made_by("page_around", {**texts, **parts}), made_by("policy_text", hashed)
 
 
-def page_of_definitions(crate):
-    """Returns the page that the definitions of a crate say, byte for byte, and its policy."""
-    constants = dict(pair for path in (ROOT / "crates" / crate / "src").rglob("*.rt") for pair in CONSTANT.findall(path.read_text("utf-8")))
-    source = "\n".join(path.read_text("utf-8") for path in (ROOT / "crates" / crate / "specs").glob("*.antt"))
-    texts = {}
-
-    def text_of(name):
-        definition = re.search(rf"^{name}\b[^=\n]*=(.*?)(?=\n\n|\Z)", source, re.DOTALL | re.M)[1]
-        return "".join(text or constants.get(constant) or (hash_source(texts[hashed]) if hashed else texts.get(part, ""))
-                       for text, constant, hashed, part in PIECE.findall(definition))
-
-    texts = {name: text_of(name) for name in PARTS}
-    return text_of("page_of"), text_of("policy_of")
-
-
 def inner(page, name):
     """Returns the text of the one element of a page that has this name, or None if there isn't exactly one."""
     found = re.findall(rf"<{name}>(.*?)</{name}>", page, re.DOTALL)
     return found[0] if len(found) == len(re.findall(rf"(?i)<{name}\b", page)) == len(re.findall(rf"(?i)</{name}\b", page)) == 1 else None
 
 
-def wrong_in(page):
-    """Returns what is wrong in a page."""
-    wrong = [] if page.isascii() else ["the page isn't ASCII"]
-    wrong += [f"the page has not one {name}" for name in PARTS if inner(page, name) is None]
+def wrong_in(page, policy):
+    """Returns what is wrong in a page, and in its policy."""
+    if lacking := [name for name in PARTS if inner(page, name) is None]:
+        return [f"the page has not one {name}" for name in lacking]
+    wrong = [f"the policy has another {name}" for name in PARTS if f"{name}-src {hash_source(inner(page, name))};" not in policy]
+    wrong += [] if page.isascii() else ["the page isn't ASCII"]
     return wrong + [f"{what}: {found[0]!r}" for what, pattern in FORBIDDEN.items() for found in re.finditer(pattern, page)]
-
-
-def wrong_defined(crate):
-    """Returns what of the page that the code of a crate makes, and of its policy, is otherwise than in the crate's definitions."""
-    made, defined = page_of_sources(crate), page_of_definitions(crate)
-    wrong = [f"the policy has another {name}" for name in PARTS if f"{name}-src {hash_source(inner(made[0], name))};" not in made[1]]
-    differs = [what for what, one, other in zip(("page", "policy"), made, defined) if one != other]
-    return wrong + [f"the {what} isn't that of the definitions" for what in differs]
 
 
 def wrong_served(crate, target, name, code):
     """Returns what of the page that a program serves at a target, and of its policy, is otherwise than in the sources."""
-    with temporary_folder() as folder, evening_office(folder, CODES | {"office": OFFICE_CODE}).serve("--codes", "codes.txt") as serving:
-        head, _, served = serving.ask(request(target, f"Authorization: {basic(name, code)}")).decode().partition("\r\n\r\n")
+    codes, headers = CODES | {"office": OFFICE_CODE}, [f"Authorization: {basic(name, code)}"] if name else []
+    with temporary_folder() as folder, evening_office(folder, codes).serve("--codes", "codes.txt", "--public") as serving:
+        head, _, served = serving.ask(request(target, *headers)).decode().partition("\r\n\r\n")
     page, policy = page_of_sources(crate)
     told = re.search(r"(?i)^content-security-policy: (.*?)\r?$", head, re.M)[1]
     wrong = [] if served == page else ["the page that is served isn't that of the sources"]
@@ -97,6 +75,6 @@ def wrong_served(crate, target, name, code):
 
 
 def main():
-    wrong = [f"{crate}: {fault}" for crate in PAGES for fault in wrong_in(page_of_sources(crate)[0]) or wrong_defined(crate)]
+    wrong = [f"{crate}: {fault}" for crate in PAGES for fault in wrong_in(*page_of_sources(crate))]
     served = SERVED.items() if os.environ.get("COUNT_OFFICE") else ()
     return wrong or [f"{crate}: {fault}" for crate, where in served for fault in wrong_served(crate, *where)]

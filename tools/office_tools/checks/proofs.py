@@ -1,21 +1,22 @@
 """Compares what the pages of docs/ name of the sources with them.
 
 docs/engineering/proofs.md and limits.md are about the sources throughout. Each row of a table | crate | promise | where | names in its last
-column functions of the crate and, after a colon, clauses of each of them, in parts like `Office::run`: `headline`, `answers`; `order`: `ok`.
+column functions of the crate and, after a colon, clauses of each, in parts like `Office::run`: `headline`, `answers`; `order`: `ok`.
 In their text `opened`, `told` of `Store::open_from` names clauses of a function, and each word in backticks is one of the sources, or a
-wrong body; so in lines of docs/RULES.md, ORDERS.md, SHEETS.md or BALLOTS.md that begin with `- Definition` or `The definition`, and in rows
-of docs/GLOSSARY.md. Each path like `Rattle.votes.specs.Units.IsQuota` has its definition there. Each refusal and fault of the sources has
-its heading in docs/REFUSALS.md. Each edit's old text is just once in its file. --write makes out/proofs-table.md: each public function, its
-clauses, and its wrong bodies.
+wrong body; so in lines of docs/officer/rules.md or docs/formats/{orders,sheets,ballots,records}.md that begin with `- Definition` or
+`The definition`, and in rows of docs/officer/glossary.md. Each path like `Rattle.votes.specs.Units.IsQuota` has its definition there.
+Each refusal and fault of the sources has its heading in docs/officer/when-it-says-no.md. Each edit's old text is just once in its file.
+--write makes out/proofs-table.md: each public function, its clauses, and its wrong bodies.
 """
 import re
 
 from office_tools import proofs_table, sources
 from office_tools.office import ROOT
 
-HAND, MESSAGES = [ROOT / f"docs/engineering/{name}.md" for name in ("proofs", "limits")], ROOT / "docs/REFUSALS.md"
+HAND, MESSAGES = [ROOT / f"docs/engineering/{name}.md" for name in ("proofs", "limits")], ROOT / "docs/officer/when-it-says-no.md"
 MADE = ROOT / "out/proofs-table.md"
-DEFINED = [ROOT / f"docs/{name}.md" for name in ("RULES", "ORDERS", "SHEETS", "BALLOTS", "GLOSSARY")]
+PAGES = ("officer/rules", "formats/orders", "formats/sheets", "formats/ballots", "formats/records", "officer/glossary")
+DEFINED = [ROOT / f"docs/{name}.md" for name in PAGES]
 # What the program prints before a number, the file of definitions, and the definitions of the number and of the text after it.
 NUMBERED = [
     ("refused {}: ", "register/specs/Reasons.antt", "reason_number", "reason_words"),
@@ -95,7 +96,7 @@ def faults_of(crates):
             faults, cells = [], [cell.strip() for cell in re.split(r"(?<!\\)\|", line)[1:-1]]
             if page in HAND and len(cells) == 3 and cells[0] != "crate" and not set(cells[0]) <= set("-: "):
                 faults = missing_of_row(crates, cells[0], cells[2])
-            elif page in HAND or line.startswith(("- Definition", "The definition")) or page.stem == "GLOSSARY" and line.startswith("|"):
+            elif page in HAND or line.startswith(("- Definition", "The definition")) or page.stem == "glossary" and line.startswith("|"):
                 faults = missing_of_text(line, clauses, words)
             yield from (f"{page.name}:{number}: {fault}" for fault in faults)
 

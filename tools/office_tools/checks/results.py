@@ -13,11 +13,14 @@ from office_tools.office import ROOT
 PAGE, LAST = ROOT / "docs/engineering/results.md", "**Last run**"
 HEAD = """# Results
 
-What the tools printed when they were last run. [Testing](testing.md) and [Cost](cost.md) say what the tables show. `tools/check results --write` makes this page.
+What the tools printed when they were last run. [Testing](testing.md) and [Cost](cost.md) say what the tables show. `tools/check results \
+--write` makes this page.
 
-The file of each tool begins with what it requires of every run; `--help` after its name prints the same, with the words that it accepts. A run ends with status 1 if a condition isn't met, and draws whatever it draws at random from a seed.
+The file of each tool begins with what it requires of every run; `--help` after its name prints the same, with the words that it accepts. \
+A run ends with status 1 if a condition isn't met, and draws whatever it draws at random from a seed.
 
-*Rows before it found* means that the file has the rows before the order, and *rows after it* those that the order makes. A column such as *fault 102* counts the runs in which the program reports [that fault](../REFUSALS.md#faults).
+*Rows before it found* means that the file has the rows before the order, and *rows after it* those that the order makes. A column such as \
+*fault 102* counts the runs in which the program reports [that fault](../officer/when-it-says-no.md#faults).
 """
 FOLDERS = {"tools/try": "tries", "tools/bench": "benches"}
 

@@ -1,18 +1,27 @@
 """The pages of docs/ as one HTML file, which loads nothing from elsewhere."""
 import html
+import posixpath
 import re
 import subprocess
 
 from office_tools.releasing.facts import fail, filled
 
-PAGES = ["INSTALLING", "ELECTION", "CONSOLE", "TELLERS", "AGENTS", "FORMATS", "ORDERS", "REFUSALS", "IMPORTS", "SHEETS", "BALLOTS", "RULES",
-         "HTTP", "DATABASE", "GLOSSARY"]
+# The pages in their order, by their paths below docs/.
+PAGES = ["officer/README", "officer/evening", "officer/by-words", "officer/when-it-says-no", "officer/putting-right",
+         "officer/tellers", "officer/agents", "officer/installing", "officer/network", "officer/rules", "officer/glossary",
+         "formats/README", "formats/orders", "formats/files", "formats/sheets", "formats/ballots", "formats/records",
+         "formats/http", "formats/console-api", "formats/screen-api", "formats/tables", "formats/faults"]
 
 
 def slug(text):
     """Returns the name of a heading in links, as the pages use it: lower case, hyphens for blanks, no other signs."""
     plain = html.unescape(re.sub(r"<[^>]+>", "", text))
     return re.sub(r"[^\w\- ]", "", plain.lower()).replace(" ", "-")
+
+
+def own_name(page):
+    """Returns the name of a page in links of the book."""
+    return page.lower().replace("/", "-")
 
 
 def with_names(name, page):
@@ -23,7 +32,7 @@ def with_names(name, page):
         level, own = found[1], slug(found[2])
         used.append(own)
         own += f"-{used.count(own) - 1}" if used.count(own) > 1 else ""
-        headings.append((level, name.lower() if level == "1" else f"{name.lower()}-{own}", found[2]))
+        headings.append((level, own_name(name) if level == "1" else f"{own_name(name)}-{own}", found[2]))
         return '<h{0} id="{1}">{2}</h{0}>'.format(*headings[-1])
 
     return re.sub(r"<h([1-6])>(.*?)</h\1>", named, page, flags=re.S), headings
@@ -33,8 +42,8 @@ def with_links(name, page):
     """Returns the page with its links led to the other pages of the book; a link to anything else is left as its text."""
     def led(found):
         file, _, heading = html.unescape(found[1]).partition("#")
-        to = file.removesuffix(".md") if file.endswith(".md") else name if not file else None
-        return f'<a href="#{to.lower()}{"-" + heading if heading else ""}">{found[2]}</a>' if to in PAGES else found[2]
+        to = posixpath.normpath(posixpath.join(posixpath.dirname(name), file)).removesuffix(".md") if file else name
+        return f'<a href="#{own_name(to)}{"-" + heading if heading else ""}">{found[2]}</a>' if to in PAGES else found[2]
 
     return re.sub(r'<a href="([^"]*)">(.*?)</a>', led, page, flags=re.S)
 

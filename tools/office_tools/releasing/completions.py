@@ -56,7 +56,7 @@ def completions(orders, check, script):
     options = items(sections(said(script, "--help"))["Options"])
     counts = items(sections(said(check, "--count", "--help"))["Options"])
     own = {"bash": bash(orders, counts), "zsh": zsh(orders, counts), "fish": fish(orders, counts)}
-    lan = {"bash": f"# What bash offers behind `{LAN}`.\ncomplete -W '{names_of(options)}' {LAN}\n",
-           "zsh": f"#compdef {LAN}\n# What zsh offers behind `{LAN}`.\ncompadd -- {names_of(options)}\n",
-           "fish": f"# What fish offers behind `{LAN}`.\n" + fish_options(f"{LAN} -f", options)}
+    lan = {"bash": f"# What bash offers after `{LAN}`.\ncomplete -W '{names_of(options)}' {LAN}\n",
+           "zsh": f"#compdef {LAN}\n# What zsh offers after `{LAN}`.\ncompadd -- {names_of(options)}\n",
+           "fish": f"# What fish offers after `{LAN}`.\n" + fish_options(f"{LAN} -f", options)}
     return {path.format(name): texts[shell] for name, texts in (("count-office", own), (LAN, lan)) for shell, path in PATHS.items()}

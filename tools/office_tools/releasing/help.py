@@ -26,7 +26,7 @@ def sections(text):
 
 
 def items(text):
-    """Returns the words or options of a section: a name, two blanks or more, and a text that may go on below."""
+    """Returns the words or options of a section: a name, two blanks or more, and a text that may continue below."""
     found = re.findall(r"^ {2,6}(\S.*?)(?:  +(\S.*(?:\n {8}.*)*))?$", text.partition("\n\n")[0], re.M)
     return [Item(name, " ".join(said_of.split())) for name, said_of in found]
 

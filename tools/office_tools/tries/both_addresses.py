@@ -1,15 +1,13 @@
 """Tries that `serve` holds its port at both loopback addresses, or serves nobody.
 
-- A request at 127.0.0.1, at `[::1]` and at `localhost` is answered.
-- No other process can bind the port while the office is served, at either address or at all of the machine.
+- A request at 127.0.0.1, at `[::1]` and at `localhost` is answered, and no other process can bind the port meanwhile, at either address or
+  at all of the machine.
 - If another process has the port before, at `[::1]`, at 127.0.0.1, or at all addresses of IPv6, of IPv4, or of both, `serve` ends with
   fault 107.
-- With 300 silent connections at each address, which come again when they are closed, a client at each is answered within ten seconds.
-- So it is at both addresses if `serve` may have 64 open files, and 50 silent connections at each address come again and again.
+- With 300 silent connections at each address, which come again when they are closed, a client at each is answered within ten seconds. So
+  it is if `serve` may have 64 open files, and 50 silent connections at each address come again and again.
 - If the machine has no `[::1]` (its `bind` fails), or the program is kept from IPv6 (its `socket` fails), the office is served at
-  127.0.0.1.
-
-The last two need `strace`. A machine without [::1] has the last one alone.
+  127.0.0.1. These two need `strace`. A machine without [::1] has the last one alone.
 """
 import contextlib
 import functools
@@ -62,33 +60,32 @@ def crowded(office, count, **how):
         return are_good(serving.port, *BOTH)
 
 
-def without_ipv6(office, call, error, place):
-    """Has a call for IPv6 fail: the one of its kind at this place."""
-    under = ["strace", "-D", "-o", office.folder / "trace", "-e", f"trace={call}", "-e", f"inject={call}:error={error}:when={place}"]
+def without_ipv6(office, call, error):
+    """Has a call for IPv6 fail: the third of its kind."""
+    under = ["strace", "-D", "-o", office.folder / "trace", "-e", f"trace={call}", "-e", f"inject={call}:error={error}:when=3"]
     with office.serve(under=under).wait() as serving:
         is_refused = re.search(r"AF_INET6.*\(INJECTED\)", (office.folder / "trace").read_text())
         return bool(is_refused) and are_good(serving.port, "127.0.0.1")
 
 
 # What is tried, and a function of the office. The last two are of a machine that hasn't [::1], and of systemd's RestrictAddressFamilies.
-CASES = [
-    ("127.0.0.1, [::1] and localhost answer, and nobody else takes the port meanwhile", holds),
-    ("another process has [::1], 127.0.0.1, or all addresses of IPv6, of IPv4 or of both", taken),
-    ("300 silent connections at each address, and clients at both", functools.partial(crowded, count=300)),
-    ("64 descriptors, 50 silent connections at each address", functools.partial(crowded, count=50, under=FEW_FILES)),
-    ("a machine without [::1]", functools.partial(without_ipv6, call="bind", error="EADDRNOTAVAIL", place=3)),
-    ("a program that is kept from IPv6", functools.partial(without_ipv6, call="socket", error="EAFNOSUPPORT", place=3)),
-]
+CASES = {
+    "127.0.0.1, [::1] and localhost answer, and nobody else takes the port meanwhile": holds,
+    "another process has [::1], 127.0.0.1, or all addresses of IPv6, of IPv4 or of both": taken,
+    "300 silent connections at each address, and clients at both": functools.partial(crowded, count=300),
+    "64 descriptors, 50 silent connections at each address": functools.partial(crowded, count=50, under=FEW_FILES),
+    "a machine without [::1]": functools.partial(without_ipv6, call="bind", error="EADDRNOTAVAIL"),
+    "a program that is kept from IPv6": functools.partial(without_ipv6, call="socket", error="EAFNOSUPPORT"),
+}
 
 
 def main():
     needs("strace")
     open_many_files()
-    table, wrong = Table("What is tried", "As it must be", "Seconds"), 0
-    for what, tried in CASES if is_free(0, "::1") else CASES[-1:]:
+    table = Table("What is tried", "Seconds")
+    for what, is_so in list(CASES.items())[0 if is_free(0, "::1") else -1:]:
         with temporary_folder() as folder:
-            found, seconds = timed(tried, Office(folder).begin())
-        wrong += not found
-        table.row(what, "yes" if found else "NO", f"{seconds:.1f}")
-    if wrong:
-        raise Wrong(f"{wrong} otherwise than it must be")
+            found, seconds = timed(is_so, Office(folder).begin())
+        if not found:
+            raise Wrong(f"otherwise than it must be: {what}")
+        table.row(what, f"{seconds:.1f}")

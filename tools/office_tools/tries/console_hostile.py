@@ -1,7 +1,8 @@
-"""Plays the officer's console in Chromium with hostile names, an evening of twelve tellers, and the largest office.
+"""Plays the officer's console in Chromium with hostile names, refusals, an evening of twelve tellers, and the largest office.
 
 - *Names* that look like markup, that change the direction of writing, or that have 120 bytes are shown as names, and break no line's
-  direction. Before that, another office is served at the same address: the console asks whether it is the right one, and sends nothing.
+  direction. Before that, another office is served at the same address: the console asks whether it is the right one, sends nothing, and keeps
+  what was typed and still fits.
 - *Refused*: a script of batches stops halfway, and the rest goes to the tellers whose turn it is. A file is too large. Anyone who signed
   out is asked for the code.
 - *Twelve tellers* key 22 batches, some of which differ. 19 doubtful papers are judged by keyboard, and each lot is recorded.
@@ -12,10 +13,11 @@ needs `chromium`, `chromium-driver` and `python3-selenium`.
 """
 import json
 import random
+import shlex
 import time
 from pathlib import Path
 
-from office_tools.election import LARGE, ward_orders
+from office_tools.election import HOSTILE, keyed, marks_of, ward_orders
 from office_tools.office import Wrong
 from office_tools.players import SECTIONS, Officer, played
 from office_tools.tables import Table
@@ -29,7 +31,6 @@ FAKE = """const batches = Array.from({length: 9000}, (_, place) => ({
 DRAWN = """(async () => { await draw(); const began = performance.now(); await draw(); document.body.offsetHeight;
     return performance.now() - began; })()"""
 SETTLED = "document.getElementById('count-now').innerText.match(/Next:|duly elected/)?.[0] ?? ''"
-MARKUP = "<img src=x onerror=document.title='marked'>"
 REJECTED = {"3": "no official mark", "4": "voter identifiable", "5": "void for uncertainty"}
 # What comes next in a count, and the button for it.
 STEPS = (("the seal", "seal"), ("a lot", "lot"), ("the declaration", "declare"), ("stage", "count"))
@@ -41,22 +42,24 @@ def numbered(count):
 
 def names(officer):
     """Shows names that look like markup, change the direction of writing or have 120 bytes: as names, and within the window."""
-    turning = ["\u05d0" * 60, "\u0627\u062d\u0645\u062f, 2 Bob", "\x85x"]
-    given = [*LARGE[-2:], "A" * 120, turning[0], "Maximiliane " * 9 + "Oberhuber-F.", "=1+1", *turning[1:]]
+    name = HOSTILE[0] + HOSTILE[1]
     valid = [",".join({0: "1", 1: "2"}.get((place - number) % 8, "") for place in range(8)) for number in range(12)]
-    keyings = [f"key {clerk} 1 1 D D {' '.join(valid)} --id k" for clerk in (4, 9)]
-    officer.evening.another(ward_orders(candidates=numbered(3), ward=1, name="Before"), "before")
-    officer.log_in().open("about:blank")
-    officer.evening.another([*ward_orders((1, 14, 4, 9), candidates=given, seats=3, ward=9, name=MARKUP + given[1]), *keyings])
+    officer.evening.another([*ward_orders(candidates=numbered(3), ward=1, name="Before"), f"ward 9 3 {shlex.quote(name)} --id w9"], "before")
+    officer.log_in().type("expected 1", 30).type("expected 9", 14).go("nominations", 9).fill("candidate", name="Ann").open("about:blank")
+    officer.evening.another([*ward_orders((1, 14, 4, 9), candidates=HOSTILE, seats=3, ward=9, name=name), *keyed(1, ["D", "D", *valid])])
     officer.load("#nominations/9").shows("This isn\u2019t the office that this browser used last", "other").pictured("39-other-office")
-    officer.value("document.querySelector('#other button').click()")
-    officer.until("document.getElementById('other').hidden")
+    if "expected in ward 1" not in (text := officer.value("document.getElementById('other').innerText")) or "ward 9" in text:
+        raise Wrong(f"what is discarded: {text!r}")
+    officer.click("right-office").until("document.getElementById('other').hidden")
+    kept = officer.value("[stored('expected 1'), stored('expected 9'), document.getElementById('candidate-name').value]")
+    if kept != [None, 14, "Ann"]:
+        raise Wrong(f"of what was typed the console kept {kept}")
     for part, words, where in (("nominations", "AAAA", "nominated"), ("doubtful", "Batch 1, paper 1", "judging")):
         officer.go(part, 9).shows(words, where).pictured(f"40-names-{part}")
     officer.leave_field().keys("1", "2", "8", "Enter").asked("First preference: 1", "Third preference: 8").pictured("41-names-ask")
     officer.yes(said="batch 1 paper 1 accepted").keys("7", "Enter")
     officer.yes("First preference: 7", "2 Bob", said="batch 1 paper 2 accepted").pictured("42-names-judged")
-    officer.go("count", 9).click("seal").yes("Seal anyway", said="ward 9 sealed")
+    officer.go("count", 9).click("seal").yes("All expected papers were given out: 14", said="ward 9 sealed")
     officer.click("count").yes(said="lot needed at stage 2").pictured("43-names-lot")
     counted(officer, 9)
     officer.pictured("44-names-declared").go("overview").shows("All wards are declared", "steps").pictured("45-names-overview")
@@ -64,10 +67,103 @@ def names(officer):
         raise Wrong("a name is markup")
 
 
+def counted(officer, ward):
+    """Counts and declares a ward, and records each lot."""
+    for _ in range(40):
+        officer.until(SETTLED)
+        text = officer.value("document.getElementById('count-now').innerText")
+        if "duly elected" in text:
+            return
+        step = next(key for word, key in STEPS if f"Next: {word}" in text)
+        if step == "lot":
+            officer.tab_to(officer.value("document.querySelector('#count-now input[type=radio]').dataset.key")).keys(" ")
+        officer.click(step).yes(said="Done")
+    raise Wrong(f"ward {ward} isn't declared")
+
+
+def give_out(officer, ward, **fields):
+    """Fills in the form for giving out batches, and sends it."""
+    officer.go("batches", ward).value("(document.getElementById('give').open = true)")
+    officer.fill("give", **fields).send()
+
+
+def evening_of_tellers(officer):
+    """Two wards have a poll and one has none: twelve tellers key 22 batches, with 19 doubtful papers, and each lot is recorded."""
+    chance, wards, papers, count = random.Random(7), {1: ("Inchmore", 3, 6), 2: ("Old Town", 4, 12), 3: ("Quay", 2, 2)}, {}, 0
+    officer.evening.another([line for ward, (name, seats, candidates) in wards.items()
+                             for line in ward_orders(candidates=numbered(candidates), seats=seats, ward=ward, name=name)])
+    officer.log_in()
+    for ward, batches in ((1, range(1, 13)), (2, range(13, 23))):
+        name, _, candidates = wards[ward]
+        papers |= {batch: made_up(chance, 61 if batch == batches[-1] else 66, candidates, batch < 20) for batch in batches}
+        give_out(officer, ward, **{"from": batches[0]}, count=len(batches), size=66, last=61, clerks="1 2 3 4 5 6 7 8 9 10 11 12")
+        officer.yes(f"{len(batches)} batches, {66 * len(batches) - 5} papers", f"Batch {batches[0]}", name)
+        for place, batch in enumerate(batches):
+            # The keyings of every fifth batch differ.
+            pair, (first, second, *rest) = 2 * place % 12 + 1, papers[batch]
+            other = [second, first, *rest] if place % 5 == 0 else papers[batch]
+            officer.evening.office.replay(keyed(batch, papers[batch], [pair]) + keyed(batch, other, [pair + 1]))
+        officer.go("overview").shows("Still to key", "overview").pictured(f"30-overview-{ward}")
+        settled(officer, ward, batches[0], papers)
+    for ward in (1, 2):
+        count += judged(officer, chance, ward)
+    if count != 19:
+        raise Wrong(f"{count} papers were judged")
+    for ward, expected in ((1, 787), (2, 655), (3, 0)):
+        officer.go("count", ward)
+        if expected:
+            officer.type("expected-seal", expected).shows("All expected papers were given out", "count-now")
+        counted(officer, ward)
+    officer.go("overview").shows("All wards are declared", "steps").pictured("33-overview-end").evening.office.do("journal")
+
+
+def made_up(chance, size, candidates, has_doubtful):
+    """Returns the papers of a batch."""
+    papers = [marks_of(chance.sample(range(candidates), chance.randint(1, 4)), candidates) for _ in range(size)]
+    if has_doubtful:
+        papers[chance.randrange(2, size)] = "D"
+    return papers
+
+
+def settled(officer, ward, first, papers):
+    """Gives each batch that differs to a third teller, who keys what the first one did."""
+    officer.shows("differ", "steps").click(f"step batches {ward}").has(f"third {first}")
+    while found := officer.value("document.querySelector('[data-key^=third]')?.dataset.key ?? ''"):
+        batch = int(found.split()[1])
+        officer.click(found).asked("third teller").keys(*"13").forget().keys("Enter").shows(f"batch {batch} third clerk 13")
+        officer.until("!document.body.classList.contains('busy')")
+        officer.evening.office.replay(keyed(batch, papers[batch], [13]))
+        officer.value("refresh(true).then(() => 1)")
+        officer.until(f"!{officer.found(f'third {batch}')}")
+
+
+def judged(officer, chance, ward):
+    """Judges all doubtful papers of a ward by keyboard alone. Returns how many these are."""
+    count = 0
+    officer.go("doubtful", ward).leave_field()
+    while which := officer.value("document.querySelector('#judging .which')?.textContent ?? ''"):
+        if chance.random() < 0.4:
+            code = chance.choice("345")
+            officer.keys("r", code).asked(which, REJECTED[code])
+        else:
+            # Of twelve candidates a 1 may be the first digit of another number.
+            columns = officer.value("judging.candidates.length")
+            chosen = chance.sample(range(1, columns + 1), 3)
+            for number in chosen:
+                officer.keys(*str(number), *["Enter"] * (columns > 9 and number == 1))
+            officer.pictured(f"31-judging-{ward}").keys("Enter")
+            places = zip(("First", "Second", "Third"), chosen)
+            officer.asked(which, *(f"{word} preference: {number} Candidate {number}" for word, number in places))
+        officer.yes(said=which.replace("Batch", "batch").replace(",", ""))
+        officer.until(f"document.querySelector('#judging .which')?.textContent !== {json.dumps(which)}")
+        count += 1
+    return count
+
+
 def refused(officer):
     """A script of batches is refused halfway, and the rest goes to the tellers whose turn it is. A file is too large."""
     officer.evening.another(ward_orders((3, 10, 4, 9), candidates=numbered(4), ward=1, name="A"))
-    give_out(officer.log_in(), 1, {"from": 1, "count": 4, "size": 10, "last": 7, "clerks": "4 9 5 6 7 8"})
+    give_out(officer.log_in(), 1, **{"from": 1}, count=4, size=10, last=7, clerks="4 9 5 6 7 8")
     officer.yes("4 batches, 37 papers", said="line 3: refused 8: batch exists").pictured("46-refused")
     officer.until("document.getElementById('give-clerks').value === '7 8 4 9 5 6'")
     left = [officer.value(f"document.getElementById('give-{field}').value") for field in ("from", "count", "size", "last")]
@@ -81,112 +177,6 @@ def refused(officer):
         officer.open(address)
     if "Count office" in officer.text():
         raise Wrong("an officer who signed out isn't asked for the code")
-
-
-def give_out(officer, ward, fields):
-    """Fills in the form for giving out batches, and sends it."""
-    officer.go("batches", ward).value("(document.getElementById('give').open = true)")
-    officer.fill("give", **fields).keys("Enter")
-
-
-def evening_of_tellers(officer):
-    """Two wards have a poll and one has none: twelve tellers key 22 batches, with 19 doubtful papers, and each lot is recorded."""
-    chance, marks, first, doubtful = random.Random(7), {}, 1, 19
-    wards = {1: ("Inchmore", 3, 6, 12), 2: ("Old Town", 4, 12, 10), 3: ("Quay", 2, 2, 0)}
-    officer.evening.another([line for ward, (name, seats, count, _) in wards.items()
-                             for line in ward_orders(candidates=numbered(count), seats=seats, ward=ward, name=name)])
-    officer.log_in()
-    for ward, (name, _, candidates, count) in wards.items():
-        if not count:
-            continue
-        give_out(officer, ward, {"from": first, "count": count, "size": 66, "last": 61, "clerks": "1 2 3 4 5 6 7 8 9 10 11 12"})
-        officer.yes(f"{count} batches, {66 * (count - 1) + 61} papers", f"Batch {first}", name)
-        keyed = made_up(chance, range(first, first + count), candidates, doubtful)
-        for place, (batch, papers) in enumerate(keyed.items()):
-            # The keyings of every fifth batch differ.
-            pair, other = 2 * place % 12 + 1, [papers[1], papers[0], *papers[2:]] if place % 5 == 0 else papers
-            officer.evening.office.replay([f"key {pair} {batch} 1 {' '.join(papers)} --id k{batch}",
-                                           f"key {pair + 1} {batch} 1 {' '.join(other)} --id k{batch}"])
-        marks |= keyed
-        doubtful -= count
-        if ward == 1:
-            officer.go("overview").shows("Still to key", "overview").pictured("30-overview-evening")
-        settled(officer, ward, first, marks)
-        first += count
-    officer.go("overview")
-    if (found := sum(judged(officer, chance, ward) for ward in (1, 2))) != 19:
-        raise Wrong(f"{found} papers were judged")
-    for ward, (name, _, _, count) in wards.items():
-        if count:
-            officer.go("count", ward).type("expected-seal", 66 * (count - 1) + 61).shows("All expected papers were given out", "count-now")
-        counted(officer, ward)
-    officer.go("overview").shows("All wards are declared", "steps").pictured("33-overview-end").evening.office.do("journal")
-
-
-def made_up(chance, batches, candidates, doubtful):
-    """Returns the papers of each batch, one of them doubtful in as many batches as there may be."""
-    made = {}
-    for place, batch in enumerate(batches):
-        made[batch] = []
-        for _ in range(61 if batch == batches[-1] else 66):
-            fields = [""] * candidates
-            for mark, column in enumerate(chance.sample(range(candidates), chance.randint(1, 4)), 1):
-                fields[column] = str(mark)
-            made[batch].append(",".join(fields))
-        if place < doubtful:
-            made[batch][chance.randrange(len(made[batch]))] = "D"
-    return made
-
-
-def settled(officer, ward, first, marks):
-    """Gives each batch that differs to a third teller, who keys what the first one did."""
-    officer.go("overview").shows("differ", "steps").click(f"step batches {ward}").has(f"third {first}")
-    while found := officer.value("document.querySelector('[data-key^=third]')?.dataset.key ?? ''"):
-        batch = int(found.split()[1])
-        officer.click(found).asked("third teller").keys(*"13").forget().keys("Enter").shows(f"batch {batch} third clerk 13")
-        officer.until("!document.body.classList.contains('busy')")
-        officer.evening.office.do("key", 13, batch, 1, *marks[batch], "--id", f"k{batch}")
-        officer.value("refresh(true).then(() => 1)")
-        officer.until(f"!{officer.found(f'third {batch}')}")
-
-
-def judged(officer, chance, ward):
-    """Judges all doubtful papers of a ward by keyboard alone."""
-    count = 0
-    officer.go("doubtful", ward).leave_field()
-    while which := officer.value("document.querySelector('#judging .which')?.textContent ?? ''"):
-        columns = officer.value("judging.candidates.length")
-        if chance.random() < 0.4:
-            code = chance.choice("345")
-            officer.keys("r", code).asked(which, REJECTED[code])
-        else:
-            chosen = chance.sample(range(1, columns + 1), 3)
-            for number in chosen:
-                officer.keys(*str(number), *["Enter"] * (columns > 9 and number == 1))
-            officer.pictured(f"31-judging-{ward}").keys("Enter")
-            places = zip(("First", "Second", "Third"), chosen)
-            officer.asked(which, *(f"{word} preference: {number} Candidate {number}" for word, number in places))
-        officer.yes(said=which.replace("Batch", "batch").replace(",", ""))
-        officer.until(f"document.querySelector('#judging .which')?.textContent !== {json.dumps(which)}")
-        count += 1
-    return count
-
-
-def counted(officer, ward):
-    """Seals, counts and declares a ward, and records each lot."""
-    officer.go("count", ward)
-    for _ in range(40):
-        officer.until(SETTLED)
-        text = officer.value("document.getElementById('count-now').innerText")
-        if "duly elected" in text:
-            return
-        step = next(key for word, key in STEPS if f"Next: {word}" in text)
-        if step == "lot":
-            officer.tab_to(officer.value("document.querySelector('#count-now input[type=radio]').dataset.key")).keys(" ")
-        if step == "declare":
-            officer.pictured(f"32-finished-{ward}")
-        officer.click(step).yes(said="Done")
-    raise Wrong(f"ward {ward} isn't declared")
 
 
 def large(officer):
@@ -213,10 +203,7 @@ def large(officer):
         raise Wrong(f"{spent}; {most} rows")
 
 
-PLAYS = {play.__name__: play for play in (names, refused, evening_of_tellers, large)}
-
-
 def main(pictures: Path = None, *, only: str = ""):
-    for name in [only] if only else PLAYS:
+    for play in [globals()[only]] if only else [names, refused, evening_of_tellers, large]:
         with played(pictures, Officer) as [officer]:
-            PLAYS[name](officer)
+            play(officer)

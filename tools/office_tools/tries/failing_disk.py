@@ -4,19 +4,15 @@ By `strace` one call fails: on the file, its log, the folder, an import file, a 
 on, as on a disk that is gone. Or there is no room past a length (`prlimit --fsize`): a write takes half of its bytes, and the next one
 fails. STEP tries one call in STEP, ORDER the orders of one name alone. In each run:
 
-- The order reports fault 102 (for an import file its own fault 8), or prints what it prints with a disk that works.
+- The order reports fault 102 (for an import file or a script its own fault 8), or prints what it prints with a disk that works.
 - The file is whole. It holds the rows before the order or those after it; if the order was answered, those after it.
 - The order, repeated, prints what it prints with a disk that works.
-- `serve` may also report fault 113: it takes a file that it can't look at for one that is gone.
-- `copy` reports fault 102 or 110. It reports 110 only if its own file or log fails; and after its reply, if the copy was made and its log
-  can't be put into it. The office stays as it is. At the copy's path there is nothing (`rows before it found`), or the whole office, in
-  its one file if the status was 0. A disk that is gone may keep a file there even if `copy` gave no reply: one with no office in it,
-  which fault 105 says, or the whole one.
-- A script whose import file can't be read reports that at that file's turn. If the script itself can't be read, it reports that before it
-  sends anything.
+- `serve` may also report fault 113: a file that it can't look at counts as gone.
+- `copy` reports 110 only if its own file or log fails; and after its reply, if the copy was made and its log can't be put into it. At its
+  path there is nothing (`rows before it found`), or the whole office, in its one file if the status was 0. A disk that is gone may keep a
+  file there even if `copy` gave no reply: one with no office in it, which fault 105 says, or the whole one.
 
-An `init` that fails half way, on a disk that is gone, may leave a file that the stock `sqlite` doesn't recognise. `init`, repeated, makes
-the office there.
+An `init` that fails half way, on a disk that is gone, may leave a file that is no database. `init`, repeated, makes the office there.
 """
 import collections
 import re
@@ -37,7 +33,7 @@ WRITE = re.compile(r" pwrite64\(.*, (\d+), (\d+)\) = ")
 
 
 def allowed(trial, names):
-    """Returns what the program may report. A copy reports its own files as its own; `serve` takes a file that it can't see for gone."""
+    """Returns what the program may report. A copy reports its own files as its own; to `serve` a file that it can't see is gone."""
     if names in ([FILE], [SCRIPT]):
         return [READ]
     if not trial.is_copy:

@@ -3,17 +3,13 @@
 WARDS wards are made up, and `tools/try recount` makes the sheet and the declaration of each. The checker is the one that CHECK_COUNT
 names, or that of `./count-office - check`.
 
-- It confirms both, and says which of the two it is. It does so too with ballots as another program may write them: in another order, in
-  parts, with remarks, a byte order mark and other line ends.
-- Of a changed sheet it names the very line that differs first.
+- It confirms both, and says which of the two it is; so too with ballots as another program may write them: in another order, in parts,
+  with remarks, a byte order mark and other line ends. Of a changed sheet it names the very line that differs first.
 - Ballots may have a comment that is ours, or close to it, anywhere, or lack one of ours. The checker accepts them if `tools/try recount`
   does, and only then, and as those of the same ward. So it does with ranks that several share, some of whom withdrew.
-- Some names have characters that steer a terminal. Nothing that the checker prints has one.
-- Of ballots that were damaged at random it reports that it doesn't understand them, and the line. Or they are still ballots, and it says
-  whether they give the sheet.
-- Of files that no program writes it reports that it doesn't understand them, each in about a second: an empty file, 20,000,000 digits,
-  10,000,000 empty lines, 5,000,000 comments, a name of 20,000,000 bytes, lines of 5,000,000 candidates or shared ranks, 2,000,000 lines
-  of papers without an end, and more papers than a ward can have.
+- Nothing that it prints has a character that steers a terminal, though some names have.
+- Of ballots that were damaged at random it reports that it doesn't understand them, and the line, or says whether they give the sheet.
+- Of files that no program writes (EXTREME) it reports that it doesn't understand them, each in about a second.
 """
 import collections
 import os
@@ -22,7 +18,7 @@ import re
 import subprocess
 
 from office_tools.damage import damaged
-from office_tools.office import SECONDS, Wrong, program, temporary_folder, timed
+from office_tools.office import Wrong, checker, temporary_folder, timed
 from office_tools.tables import Table
 from office_tools.tries.recount import STEERS, Ballots, Count, Unreadable, written
 
@@ -132,12 +128,10 @@ def checked(folder, what, ballots, text, right, pattern):
     """Has the checker compare a text with ballots. Returns its status, which must be a right one, as what it prints must match."""
     for name, content in (("ballots", ballots), ("text", text)):
         (folder / name).write_bytes(content)
-    words = [program("CHECK_COUNT"), "ballots", "text"]
-    ended = subprocess.run(words, cwd=folder, capture_output=True, stdin=subprocess.DEVNULL, timeout=SECONDS, check=False)
-    told = ended.stdout + ended.stderr
-    if ended.returncode not in right or not re.match(pattern, told) or STEERS.search(told.decode("utf-8", "replace")):
-        raise Wrong(f"{what}: status {ended.returncode}, {told[:200]!r} of {ballots[:2000]!r} and {text[:2000]!r}")
-    return ended.returncode
+    status, out, err = checker("ballots", "text", cwd=folder, stdin=subprocess.DEVNULL)
+    if status not in right or not re.match(pattern, out + err) or STEERS.search((out + err).decode("utf-8", "replace")):
+        raise Wrong(f"{what}: status {status}, {(out + err)[:200]!r} of {ballots[:2000]!r} and {text[:2000]!r}")
+    return status
 
 
 def as_recounted(lines, chance):

@@ -1,26 +1,25 @@
 """Gives the program files that are no office, or a damaged one, and prints what it reports.
 
 - *Damaged files.* The program is asked for a status, and to add a ward. It always ends with a status of its own. If it reports a fault,
-  the files stay byte for byte as they were, and it reports the same again. If the office opens, it adds the ward, and the file is whole.
+  the files stay byte for byte as they were, and a second report is the same. If the office opens, it adds the ward, and the file is whole.
   A bit turned in a name, or in a part of a page that nothing uses, is no damage that rows can show.
 - *A log without its file.* All orders are given while DB is missing or empty, and something has the name of its log, or of a rollback
-  journal. Each order reports fault 105, and touches nothing: what a killed `serve` answered stays in its log until its file is back.
-  Only `init` makes an office there, if DB is empty and its log has no more than 41 bytes: an `init` begins with these, so a stopped one
-  can be repeated. A file of one byte counts as empty, as in SQLite: `init` makes an office of it, any other order leaves it.
+  journal. Each order reports fault 105, and touches nothing. Only `init` makes an office there, if DB is empty (or of one byte, as in
+  SQLite) and its log has no more than 41 bytes: an `init` begins with these, so a stopped one can be repeated.
 - *Other accounts*, if the tool runs as root. An order doesn't read a log that belongs to another account than DB: it reports fault 102,
   says why, and leaves both as they are. It reads root's log, and any if others may write to DB. `serve` refuses another account's codes
   (codes fault 5). If root serves a DB of another account, `serve` makes no socket for orders, and says so.
 
-Not an error: the log of another database, put next to the file of an office, is taken for the office's own, as SQLite does. No order can
-tell them apart. The file then holds what that log says, and the office is lost.
+Not an error: the log of another database, put next to the file of an office, is taken for the office's own, and the office is lost.
 """
+import itertools
 import os
 import random
 import re
 import shutil
 
 from office_tools.damage import noise
-from office_tools.election import COPYING, ELECTION, END, FILE, READS, REPLAY, REQUESTS, execute, offices
+from office_tools.election import COPYING, ELECTION, END, FILE, READS, REPLAY, REQUESTS, offices
 from office_tools.office import LOG, TOWN, Office, Wrong, remove, temporary_folder
 from office_tools.tables import Table
 from office_tools.web import request, status
@@ -33,23 +32,13 @@ EVERY = [order.words for order in (*ELECTION, REPLAY, COPYING, *(order for _, or
 # The longest log that `init` begins before it writes the first page of the file.
 BEGUN, FRAME = 41, 24 + PAGE
 LENGTHS = [0, 1, 31, 32, BEGUN, BEGUN + 1, 55, 56, 511, 512, 567, 568, FRAME + 31, FRAME + 32, 3 * PAGE]
-OTHERS = (
-    "CREATE TABLE other (x)", "CREATE VIEW seen AS SELECT * FROM ward", "CREATE INDEX by_name ON ward (name)",
-    "CREATE TRIGGER t AFTER INSERT ON ward BEGIN DELETE FROM candidate; END", "CREATE TABLE child (x INT REFERENCES ward (ward))")
 FAULT_105 = (3, "", "fault 105: wrong database\n")
 STRANGER = 65534
-FOREIGN_LOG = (3, "", "fault 102: store\ntown.db-wal belongs to another account than town.db, and isn't read\n")
-NO_SOCKET = "no socket for orders beside the database: the database belongs to another account\n"
+FOREIGN_LOG = (3, "", "fault 102: store\ntown.db-wal doesn't belong to the owner of town.db, so it isn't read\n")
+NO_SOCKET = "no socket for orders next to the database: the database belongs to another account\n"
 
 
-def changed(path, town, statement):
-    """Returns the bytes of a database after a statement."""
-    path.write_bytes(town)
-    execute(path, statement)
-    return path.read_bytes()
-
-
-def kinds(folder, town, chance):
+def kinds(town, chance):
     """Returns [(what, the files' bytes)]."""
     def turned(place):
         return town[:place] + bytes([town[place] ^ 1 << chance.randrange(8)]) + town[place + 1:]
@@ -64,8 +53,7 @@ def kinds(folder, town, chance):
         ("cut before and within each page", [town[:place + more] for place in pages for more in (0, chance.randrange(1, PAGE))]),
         ("a page of zeros", [town[:place] + bytes(PAGE) + town[place + PAGE:] for place in pages]),
         ("one bit turned in each page", [turned(place + chance.randrange(PAGE)) for place in pages for _ in range(BITS_A_PAGE)]),
-        ("two pages of each other's", [swapped(*sorted(chance.sample(pages, 2))) for _ in range(20)]),
-        ("an office with other things beside", [changed(folder / "changed.db", town, text) for text in OTHERS])]
+        ("two pages of each other's", [swapped(*sorted(chance.sample(pages, 2))) for _ in range(20)])]
 
 
 def put(folder, **contents):
@@ -159,24 +147,12 @@ OWNERS = [
 ]
 
 
-def of_account(office, owner, *names):
-    for name in names:
-        os.chown(office.folder / name, owner, -1)
+def of_accounts(office, mode=0o600, **owners):
+    """Gives files of an office that are there to accounts, with these rights."""
+    for path, owner in ((office.folder / name, owner) for name, owner in owners.items() if (office.folder / name).exists()):
+        os.chown(path, owner, -1)
+        path.chmod(mode)
     return office
-
-
-def check_log_of(folder, town, case):
-    """Checks whether orders read a log, if DB and its log belong to these accounts and have these rights."""
-    what, owner, owner_of_log, mode, wanted = case
-    for line in (STATUS, QUAY):
-        office = of_account(of_account(put(folder / "foreign", **{TOWN: town, LOG: bytes(BEGUN)}), owner, TOWN), owner_of_log, LOG)
-        for name in (TOWN, LOG):
-            (office.folder / name).chmod(mode)
-        before = seen(office)
-        printed = office.run(*line.split())
-        is_right = printed == FOREIGN_LOG and seen(office) == before if wanted == "refused" else printed.status == 0
-        if not is_right:
-            raise Wrong(f"{what}: {line}: {printed}, and not {wanted}")
 
 
 def served_once(office, *words):
@@ -187,25 +163,27 @@ def served_once(office, *words):
 
 
 def print_foreign(folder, town):
-    table = Table("Whose the files are", "runs", "as it must be")
+    """Checks what is read and served of files that belong to other accounts."""
+    table = Table("Whose the files are", "as it must be")
     if os.geteuid():
-        table.row("not tried: that needs root", 0, 0)
-        return
-    for case in OWNERS:
-        check_log_of(folder, town, case)
-        table.row(case[0], 2, case[-1])
+        return table.row("not tried: that needs root", 0)
+    for (what, owner, owner_of_log, mode, wanted), line in itertools.product(OWNERS, (STATUS, QUAY)):
+        office = of_accounts(put(folder / "foreign", **{TOWN: town, LOG: bytes(BEGUN)}), mode, **{TOWN: owner, LOG: owner_of_log})
+        before, printed = seen(office), office.run(*line.split())
+        if not (printed == FOREIGN_LOG and seen(office) == before if wanted == "refused" else printed.status == 0):
+            raise Wrong(f"{what}: {line}: {printed}, and not {wanted}")
+        if line == QUAY:
+            table.row(what, wanted)
     office = put(folder / "foreign", **{TOWN: town})
     office.do("codes", "codes.txt", "1-9")
-    for owner, wanted in ((STRANGER, "codes fault 5: file open to others\n"), (0, "")):
-        if (err := served_once(of_account(office, owner, "codes.txt"), "--codes", "codes.txt")) != wanted:
-            raise Wrong(f"a file of codes of account {owner}: {err!r}")
-    table.row("a file of codes another's, and root's", 2, "refused, and taken")
-    path = office.folder / (TOWN + "-serve")
-    for owner, wanted in ((STRANGER, NO_SOCKET), (0, "")):
-        remove(path)
-        if (err := served_once(of_account(office, owner, TOWN, LOG))) != wanted or owner and path.exists():
-            raise Wrong(f"root serves a file of account {owner}: {err!r}")
-    table.row("DB another's, and root serves it", 2, "no socket")
+    for owner, codes, socket in ((STRANGER, "codes fault 5: file open to others\n", NO_SOCKET), (0, "", "")):
+        found = served_once(of_accounts(office, **{"codes.txt": owner}), "--codes", "codes.txt")
+        remove(path := office.folder / (TOWN + "-serve"))
+        if (found, said := served_once(of_accounts(office, **{TOWN: owner, LOG: owner}))) != (codes, socket) or owner and path.exists():
+            raise Wrong(f"root serves files of account {owner}: {found!r}, {said!r}")
+        of_accounts(office, **{TOWN: 0, LOG: 0})
+    table.row("a file of codes another's, and root's", "refused, and taken")
+    table.row("DB another's, and root serves it", "no socket")
 
 
 def main(seed=7):
@@ -214,7 +192,7 @@ def main(seed=7):
         before = offices(folder)
         town = (before[END].folder / TOWN).read_bytes()
         table = Table(f"The file ({len(town) // PAGE} pages, seed {seed})", "files", *columns)
-        for what, files in kinds(folder, town, chance):
+        for what, files in kinds(town, chance):
             found = [tried(folder, what, content) for content in files]
             table.row(what, len(found), *map(found.count, columns))
         found = [tried(folder, "a log of random bytes", town, noise(chance, length)) for length in LENGTHS]

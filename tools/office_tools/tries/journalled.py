@@ -11,18 +11,17 @@ else, come between. As many evenings are played side by side as there are proces
   an office that opens and has a journal.
 """
 import collections
-import contextlib
 import random
 import re
 
-from office_tools.election import keying
+from office_tools.election import keying, marks_of
 from office_tools.office import SCRIPT, Office, Wrong, temporary_folder
 from office_tools.tables import Table
 from office_tools.trials import side_by_side
 
 SECONDS = 120
 PHASES = ("nominations", "keying", "sealed", "declared")
-REFUSED = re.compile(r"line (\d+): refused (\d+): (.*)\n")
+REFUSED = re.compile(r"line (\d+): (?:file fault|refused) (\d+)(?: at record \d+)?: (.*)\n")
 CLERKS = (1, 4, 5, 9, 17, 998, 999)
 NAMES = (
     "Ann", "Bob", "Old Harbour", "O'Neill", 'the "Red" one', '"', "'", "''", '""', "\"'\"'", "-Harbour", "-", "--", "--id", "--id=x",
@@ -47,26 +46,11 @@ def typed(words):
     return " ".join("'" + word.replace("'", "'\"'\"'") + "'" for word in words) + "\n"
 
 
-def sent(office, orders):
-    """Sends orders, past those that are refused. Returns for each its refusal, a number and a text, or None."""
-    results = []
-    while len(results) < len(orders):
-        rest = orders[len(results):]
-        printed = replayed(office, "".join(map(typed, rest)))
-        if printed.status == 0:
-            return results + [None] * len(rest)
-        refused = REFUSED.fullmatch(printed.err)
-        if printed.status != 1 or not refused:
-            raise Wrong(f"an evening's orders: {printed}")
-        results += [None] * (int(refused[1]) - 1) + [(int(refused[2]), refused[3])]
-    return results
-
-
 class Evening:
-    """What happens at an office in an evening. Wards and batches are generators of lists of orders, which are sent what came of each."""
+    """What happens at an office in an evening, with how many orders were refused."""
 
     def __init__(self, chance, office):
-        self.chance, self.office, self.ids = chance, office, collections.defaultdict(list)
+        self.chance, self.office, self.ids, self.refused = chance, office, collections.defaultdict(list), 0
         self.batches = chance.sample(range(1, 10000), 9)
 
     def chosen(self, likely):
@@ -75,62 +59,66 @@ class Evening:
     def order(self, *words, name=None, is_used=False):
         """Returns the words of an order with its id, one in forty of something else. A name comes last, and may look like an option."""
         given = self.ids[str(words[1]) if "key" in words[0] else ""]
-        if not (given and (is_used or self.chosen(0.025))):
+        if not (given and (is_used or words[0] not in ("candidate", "withdraw") and self.chosen(0.03))):
             given.append(self.chance.choice(IDS) + str(len(given)))
         return [*map(str, words), f"--id={self.chance.choice(given) if is_used else given[-1]}", *(["--", name] if name else [])]
 
-    def play(self):
-        """Plays the evening, with orders in between that are refused. Returns how many were refused."""
-        wards, answer, refused = self.chance.sample(range(1, 100), self.chance.choice((0, 1, 1, 2, 3))), None, 0
-        life = self.in_turns(map(self.ward, wards))
-        with contextlib.suppress(StopIteration):
-            while True:
-                orders = life.send(answer)
-                lines = self.chance.sample(REFUSALS, self.chance.choice((0, 0, 0, 0, 1)))
-                results = sent(self.office, [self.order(*line.split(), is_used=self.chosen(0.5)) for line in lines] + orders)
-                refused, answer = refused + sum(result is not None for result in results), results[len(lines):]
-        return refused
+    def sent(self, orders):
+        """Sends orders, past those that are refused. Returns the last refusal, a number and a text, if it was of the last order."""
+        refusal = None
+        while orders:
+            printed = replayed(self.office, "".join(map(typed, orders)))
+            if printed.status == 0:
+                return None
+            if printed.status != 1 or not (refusal := REFUSED.fullmatch(printed.err)):
+                raise Wrong(f"an evening's orders: {printed}")
+            self.refused, orders = self.refused + 1, orders[int(refusal[1]):]
+        return refusal and (int(refusal[2]), refusal[3])
 
-    def in_turns(self, lives):
-        """Plays some lives, each a piece further when its turn is drawn."""
-        answers = {life: None for life in lives}
-        while answers:
-            life = self.chance.choice(list(answers))
-            try:
-                answers[life] = yield life.send(answers[life])
-            except StopIteration:
-                del answers[life]
+    def play(self):
+        """Sends the orders of some wards, those of each in their order, with some in between that are refused; and counts the wards."""
+        chance = self.chance
+        wards = {ward: list(self.ward(ward)) for ward in chance.sample(range(1, 100), chance.choice((0, 1, 2, 2, 3)))}
+        turns = chance.sample([ward for ward, orders in wards.items() for _ in orders], sum(map(len, wards.values())))
+        orders = [wards[ward].pop(0) for ward in turns]
+        for line in chance.choices(REFUSALS, k=len(orders) // 5):
+            orders.insert(chance.randrange(len(orders)), self.order(*line.split(), is_used=self.chosen(0.5)))
+        self.sent(orders)
+        for ward in wards:
+            self.count(ward)
 
     def ward(self, ward):
-        """Plays a ward, from its first order on, as far as it comes."""
-        chance, seats, standing = self.chance, self.chance.randint(1, 3), set()
-        yield [self.order("ward", ward, seats, name=chance.choice(NAMES))]
+        """Yields the orders of a ward up to its seal, as far as it comes. Some of them are refused."""
+        chance = self.chance
+        yield self.order("ward", ward, chance.randint(1, 3), name=chance.choice(NAMES))
         numbers = chance.sample(range(1, chance.choice((6, 30)) + 1), chance.choice((1, 3, 4, 5, 5, 6)))
         if self.chosen(0.3):
             names = [chance.choice(NAMES).replace('"', '""') for _ in numbers]
             lines = [f'{ward},{number},"{name}"' for number, name in zip(numbers, names)]
             self.office.write(f"names{ward}.csv", ["ward,candidate,name", *lines])
-            (refusal,) = yield [self.order("import-candidates", f"names{ward}.csv")]
-            standing.update(() if refusal else numbers)
-        for number in [*numbers, *(chance.choice(numbers) for _ in range(chance.choice((0, 0, 1, 3, 6))))]:
-            is_there = number in standing
-            words = self.order("withdraw", ward, number) if is_there else self.order("candidate", ward, number, name=chance.choice(NAMES))
-            if not is_there or self.chosen(0.3):
-                (refusal,) = yield [words]
-                standing ^= set() if refusal else {number}
+            yield self.order("import-candidates", f"names{ward}.csv")
+        for number in [*numbers, *chance.choices(numbers, k=chance.choice((0, 0, 1, 3, 6)))]:
+            if self.chosen(0.25):
+                yield self.order("withdraw", ward, number)
+            yield self.order("candidate", ward, number, name=chance.choice(NAMES))
+        for _ in range(min(chance.choice((0, 0, 0, 1, 2)), len(numbers) - 1)):
+            yield self.order("withdraw", ward, numbers.pop())
         if self.chosen(0.9):
-            yield [self.order("close", ward)]
-            if len(standing) > seats:
-                yield from self.in_turns(self.batch(ward, sorted(standing)) for _ in range(chance.choice((0, 1, 1, 2, 3))))
-                yield [self.order("seal", ward)]
-            yield from self.count(ward)
+            yield self.order("close", ward)
+            # Batches take turns.
+            batches = [self.batch(ward, sorted(numbers)) for _ in range(chance.choice((1, 1, 2, 3)))]
+            while batches:
+                batch = chance.choice(batches)
+                if (order := next(batch, None)) is None:
+                    batches.remove(batch)
+                else:
+                    yield order
+            yield self.order("seal", ward)
 
     def ranked(self, columns, least):
         """Returns marks by which so many candidates at least are ranked."""
-        fields = [""] * len(columns)
-        for place, column in enumerate(self.chance.sample(range(len(columns)), self.chance.randint(least, len(columns))), 1):
-            fields[column] = str(place)
-        return ",".join(fields)
+        size = len(columns)
+        return marks_of(self.chance.sample(range(size), self.chance.randint(least, size)), size)
 
     def marks(self, columns):
         """Returns the marks of a paper: one in six is doubtful, and one in twenty has other numbers."""
@@ -138,44 +126,42 @@ class Evening:
         return "D" if self.chosen(0.17) else odd if self.chosen(0.05) else self.ranked(columns, 0)
 
     def keyed(self, columns, clerk, batch, turn, papers):
-        """Returns the order of a keying, by words or by a file; of some keyings one paper is keyed otherwise."""
-        if turn < self.chance.choice((1, 1, 2, 4)):
-            papers = [self.marks(columns), *papers[1:]]
+        """Returns the order of a keying, by words or by a file."""
         if self.chosen(0.7):
-            order = self.order("key", clerk, batch, turn)
-            return [*order, *papers]
+            return [*self.order("key", clerk, batch, turn), *papers]
         name = f"k{clerk}-{batch}-{turn}.csv"
         self.office.write(name, keying(papers, columns))
         return self.order("import-keying", clerk, batch, turn, name)
 
     def batch(self, ward, columns):
-        """Plays a batch, keyed in rounds until two clerks agree, or left before, and the verdicts."""
+        """Yields the orders of a batch, keyed in rounds until two clerks agree, or left before, and the verdicts."""
         batch, (first, second, third) = self.batches.pop(), self.chance.sample(CLERKS, 3)
         papers = [self.marks(columns) for _ in range(self.chance.choice((1, 2, 3, 5, 8)))]
-        yield [self.order("batch", batch, ward, len(papers), first, second)]
+        yield self.order("batch", batch, ward, len(papers), first, second)
         for turn in range(1, self.chance.choice((2, 3, 4, 5))):
             clerks = self.chance.sample((first, second), 1 if self.chosen(0.05) else 2)
-            yield [self.keyed(columns, clerk, batch, turn, papers) for clerk in clerks]
-            if self.chosen(0.4):
-                (refusal,) = yield [self.order("third", batch, third)]
-                if not refusal and self.chosen(0.8):
-                    yield [self.keyed(columns, third, batch, turn, papers)]
-            (refusal,) = yield [self.order("again", batch)]
-            if refusal:
+            # Some key the first paper otherwise.
+            keyings = [[self.marks(columns), *papers[1:]] if turn < self.chance.choice((1, 1, 2, 4)) else papers for _ in clerks]
+            for clerk, keying_of in zip(clerks, keyings):
+                yield self.keyed(columns, clerk, batch, turn, keying_of)
+            if keyings == [papers, papers]:
                 break
+            if self.chosen(0.4):
+                yield self.order("third", batch, third)
+                yield self.keyed(columns, third, batch, turn, papers)
+            yield self.order("again", batch)
         for paper in [number for number, text in enumerate(papers, 1) if text == "D"]:
-            yield [self.order("judge", batch, paper, self.chance.choice((f"accept:{self.ranked(columns, 1)}", "reject:3", "reject:5")))]
+            yield self.order("judge", batch, paper, self.chance.choice((f"accept:{self.ranked(columns, 1)}", "reject:3", "reject:5")))
 
     def count(self, ward):
         """Plays the stages of a ward's count, with its lots, up to the declaration, or to where it is left."""
         while not self.chosen(0.03):
-            (refusal,) = yield [self.order("advance", ward)]
-            number, text = refusal or (0, "")
+            number, text = self.sent([self.order("advance", ward)]) or (0, "")
             if number == 26:
                 stage, tied = text.removeprefix("lot needed at stage ").split(" among ")
-                yield [self.order("lot", ward, stage, self.chance.choice(tied.split(", ")))]
+                self.sent([self.order("lot", ward, stage, self.chance.choice(tied.split(", ")))])
             elif number:
-                yield [self.order("declare", ward)]
+                self.sent([self.order("declare", ward)])
                 return
 
 
@@ -228,9 +214,9 @@ def evening_of(seed, number):
     chance = random.Random(f"{seed} {number}")
     with temporary_folder() as folder:
         try:
-            office = Office(folder / "town").begin()
-            refused = Evening(chance, office).play()
-            return counted(compared(office, chance, number % 10 == 0), refused)
+            evening = Evening(chance, Office(folder / "town").begin())
+            evening.play()
+            return counted(compared(evening.office, chance, number % 10 == 0), evening.refused)
         except Wrong as wrong:
             raise Wrong(f"evening {number} of seed {seed}: {wrong}") from wrong
 

@@ -2,7 +2,8 @@
 
 Two browsers log in as clerks 4 and 9, and each keys the same batch of 50 papers. One leaves a paper out and puts it in, and mends another.
 A page is loaded again in mid-batch, the server is killed and started again, and a line breaks after a keying was kept. The rows are those
-that were typed, each keyed once. The page asks nothing but what is its clerk's, and whoever left isn't let in again.
+that were typed, each keyed once. Another batch comes back, and one of the two goes through their own keying of it. The page asks nothing
+but what is its clerk's, and a clerk who signed out isn't let in again.
 Pictures at 1024 and 400 pixels go into the folder PICTURES. It needs `chromium`, `chromium-driver` and `python3-selenium`.
 """
 import functools
@@ -55,9 +56,9 @@ def key(four, nine, papers):
 def send(four, nine, papers):
     """Both send: a line breaks once the keying was kept, and the server is gone when the other sends. Each is kept as it was typed."""
     four.evening.line.cuts = 1
-    four.keys("s").shows("doesn\u2019t answer", "said").pictured("unanswered").shows("batch 12 round 1 keyed", "said")
+    four.keys("s").shows("is not responding", "said").pictured("unanswered").shows("batch 12 round 1 keyed", "said")
     four.evening.server.kill()
-    nine.keys("s").shows("doesn\u2019t answer", "said").reload()
+    nine.keys("s").shows("is not responding", "said").reload()
     nine.evening.start()
     nine.reload()
     nine.shows("batch 12 round 1 keyed", "said")
@@ -68,6 +69,19 @@ def send(four, nine, papers):
         receipts = [subject for actor, _, subject, _ in rows["receipt"] if actor == teller.clerk]
         if receipts != ["key 12 1"] or teller.value("Object.keys(localStorage).length"):
             raise Wrong(f"clerk {teller.clerk} has {receipts}, or something of the keying stays in the browser")
+
+
+def go_through(four):
+    """Batch 14 differs, and is opened again: clerk 4 goes through their own keying of it, corrects its paper, and sends it."""
+    office = four.evening.office
+    for line in ("key 4 14 1 1,2,,, --id k2", "key 9 14 1 1,,2,, --id k2", "again 14 --id r14"):
+        office.do(*line.split())
+    four.log_in().shows("round 2", "list").keys("Tab", "Enter").views("start").keys("Enter", at=1)
+    four.until("document.getElementById('read-marks').textContent.includes('1 Ann2 Bob')")
+    four.pictured("read").keys("Delete", "1", "0", "2", "Enter").shows("Corrected: 1 paper", "summary")
+    four.keys("s").shows("batch 14 round 2 keyed", "said")
+    if [row[-1] for row in office.rows()["keying"] if row[:3] == (14, 2, 4)] != ["1,,2,,"]:
+        raise Wrong("clerk 4's second keying of batch 14 isn't what was corrected")
 
 
 def leave(four, nine):
@@ -97,4 +111,5 @@ def main(pictures: Path = None):
         key(four, nine, papers)
         send(four, nine, papers)
         print_keys(papers, four.count)
+        go_through(four)
         leave(four, nine)

@@ -4,10 +4,9 @@ Each order is killed (SIGKILL) RUNS times. After each kill:
 
 - The stock `sqlite` finds the file whole. It holds the rows before the order or those after it; if the order had answered, those after it.
   An import or a script may leave some of its records (`some records`): at least those that were answered.
-- The order, repeated, prints what it prints without a kill. So does `migrate`, which starts from an office of an earlier program; or it
-  prints that there is nothing to do.
-- A `copy` leaves the office as it is. At the copy's path there is no office (`rows before it found`), and the program reports fault 105
-  there. Or the whole office is there, in its one file if the order wasn't killed. Removed and repeated, the copy prints the same.
+- The order, repeated, prints what it prints without a kill; `migrate` may print that there is nothing to do.
+- At a copy's path there is no office (`rows before it found`), and the program reports fault 105 there; or the whole office, in its one
+  file if the order wasn't killed. Removed and repeated, the copy prints the same.
 """
 import random
 import statistics

@@ -1,4 +1,4 @@
-"""Kills `serve` at random moments while clients are answered, and sees that nothing is lost.
+"""Kills `serve` at random moments while it serves clients, and sees that nothing is lost.
 
 Twenty clerks key at once, each their own batch. Meanwhile the office gives ten orders, one after the other, which are handed over to
 `serve`. The tool kills `serve` (SIGKILL) at a random moment in between. Then:
@@ -69,7 +69,7 @@ class Crowd:
         return receipts, wards
 
     def killed(self, chance):
-        """Returns how many clerks were answered, keyings are kept, orders were answered, and orders are kept."""
+        """Returns the numbers of keyings that were answered, keyings that are kept, orders that were answered, and orders that are kept."""
         here = self.office.copied(self.here)
         _, answers, added = self.served(here, chance.uniform(0, 1.2 * chance.choice(self.seconds)))
         kept, wards = self.kept(here.rows())

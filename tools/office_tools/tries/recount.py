@@ -13,11 +13,10 @@ import collections
 import itertools
 import random
 import re
-import subprocess
 import sys
 from pathlib import Path
 
-from office_tools.office import SECONDS, Wrong, program, temporary_folder
+from office_tools.office import Wrong, checker, temporary_folder
 from office_tools.tables import Table
 from office_tools.wards import Ward, sealed_office
 
@@ -130,15 +129,15 @@ def written(lines):
 
 
 class Candidate:
-    """A candidate, the parcels that lie before him, and his votes, now and at the end of each stage."""
+    """A candidate, the parcels received, and the votes, now and at the end of each stage."""
 
     def __init__(self, number, name):
         self.number, self.name, self.parcels, self.votes, self.figures = number, name, [], 0, []
-        # As on the sheet: - while he continues, E at the stage at which he is elected and e after it, x once he is excluded.
+        # As on the sheet: - for a continuing candidate, E at the stage of the election and e after it, x once excluded.
         self.letter = "-"
 
     def receives(self, parcel):
-        """Lays a parcel before him: he is credited with the values of its papers."""
+        """Adds a parcel, and credits the candidate with the values of its papers."""
         self.parcels.append(parcel)
         self.votes += worth(parcel)
 
@@ -176,14 +175,14 @@ class Count:
         surpluses = [candidate for candidate in self.those("Ee") if candidate.votes > self.quota]
         giver = self.foremost(surpluses, max) if surpluses else self.foremost(self.those("-"), min)
         if giver and surpluses:
-            # All his papers are handed on, each at its part of his surplus, and he keeps the quota. What they don't take with them, since
-            # their values are cut down, is lost.
+            # All papers are handed on, each at its part of the surplus, and the quota stays. What they don't take with them, since their
+            # values are cut down, is lost.
             surplus, credited = giver.votes - self.quota, giver.votes
             self.lost += surplus - self.hand_on(giver, lambda received: surplus * received // credited)
             giver.votes = self.quota
             self.end_stage(f"surplus of {giver.number}")
         elif giver:
-            # His papers are handed on at the values at which he received them. If all the others are elected now, his votes stay.
+            # The papers are handed on at the values at which they were received. If all the others are elected now, the votes stay.
             giver.letter = "x"
             is_last = len(self.those("-")) == self.vacancies()
             giver.votes -= 0 if is_last else self.hand_on(giver, lambda received: received)
@@ -206,7 +205,7 @@ class Count:
         return None
 
     def hand_on(self, giver, value_of):
-        """Hands on each parcel of a candidate, at the value that comes of the one at which he received it. Returns the worth of all."""
+        """Hands on each parcel of a candidate, at a value made from the one at which it was received. Returns the worth of all."""
         handed_on = 0
         for parcel in giver.parcels:
             heaps = collections.defaultdict(list)
@@ -263,47 +262,45 @@ def compare(what, told, wanted):
             raise Wrong(f"{what}, line {place}: told is {line}, wanted {right}")
 
 
-def compare_counted(ballots, lots, wanted, waits):
-    """Counts ballots without an office, with these lots added, and compares each text by its option, the line about a lot and the status."""
-    line, added = b"", [word for stage, drawn in lots.items() for word in ("--lot", f"{stage}:{drawn}")]
-    if waits:
-        names = Ballots(ballots).names
-        line = STEERS.sub("?", f"lot needed at stage {waits[0]} among {', '.join(f'{c} {names[c]}' for c in waits[1])}").encode() + b"\n"
+def compare_counted(content, words, lots, count, wanted):
+    """Counts a file without an office, with these lots added, and compares each text by its option, the line about a lot and the status."""
+    line, added = b"0", [word for stage, drawn in lots.items() for word in ("--lot", f"{stage}:{drawn}")]
+    if count.waits:
+        tied = ", ".join(f"{number} {count.ballots.names[number]}" for number in count.waits[1])
+        line = STEERS.sub("?", f"lot needed at stage {count.waits[0]} among {tied}").encode() + b"\n1"
     for option, text in wanted.items():
-        words = [program("CHECK_COUNT"), "--count", "-", *option.split(), *added]
-        run = subprocess.run(words, input=ballots, stdout=subprocess.PIPE, stderr=subprocess.PIPE, timeout=SECONDS, check=False)
-        compare(f"count without an office {option}", run.stdout, text)
-        compare("its line about a lot, and its status", run.stderr + b"%d" % run.returncode, line + (b"1" if waits else b"0"))
+        status, out, err = checker(*words, *option.split(), *added, input=content)
+        compare(f"count without an office {option}", out, text)
+        compare("its line about a lot, and its status", err + b"%d" % status, line)
 
 
 def play(ward, folder):
     """Plays a ward to its declaration, and compares all that the program prints on the way. Returns its count."""
-    number, office, lots = ward.number, sealed_office(folder, ward), {}
+    number, office, lots, is_over = ward.number, sealed_office(folder, ward), {}, False
+    bundles, rejected = ward.judged()
 
     def told(*words):
         return office.do(*words).encode("utf-8", "surrogateescape")
     first = told("ballots", number)
-    while True:
-        count = Count(Ballots(told("ballots", number)))
-        bundles, rejected = ward.judged()
+    while not is_over:
+        count = Count(Ballots(ballots := told("ballots", number)))
         papers = [(bundle.papers, bundle.preferences) for bundle in sorted(count.ballots.bundles)]
         compare("ballots, sorted", written([count.ballots.rejected, *papers]), written([rejected, *bundles]))
         if count.lots:
             raise Wrong(f"ballots: no stage takes these lots: {count.lots}")
-        stage, tied = count.waits or (0, [])
+        is_over, (stage, tied) = not count.waits, count.waits or (0, [])
         last = f"lot needed at stage {stage} among {', '.join(map(str, tied))}" if tied else "count finished"
         compare("count", told("count", number, "--id", f"count-to-{stage}").splitlines()[-1], last.encode())
         compare("sheet", told("sheet", number), count.sheet())
-        if not tied:
-            break
-        texts = {"": count.sheet(), "--declaration": b"", "--table": told("table", number), "--ballots": told("ballots", number)}
-        compare_counted(first, lots, texts | {"--page": told("page", number)}, count.waits)
-        lots[stage] = ward.chance.choice(tied)
-        told("lot", number, stage, lots[stage], "--id", f"l{stage}")
-    told("declare", number, "--id", "d")
-    compare("result", told("result", number), count.declaration())
-    texts = {"": count.sheet(), "--declaration": count.declaration(), "--table": told("table", number), "--ballots": told("ballots", number)}
-    compare_counted(first, lots, texts | {"--page --title Spring": told("page", number, "--title", "Spring")}, None)
+        if is_over:
+            told("declare", number, "--id", "d")
+            compare("result", told("result", number), count.declaration())
+        texts = {"": count.sheet(), "--declaration": is_over * count.declaration(), "--table": told("table", number), "--ballots": ballots,
+                 "--page --title Spring": told("page", number, "--title", "Spring")}
+        compare_counted(first, ["--count", "-"], lots, count, texts)
+        if tied:
+            lots[stage] = ward.chance.choice(tied)
+            told("lot", number, stage, lots[stage], "--id", f"l{stage}")
     return count
 
 

@@ -1,20 +1,18 @@
 """Refuses each growth of memory of each order in turn, and sees that nothing is lost.
 
-The GNU C library is set to ask the system for each growth by itself (`GLIBC_TUNABLES`), and `strace` refuses the one that is meant: so any
-program can be tried, such as that of a release. An order of a small election asks for some 7,000 growths, and refusing each takes hours.
-STEP tries one in STEP, each in a run of its own, from another growth on for each order; ORDER the orders of one name alone. In each run:
+The GNU C library is set to ask the system for each growth by itself (`GLIBC_TUNABLES`), and `strace` refuses the one that is meant. An
+order of a small election asks for some 7,000 growths, and refusing each takes hours. STEP tries one in STEP, each in a run of its own, from
+another growth on for each order; ORDER the orders of one name alone. In each run:
 
 - The order reports fault 101, or prints what it prints with ample memory.
 - The file is whole. It holds the rows before the order or those after it; if the order was answered, those after it.
 - The order, repeated, prints what it prints with ample memory.
 - `serve` sends a client fault 101 or the response, or disconnects it without one, or ends with fault 101.
 - At a copy's path there is nothing (`rows before it found`) if the copy wasn't answered, and the whole office if it was.
-- After a script of four orders (a candidate, `close`, `batch`, a keying from an import file) the file may hold the rows after one of its
-  orders (`some records`): at most one more than were answered. The fault names the line that was being processed.
-- An order that changes nothing leaves the rows before it.
+- After a script of four orders the file may hold the rows after one of them (`some records`): at most one more than were answered. The
+  fault names the line that was being processed.
 
-`migrate` gets an office of an earlier program. The second `advance 7 --id a3` is refused, since it comes before its lot, and the second
-`status 7` finds no file.
+The second `advance 7 --id a3` is refused, since it comes before its lot, and the second `status 7` finds no file.
 """
 from office_tools.office import Wrong, needs, temporary_folder
 from office_tools.tables import Table, added

@@ -1,20 +1,18 @@
 """Gives two orders at one file at once, takes files away, and looks at the rights of what is made.
 
 - *Two orders at once*, the second a random time after the first. What both print, and the rows, are as if one had been given after the
-  other: the one that finds the file held waits. An order given while `init` runs may report 105: there is no office yet. A copy has the
-  rows before the other order or those after it, or isn't there; if another office is made at its path at the same time, one of the two
-  reports that. A script of four orders opens the file once, so no other order comes between them.
+  other. An order given while `init` runs may report 105: there is no office yet. A copy has the rows before the other order or those after
+  it, or isn't there; if another office is made at its path, one of the two reports that. No order comes between those of a script.
 - *Files taken away.* The file or its log is removed, or replaced by another office's. An order continues with the files that it has open:
-  they have the rows before it, or those after it if it was answered, and the other office's file isn't changed. `serve` notices that a
-  file is gone: it prints fault 113 on standard error, and accepts nothing more; a keying gets 503 with that fault, and an order that is
-  handed over prints it.
+  they have the rows before it, or those after it if it was answered, and the other office's file isn't changed. What `serve` does then,
+  examples/serving.sh shows.
 - *No room.* An order that makes a file finds no room for an office in it, and removes it again. By `strace` it stops after one of its calls
-  on the file, and another order at that file after one of its own, both drawn at random. The first then finishes, and the second after
-  it. If the second was answered, the file at that name holds what it printed. If it wasn't, nothing is left, not even a log, and an
-  `init` makes an office.
+  on the file, drawn at random, and another order opens that file. Then the first finishes. If the second was answered, the file at
+  that name holds what it printed. If it wasn't, nothing is left, not even a log, and an `init` makes an office.
 - *Rights.* By `strace`: DB, its log, a copy and the socket are made for their owner alone, and are their owner's alone then.
 """
 import contextlib
+import itertools
 import os
 import random
 import re
@@ -22,16 +20,13 @@ import shutil
 import signal
 import time
 
-from office_tools.election import COPY, COPYING, ELECTION, FILE, REPLAY, REQUESTS, SCRIPTED, Order, offices
-from office_tools.office import LOG, NO_OFFICE, SECONDS, STORE, TOWN, Office, Wrong, ended, needs, remove, temporary_folder, timed, waited
+from office_tools.election import COPY, COPYING, ELECTION, FILE, REPLAY, SCRIPTED, Order, offices
+from office_tools.office import LOG, NO_OFFICE, STORE, TOWN, Office, Wrong, ended, needs, remove, temporary_folder, timed, waited
 from office_tools.tables import Table
 from office_tools.trials import CALL, NOT_WRITTEN, left, strace
 
 KEYINGS = 7
-FAULTS = ("102", "105", "109", "110", "113")
-GONE = "fault 113: file gone or replaced\n"
-GONE_SENT = ("HTTP/1.1 503 Service Unavailable\r\nContent-Type: application/json\r\nContent-Length: 13\r\nConnection: close\r\n"
-             '\r\n{"fault":113}')
+FAULTS = ("102", "105", "109", "110")
 QUAY, HILL, STATUS, INIT = (Order(line.split()) for line in ("ward 8 1 Quay --id q", "ward 9 2 Hill --id h", "status 7", "init"))
 
 
@@ -47,7 +42,7 @@ PAIRS = [
     ("one keying, twice", KEYINGS, ELECTION[7], with_file(7)),
     ("two wards", KEYINGS, QUAY, HILL),
     ("a ward and a status", KEYINGS, QUAY, STATUS),
-    ("two stages of one count", 15, ELECTION[15], ELECTION[16]),
+    ("two stages of one count", 16, ELECTION[16], ELECTION[17]),
     ("two `init`", 0, INIT, INIT),
     ("`init` and a ward", 0, INIT, QUAY),
     ("a copy and a ward", KEYINGS, COPYING, QUAY),
@@ -105,18 +100,18 @@ class Pair:
 
 
 def print_pairs(folder, before, runs, chance):
-    table = Table(f"Two orders at once ({runs} runs each)", "both answered", *(f"one: fault {word}" for word in FAULTS[:4]))
+    table = Table(f"Two orders at once ({runs} runs each)", "both answered", *(f"one: fault {word}" for word in FAULTS))
     for what, number, first, second in PAIRS:
         pair = Pair(folder, before[number], first, second)
         found = [pair.tried(chance) for _ in range(runs)]
-        table.row(what, *map(found.count, ("both", *FAULTS[:4])))
+        table.row(what, *map(found.count, ("both", *FAULTS)))
 
 
 class Taking:
-    """Files that are taken from an order, or from `serve`, and what must come of it."""
+    """Files that are taken from an order, or from `serve`, and the outcome that they must have."""
 
     def __init__(self, folder, before, chance):
-        self.folder, self.office, self.keyed, self.chance = folder, before[KEYINGS], before[KEYINGS + 1], chance
+        self.folder, self.office, self.chance = folder, before[KEYINGS], chance
         self.other = before[2].copied(folder / "other")
         QUAY.done(self.other)
 
@@ -161,82 +156,17 @@ class Taking:
             raise Wrong(f"{names} taken from an order: {printed}, or other rows")
         return printed
 
-    def from_serve(self, names, is_replaced, result, order=HILL):
-        """Takes files that `serve` has open: it says so, and keeps nothing more, neither an order nor a client's keying."""
-        here, files = self.begun(self.keyed)
-        with here.serve(connections=2) as serving:
-            serving.ask(REQUESTS[0][1].sends)
-            self.take(here, names, is_replaced)
-            printed, client = order.done(here), serving.ask(REQUESTS[1][1].sends).decode()
-            said = serving.ended()
-        there = (self.other if is_replaced else self.keyed).copied(self.folder / "there")
-        if not is_replaced:
-            remove(*(there.folder / name for name in names))
-        elif result == "answered":
-            order.done(there)
-        is_right = said == (0, "", GONE) and client == GONE_SENT and self.held_rows(files) == self.keyed.rows()
-        if not is_right or kind(printed) != result or left(here) != left(there):
-            raise Wrong(f"{names} taken from serve, which prints {said}; the order {printed}, the client {client}")
-        return printed
-
 
 def print_taken(taking, runs):
-    table = Table("What is done to the file and its log", "runs", "answered", *(f"fault {word}" for word in FAULTS))
-    both = [TOWN, LOG]
-    for what, times, act, *words in (
-            ("both removed while an order runs", runs, taking.from_order, both, False),
-            ("its log removed while an order runs", runs, taking.from_order, [LOG], False),
-            ("the file replaced while an order runs", runs, taking.from_order, [TOWN], True),
-            ("both replaced while an order runs", runs, taking.from_order, both, True),
-            ("both removed, and `serve` has them open", 1, taking.from_serve, both, False, "105"),
-            ("the file replaced, and `serve` has them open", 1, taking.from_serve, [TOWN], True, "102"),
-            ("both replaced, and `serve` has them open", 1, taking.from_serve, both, True, "answered"),
-            ("its log removed, and `serve` has them open", 1, taking.from_serve, [LOG], False, "113")):
-        found = [kind(act(*words)) for _ in range(times)]
-        table.row(what, times, *map(found.count, ("answered", *FAULTS)))
+    table = Table("What is done to the file and its log while an order runs", "runs", "answered", *(f"fault {word}" for word in FAULTS[:2]))
+    for what, names, is_replaced in (("both removed", [TOWN, LOG], False), ("the log removed", [LOG], False),
+                                     ("the file replaced", [TOWN], True), ("both replaced", [TOWN, LOG], True)):
+        found = [kind(taking.from_order(names, is_replaced)) for _ in range(runs)]
+        table.row(what, runs, *map(found.count, ("answered", *FAULTS[:2])))
 
 
-# An order that doesn't come so far within so many seconds waits for another. It tries again, so it stops within its first calls alone.
-STUCK, FIRST_CALLS = 0.4, 24
-NO_ROOM = ["prlimit", "--fsize=40960"]
-
-
-class Stopping:
-    """An order that stops after one of its calls on a file and its log, drawn at random."""
-
-    def __init__(self, folder, name, order, under=()):
-        self.folder, self.names, self.order, self.under = folder, (name, name + "-wal"), order, under
-        self.trace = folder / f"trace-{len(under)}"
-
-    def start(self, here, *changes):
-        words = [*strace(self.trace, here.folder, self.names, *changes), *self.under]
-        return self.order.started(here, under=words, restore_signals=False)
-
-    def calls(self, office):
-        """Returns its calls, if it is alone."""
-        ended(self.start(office.copied(self.folder / "alone")))
-        return CALL.findall(self.trace.read_text(errors="replace"))
-
-    def begin(self, here, calls, number, seconds=SECONDS):
-        """Begins it, and returns whether it stops within these seconds after a call of this number."""
-        remove(self.trace)
-        self.goes_on, place = False, calls[:number + 1].count(calls[number])
-        self.process = self.start(here, f"{calls[number]}:signal=STOP:when={place}")
-        return waited(lambda: self.is_stopped() or self.process.poll() is not None, seconds) and self.is_stopped()
-
-    def is_stopped(self):
-        return self.trace.exists() and "--- stopped by SIGSTOP ---" in self.trace.read_text(errors="replace")
-
-    def is_ended(self):
-        """Lets it go on once it has stopped, and returns whether it ended."""
-        if self.is_stopped() and not self.goes_on:
-            self.process.send_signal(signal.SIGCONT)
-            self.goes_on = True
-        return self.process.poll() is not None
-
-    def end(self, seconds=SECONDS):
-        """Lets it go on, and returns what it prints; None if it doesn't end within these seconds."""
-        return ended(self.process) if waited(self.is_ended, seconds) else None
+# How long another order may wait for the one that stopped, which then continues.
+STUCK, NO_ROOM = 0.4, ["prlimit", "--fsize=40960"]
 
 
 def check_made(here, name, printed, before):
@@ -253,28 +183,39 @@ def check_made(here, name, printed, before):
 
 def print_gaps(folder, before, runs, chance):
     """Prints the table of orders that find no room for the file that they make, and of others that come to it meanwhile."""
-    heads = ("another at that file", "runs", "both stopped", "answered", "fault 102", "fault 105")
-    table, stops = Table("An order that finds no room for its file", *heads), 0
-    for what, number, first, name in (("`init`", 0, INIT, TOWN), ("a copy", KEYINGS, Order(["copy", COPY]), COPY)):
-        for other in (INIT, QUAY):
-            office, found, both = before[number], [], 0
-            making, coming = Stopping(folder, name, first, NO_ROOM), Stopping(folder, name, Order(other.words, town=name))
-            of_making, of_coming = making.calls(office), Stopping(folder, TOWN, other).calls(before[KEYINGS if other is QUAY else 0])
-            for _ in range(runs):
-                here = office.copied(folder / "gap")
-                is_stopped = making.begin(here, of_making, chance.randrange(len(of_making)))
-                both += coming.begin(here, of_coming, chance.randrange(min(FIRST_CALLS, len(of_coming))), STUCK) and is_stopped
-                made = making.end(STUCK)
-                printed = coming.end()
-                made = made or making.end()
-                if not made or not printed or made.status != 3:
-                    raise Wrong(f"{first.words} without room: {made}; another order: {printed}")
-                check_made(here, name, printed, office)
-                found.append(kind(printed))
-            stops += both
-            table.row(what, "`init`" if other is INIT else "a ward", runs, both, *map(found.count, ("answered", "102", "105")))
-    if not stops:
-        raise Wrong("no two orders stopped")
+    outcomes = "runs", "stopped", "answered", "fault 102", "fault 105"
+    table = Table("An order that finds no room for its file", "another at that file", *outcomes)
+    trace = folder / "gap-trace"
+
+    def start(order, here, name, *changes):
+        words = [*strace(trace, here.folder, (name, name + "-wal"), *changes), *NO_ROOM]
+        return order.started(here, under=words, restore_signals=False)
+
+    def is_stopped():
+        return trace.exists() and "--- stopped by SIGSTOP ---" in trace.read_text(errors="replace")
+
+    for (what, office, first, name), other in itertools.product((
+            ("`init`", before[0], INIT, TOWN), ("a copy", before[KEYINGS], COPYING, COPY)), (INIT, QUAY)):
+        found, stops = [], 0
+        ended(start(first, office.copied(folder / "gap"), name))
+        calls = CALL.findall(trace.read_text(errors="replace"))
+        for place in chance.choices(range(len(calls)), k=runs):
+            here = office.copied(folder / "gap")
+            remove(trace)
+            making = start(first, here, name, f"{calls[place]}:signal=STOP:when={calls[:place + 1].count(calls[place])}")
+            waited(lambda: is_stopped() or making.poll() is not None)
+            stops += is_stopped()
+            coming = Order(other.words, town=name).started(here)
+            waited(lambda: coming.poll() is not None, STUCK)
+            making.send_signal(signal.SIGCONT)
+            made, printed = ended(making), ended(coming)
+            if made.status != 3:
+                raise Wrong(f"{first.words} without room: {made}; another order: {printed}")
+            check_made(here, name, printed, office)
+            found.append(kind(printed))
+        table.row(what, "`init`" if other is INIT else "a ward", runs, stops, *map(found.count, ("answered", "102", "105")))
+        if runs and not stops:
+            raise Wrong(f"{what} never stopped")
 
 
 # A file that is made, and the rights that it is made with.
@@ -282,25 +223,23 @@ CREATED = re.compile(r'openat\(AT_FDCWD, "([^"]*)", [A-Z_|]*O_CREAT[A-Z_|]*, (0\
 
 
 def print_rights(folder, before):
-    """Prints the table of what is made under each mask, and by which calls: all of it has to be its owner's alone."""
-    table = Table("What is made, under masks 0, 022 and 077", "made for its owner alone")
+    """Prints the table of what is made under mask 0, and by which calls: all of it has to be its owner's alone."""
+    table, own, trace = Table("What is made, under mask 0", "made for its owner alone"), os.umask(0), folder / "rights-trace"
     for what, number, order in (("`init`", 0, INIT), ("a copy", KEYINGS, COPYING), ("an order while it is served", KEYINGS, QUAY)):
-        for mask in (0o000, 0o022, 0o077):
-            here, own = before[number].copied(folder / "rights"), os.umask(mask)
-            for path in here.folder.iterdir():
-                path.chmod(0o600)
-            trace = folder / "rights-trace"
-            under = strace(trace, here.folder, (), calls=("openat",))
-            with here.serve(under=under) if order is QUAY else contextlib.nullcontext() as serving:
-                waited(lambda: not serving or (here.folder / (TOWN + "-serve")).exists())
-                printed = order.done(here, **({} if serving else {"under": under}))
-                made = sorted(os.listdir(here.folder))
-                found = [path.name for path in here.folder.iterdir() if path.stat().st_mode & 0o077]
-                found += [one[1] for one in CREATED.finditer(trace.read_text()) if int(one[2], 8) & 0o077]
-            os.umask(own)
-            if printed.status or found:
-                raise Wrong(f"{what}, mask {mask:o}: others have rights to {found}; {printed}")
+        here = before[number].copied(folder / "rights")
+        for path in here.folder.iterdir():
+            path.chmod(0o600)
+        under = strace(trace, here.folder, (), calls=("openat",))
+        with here.serve(under=under) if order is QUAY else contextlib.nullcontext() as serving:
+            waited(lambda: not serving or (here.folder / (TOWN + "-serve")).exists())
+            printed = order.done(here, **({} if serving else {"under": under}))
+            made = sorted(os.listdir(here.folder))
+            found = [path.name for path in here.folder.iterdir() if path.stat().st_mode & 0o077]
+            found += [one[1] for one in CREATED.finditer(trace.read_text()) if int(one[2], 8) & 0o077]
+        if printed.status or found:
+            raise Wrong(f"{what}: others have rights to {found}; {printed}")
         table.row(what, ", ".join(made))
+    os.umask(own)
 
 
 def main(runs=100, seed=7):

@@ -32,14 +32,14 @@ def expect(what, found, wanted):
 
 
 def lock_of_an_order(path):
-    """Holds a database as an order does."""
+    """Holds a database as an order does. Returns what lets it go."""
     file = open(path, "r+b")
     fcntl.fcntl(file, OFD_SETLK, struct.pack("hhqqi4x", fcntl.F_WRLCK, os.SEEK_SET, HELD_BYTE, 1, 0))
     return file.close
 
 
 def lock_of_sqlite(path):
-    """Holds a database as another program of SQLite does."""
+    """Holds a database as another program of SQLite does. Returns what lets it go."""
     base = sqlite3.connect(path, check_same_thread=False)
     base.execute("BEGIN EXCLUSIVE")
     return base.close
@@ -61,7 +61,6 @@ class Waits:
     def __init__(self, folder):
         self.office = Office(folder).begin()
         self.path, self.table = self.office.folder / TOWN, Table("What", "seconds")
-        os.mkfifo(self.office.folder / "pipe")
 
     def run(self, *words):
         return self.office.run(*words, seconds=180)
@@ -73,15 +72,15 @@ class Waits:
         """Gives orders while the file is held, for a second and longer than they wait."""
         for hold, what, who in ((lock_of_an_order, "an order", "another order holds it"),
                                 (lock_of_sqlite, "another program", "another program has it open")):
-            threading.Timer(1, hold(self.path)).start()
-            found, seconds = timed(self.run, "receipts")
-            expect(what, (found.status, found.err, seconds >= 1), (0, "", True))
-            self.table.row(f"the file held by {what} for a second: the order is done", f"{seconds:.1f}")
-            free = hold(self.path)
-            found, seconds = timed(self.run, "receipts")
-            free()
-            expect(what, (found, 9.9 < seconds < 20), ((3, "", f"{STORE}waited ten seconds for town.db: {who}\n"), True))
-            self.table.row(f"the file held by {what} and stays held: fault 102", f"{seconds:.1f}")
+            late = (3, "", f"{STORE}waited ten seconds for town.db: {who}\n")
+            for held, wanted, end in ((1, self.run("receipts"), "for a second: the order is done"),
+                                      (30, late, "and stays held: fault 102")):
+                free = hold(self.path)
+                threading.Timer(held, free).start()
+                found, seconds = timed(self.run, "receipts")
+                free()
+                expect(what, (found, min(held, 9.9) < seconds < 20), (wanted, True))
+                self.table.row(f"the file held by {what} {end}", f"{seconds:.1f}")
 
     def serve(self):
         """Serves the office, and waits for the socket of orders."""
@@ -92,14 +91,13 @@ class Waits:
 
     def while_serve_comes_and_goes(self):
         """Gives orders one after the other, while `serve` begins and is ended again and again."""
-        found, ends = [], threading.Event()
+        found, ends, began = [], threading.Event(), time.perf_counter()
 
         def orders():
             for number in itertools.takewhile(lambda _: not ends.wait(0.05), itertools.cycle(COMING)):
                 found.append((number, self.add(number)))
         giver = threading.Thread(target=orders, daemon=True)
         giver.start()
-        began = time.perf_counter()
         for _ in range(SERVING):
             serving = self.serve()
             time.sleep(0.05)
@@ -115,36 +113,36 @@ class Waits:
         what += f"{len(found) - len(cut)} done at once, {len(cut)} when given again"
         self.table.row(what, f"{time.perf_counter() - began:.1f}")
 
-    def piped(self, what, first, pause, meanwhile=bool):
-        """Sends a script of four lines through a pipe, with a pause after each line. Something happens after the second one."""
-        lines, out = script_of(first)
-
+    def script(self, what, out, name=SCRIPT, lines=(), pause=0, meanwhile=bool):
+        """Sends a script, or one of four lines through a pipe, with a pause after each line. Something happens after the second one."""
         def feed():
-            with open(self.office.folder / "pipe", "w", encoding="ascii", buffering=1) as file:
+            with open(self.office.folder / name, "w", encoding="ascii", buffering=1) as file:
                 for number, line in enumerate(lines):
                     file.write(line + "\n")
                     time.sleep(pause)
                     if number == 1:
                         meanwhile()
-        threading.Thread(target=feed, daemon=True).start()
-        self.script(what, "pipe", out)
-
-    def script(self, what, name, out):
+        if name != SCRIPT:
+            os.mkfifo(self.office.folder / name)
+            threading.Thread(target=feed, daemon=True).start()
+        else:
+            self.office.write(name, lines)
         found, seconds = timed(self.run, "replay", name)
         expect(what, found, (0, out, ""))
         self.table.row(what, f"{seconds:.1f}")
 
     def slow_and_long(self):
         """Sends scripts that are slow, or long, while the office is served, the first in a crowd."""
+        (lines, out), (more, killed) = script_of(PIPED), script_of(KILLED)
         with self.serve() as serving:
             with Crowd(serving.port, CROWD):
-                self.piped(f"a script through a pipe for two minutes, while {CROWD} silent connections are open: it is done", PIPED, 30)
-                lines, out = script_of(PIPED)
-                self.office.write(SCRIPT, ["# " + "x" * LONG, *lines])
-                self.script(f"a script of almost 32 MiB, while {CROWD} silent connections are open: it is done", SCRIPT, out)
-            self.office.write(SCRIPT, lines * LINES)
-            self.script(f"a script of {4 * LINES} lines, while served: it is done", SCRIPT, out * LINES)
-            self.piped("`serve` is killed while a script comes through a pipe: the order is done", KILLED, 1, serving.process.kill)
+                what = f"a script through a pipe for two minutes, while {CROWD} silent connections are open: it is done"
+                self.script(what, out, "slow", lines, 30)
+                what = f"a script of almost 32 MiB, while {CROWD} silent connections are open: it is done"
+                self.script(what, out, lines=["# " + "x" * LONG, *lines])
+            self.script(f"a script of {4 * LINES} lines, while served: it is done", out * LINES, lines=lines * LINES)
+            what = "`serve` is killed while a script comes through a pipe: the order is done"
+            self.script(what, killed, "cut", more, 1, serving.process.kill)
 
     def at_terminal(self, *words):
         """Returns what an order shows at a terminal."""
@@ -154,10 +152,9 @@ class Waits:
 
     def terminal(self):
         """Looks at what a terminal shows: whether DB is open to others, for what an order waits, and a name that would steer it."""
-        for mode, lines in ((0o600, 0), (0o640, 1), (0o620, 1), (0o604, 1), (0o602, 1)):
+        for mode, lines in ((0o640, 1), (0o620, 1), (0o604, 1), (0o602, 1), (0o600, 0)):
             self.path.chmod(mode)
             expect(f"rights {mode:o}", (self.at_terminal("receipts").count(OPEN_LINE), self.run("receipts").err), (lines, ""))
-        self.path.chmod(0o600)
         threading.Timer(2, lock_of_an_order(self.path)).start()
         expect("an order that waits", self.at_terminal("receipts").count(b"waiting for town.db: another order holds it\n"), 1)
         expect("a name that steers", self.run("ward", STEERS, 1, STEERING, "--id", "steers").status, 0)
@@ -169,7 +166,5 @@ def main():
     open_many_files()
     with temporary_folder() as folder:
         waits = Waits(folder)
-        waits.held()
-        waits.while_serve_comes_and_goes()
-        waits.slow_and_long()
-        waits.terminal()
+        for play in (waits.held, waits.while_serve_comes_and_goes, waits.slow_and_long, waits.terminal):
+            play()

@@ -1,4 +1,4 @@
-//! Part of the script: what every part uses: elements, the browser's storage, ids, and numbers that are typed.
+//! Part of the script: what every part uses, such as elements, the browser's storage, ids, and typed numbers.
 
 /// Declares what every other part uses.
 pub(crate) const BASICS: &str = r#"'use strict';

@@ -1,6 +1,6 @@
 //! Part of the script: the batches of a ward.
 
-/// Declares the list of batches, and what the officer does about one that differs.
+/// Declares the list of batches, and what the officer can do about a batch whose keyings differ.
 pub(crate) const BATCHES: &str = r#"// ---- the batches of a ward
 
 const ON_PAGE = 40;

@@ -1,6 +1,6 @@
 //! Part of the script: wards and candidates.
 
-/// Declares how wards and candidates are added, candidates also from a file, and how nominations are closed.
+/// Declares how wards and candidates are added, including candidates from a file, and how nominations are closed.
 pub(crate) const NOMINATIONS: &str = r#"// ---- wards and candidates
 
 const MOST_CANDIDATES = 30;

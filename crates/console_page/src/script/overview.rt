@@ -1,6 +1,6 @@
 //! Part of the script: the overview of all wards.
 
-/// Declares the overview: what to do next, how far each ward is, and which tellers still have to key.
+/// Declares the overview: what to do next, how far each ward has got, and which tellers still have to key.
 pub(crate) const OVERVIEW: &str = r#"// ---- the overview
 
 const COPY_AFTER = 45 * 60000;

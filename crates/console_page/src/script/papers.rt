@@ -1,6 +1,6 @@
-//! Part of the script: what the papers of each ward add up to, and which tellers still have to key.
+//! Part of the script: the totals of the papers of each ward, and which tellers still have to key.
 
-/// Declares how the wards are read in turn, so that the office is never busy with reads.
+/// Declares how the wards are read one after another, so that reading never keeps the office busy.
 pub(crate) const PAPERS: &str = r#"// ---- the papers of each ward, and who is still to key
 
 // Between two polls, wards are read for this many milliseconds, but one of them at least.

@@ -1,6 +1,6 @@
-//! Part of the script: the requests to the office, and what is read of it.
+//! Part of the script: the requests to the office, and the data read from it.
 
-/// Declares the requests. What was read stays valid while the list of wards is the same text.
+/// Declares the requests. Data remains valid as long as the text of the list of wards doesn't change.
 pub(crate) const REQUESTS: &str = r#"// ---- requests to the office
 
 const PATIENCE = 120;

@@ -1,6 +1,6 @@
 //! Part of the script: the verdicts of a ward.
 
-/// Declares the list of verdicts, and what comes after the last of them.
+/// Declares the list of verdicts, and what follows the last of them.
 pub(crate) const VERDICTS: &str = r#"// ---- verdicts
 
 const MOST_VERDICTS = 200;

@@ -35,7 +35,7 @@ pub in-filter : (c : ℕ) (p : ℕ → Bool) (xs : List ℕ) → In c (filter p 
 in-filter c p [] h = cc
 in-filter c p (x ∷ xs) h = in_choice c x p xs (p x) (eqb c x) refl refl (in-filter c p xs) h
 
--- an action that is drawn is on a member of the group
+-- a drawn action acts on a member of the group
 pub record IsOn (contest : Contest) (stages : History) (kind : TiedFor) (group : List ℕ) (action : Action) : Type 0 where
   pub candidate : ℕ
   pub in_group : In candidate group
@@ -54,7 +54,7 @@ drawn-among contest stages lot kind (c ∷ []) action h = record { candidate = c
 drawn-among contest stages None kind (c ∷ d ∷ tied) action h = cc
 drawn-among contest stages (Some x) kind (c ∷ d ∷ tied) action h = drawn_lot contest stages kind (c ∷ d ∷ tied) x _ action refl h
 
--- the action is a surplus of a candidate who has one, or an exclusion of one who continues
+-- the action is the surplus of a candidate who has one, or the exclusion of a candidate who continues
 drawn-due_for : (contest : Contest) (stages : History) (lot : Option ℕ) (group : List ℕ) (action : Action) →
     drawn contest stages lot (due_for contest stages group) ≡ Some action →
     IsOn contest stages of_surplus group action ⊎ IsOn contest stages of_exclusion (continuing_after contest stages) action
@@ -81,7 +81,7 @@ pub drawn-due : (contest : Contest) (s : Stage) (before : History) (lot : Option
     IsOn contest (s ∷ before) of_surplus (with_surplus contest (s ∷ before)) action ⊎ IsOn contest (s ∷ before) of_exclusion (continuing_after contest (s ∷ before)) action
 drawn-due contest s before lot action h = drawn_choice contest (s ∷ before) lot _ (with_surplus contest (s ∷ before)) action h
 
--- one more element passes a weaker test
+-- another element passes a weaker test
 count_choice : (p q : ℕ → Bool) (x : ℕ) (xs : List ℕ) (a b : Bool) → (a ≡ true → b ≡ true) →
     (n m : ℕ) → n ≤ m → length (cond a (x ∷ []) []) + n ≤ length (cond b (x ∷ []) []) + m
 count_choice p q x xs true true h n m le = omega (arith, le)
@@ -123,7 +123,7 @@ column-in c xs set h =
     let column = set.within at.0 at.1 in
     (omega (arith, column.0, same), omega (arith, column.1, same))
 
--- the element for a number in a list made over the numbers
+-- the element for a given number in a list built over all numbers
 pub at_number : (f : ℕ → ℕ) (c : ℕ) → IsColumn c → slice_index (map f numbers) (c - 1) ≡ f c
 at_number f c column = get_or-map-range_with_len f 1 30 (c - 1) c 0 (omega (arith, column.0, column.1)) (omega (arith, column.0))
 
@@ -137,7 +137,7 @@ not_twice contest s before c true tells column gone more =
     absurd (omega (arith, ltb-true _ _ more, told, quota_left))
 not_twice contest s before c false tells column gone more = refl
 
--- the number of candidates transferred, plus the number excluded
+-- the number of candidates whose surplus is transferred, plus the number excluded
 unfoldable pub acted : Contest → History → ℕ
 acted contest stages = length (filter (is_transferred stages) contest.candidates) + length (filter (is_excluded stages) contest.candidates)
 
@@ -185,7 +185,7 @@ length-acted contest handed (s ∷ []) fair right = omega arith
 length-acted contest handed (s ∷ s' ∷ before) fair right =
     omega (arith, length-acted contest handed (s' ∷ before) fair right.0, acted-more contest s s' before (handed (s' ∷ before) s) fair right.0.1.tells right.1)
 
--- a right history has at most two stages for each candidate, plus one
+-- a correct history has at most two stages per candidate, plus one
 pub stages-bound : (contest : Contest) (handed : History → Stage → Option ℕ) (stages : History) → IsContest contest → IsRightBy contest handed stages →
     length stages ≤ 2 * length contest.candidates + 1
 unfolding acted
@@ -195,7 +195,7 @@ stages-bound contest handed stages fair right =
 pub length-right : (contest : Contest) (lots : List (ℕ × ℕ)) (stages : History) → IsContest contest → IsRight contest lots stages → length stages ≤ 2 * length contest.candidates + 1
 length-right contest lots stages fair right = stages-bound contest (λ before s. lot_for lots (length before + 1)) stages fair right
 
--- each added stage comes closer to the end, under any name of the contest
+-- each added stage brings the count closer to its end, whatever name the contest is given
 pub steps-smaller : (contest contest' contest'' : Contest) (lots : List (ℕ × ℕ)) (old new : History) →
     contest' ≡ contest → contest'' ≡ contest → IsContest contest → IsRight contest lots old → AdvancesBy contest lots old new →
     2 * length contest''.candidates + 2 - length new < 2 * length contest'.candidates + 2 - length old

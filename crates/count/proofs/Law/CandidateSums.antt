@@ -26,7 +26,7 @@ at_choice : (d c v n : ℕ) (cs : List ℕ) (b t : Bool) → eqb d c ≡ b → (
 at_choice d c v n cs true t same none rest = omega (arith, none (eqb-true d c same))
 at_choice d c v n cs false t same none rest = omega (arith, rest)
 
--- among distinct numbers, one is counted once, or not at all
+-- among distinct numbers, a given one is counted once, or not at all
 pub sum-one : (d v : ℕ) (cs : List ℕ) → IsDistinct eqb cs → sum_by (λ c. cond (eqb d c) v 0) cs ≡ cond (list_any (nat_eq d) cs) v 0
 sum-one d v [] h = refl
 sum-one d v (c ∷ cs) h =
@@ -44,7 +44,7 @@ sum-swap f (c ∷ cs) xs =
     ∙ sym (sum_by-add (f c) (λ x. sum_by (λ d. f d x) cs) xs)
     ∙ sum_by-same _ _ xs (λ x. sym (sum_by-cons (λ d. f d x) c cs))
 
--- what distinct numbers hold is at most the values of all papers
+-- what distinct numbers hold is at most the total value of all papers
 pub held-within : (contest : Contest) (stages : History) (cs : List ℕ) → IsDistinct eqb cs → sum_by (held contest stages) cs ≤ all_values contest stages
 held-within contest stages cs differ =
     let swapped = sum-swap (λ c p. value_with c (place contest stages p)) cs contest.papers in
@@ -52,13 +52,13 @@ held-within contest stages cs differ =
     (λ p. let at = place contest stages p in let one = sum-one at.holder at.value cs differ in omega (arith, one, within_value (list_any (nat_eq at.holder) cs) at.value)) in
     omega (arith, swapped, each)
 
--- what one number holds is at most the values of all papers
+-- what one number holds is at most the total value of all papers
 pub one-within : (contest : Contest) (stages : History) (c : ℕ) → held contest stages c ≤ all_values contest stages
 one-within contest stages c =
     sum_by-le-sum_by (λ p. value_with c (place contest stages p)) (λ p. (place contest stages p).value) contest.papers
     (λ p. let at = place contest stages p in within_value (eqb at.holder c) at.value)
 
--- a function that is smaller on each member has a smaller sum
+-- if a function is at most another on each member, so is its sum
 pub sum-le : (f g : ℕ → ℕ) (xs : List ℕ) → ((c : ℕ) → list_any (nat_eq c) xs ≡ true → f c ≤ g c) → sum_by f xs ≤ sum_by g xs
 sum-le f g [] h = omega arith
 sum-le f g (x ∷ xs) h =
@@ -75,7 +75,7 @@ filter_choice true x n l = omega (arith, mul_more (length l) n)
     mul_more k m = grind arith
 filter_choice false x n l = omega arith
 
--- a number, times how many members pass a test
+-- a number times the number of members that pass a test
 pub sum-filter : (p : ℕ → Bool) (n : ℕ) (xs : List ℕ) → length (filter p xs) * n ≡ sum_by (λ c. cond (p c) n 0) xs
 sum-filter p n [] = omega arith
 sum-filter p n (x ∷ xs) =

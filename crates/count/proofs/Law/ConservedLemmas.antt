@@ -1,4 +1,4 @@
--- After each stage the figures, the non-transferable and the loss add up to one vote for each paper.
+-- After each stage, the figures, the non-transferable votes and the loss add up to one vote per paper.
 use Rattle.std.proofs.Common.{◌≡◌, ℕ, ◌+◌, ◌*◌, ◌<◌, ◌≤◌, ◌&&◌, ◌⊎◌, inl, inr, Bool, true, false, not, cond, eqb, nat_eq, List, [], ◌∷◌, length, Option, refl, ap, ◌∙◌, arith}
 use Rattle.std.specs.List.{list_any, sum_by, AllByRecursion}
 use Rattle.std.proofs.lemmas.Bool.{cases_order}
@@ -78,7 +78,7 @@ pub sum-of : (candidates : List ℕ) (papers : List (List ℕ)) → AreForCandid
 sum-of candidates [] of f g h = refl
 sum-of candidates (p ∷ ps) of f g h = omega (arith, sum_by-cons f p ps, sum_by-cons g p ps, h p of.0, sum-of candidates ps of.1 f g h)
 
--- what the candidates hold and what no one holds are all values
+-- what the candidates hold and what no one holds make up the total value
 pub held-all : (contest : Contest) (stages : History) → IsContest contest →
     sum_by (held contest stages) contest.candidates + non_transferable_after contest stages ≡ all_values contest stages
 held-all contest stages fair =
@@ -97,7 +97,7 @@ action_passed (Surplus d) c h = h
 action_passed (Exclude d) c h = cc
 action_passed (ExcludeLast d) c h = cc
 
--- a candidate whose surplus is transferred has passed all papers on
+-- a candidate whose surplus is transferred has passed on all papers
 pub transferred-passed : (stages : History) (c : ℕ) → is_transferred stages c ≡ true → has_passed stages c ≡ true
 transferred-passed [] c h = cc
 transferred-passed (s ∷ before) c h =
@@ -108,7 +108,7 @@ votes_split : (contest : Contest) (stages : History) (c : ℕ) (b : Bool) → (b
 votes_split contest stages c true h = omega (arith, h refl)
 votes_split contest stages c false h = omega arith
 
--- The votes of the candidates, what no one holds and the loss add up to one vote for each paper.
+-- The votes of the candidates, what no one holds and the loss add up to one vote per paper.
 pub votes-conserved : (contest : Contest) (handed : History → Stage → Option ℕ) (s : Stage) (before : History) → IsContest contest → IsRightBy contest handed (s ∷ before) →
     AreRankings contest.papers →
     sum_by (votes_after contest (s ∷ before)) contest.candidates + non_transferable_after contest (s ∷ before) + lost_after contest (s ∷ before) ≡ one_vote * length contest.papers
@@ -123,7 +123,7 @@ votes-conserved contest handed s before fair right rankings =
     let split = sum_by-add (λ c. cond (is_transferred stages c) contest.quota 0) (held contest stages) contest.candidates in
     omega (arith, below, above, split, held-all contest stages fair, values-conserved contest handed s before fair right)
 
--- After each stage the figures of the candidates, the non-transferable and the loss add up to one vote for each paper.
+-- After each stage, the figures of the candidates, the non-transferable votes and the loss add up to one vote per paper.
 pub figures-conserved : (contest : Contest) (handed : History → Stage → Option ℕ) (s : Stage) (before : History) → IsContest contest → IsRightBy contest handed (s ∷ before) →
     AreRankings contest.papers →
     sum_by (votes_at s) contest.candidates + s.non_transferable + s.lost ≡ one_vote * length contest.papers
@@ -134,7 +134,7 @@ figures-conserved contest handed s before fair right rankings =
     let above = sum-le (votes_after contest (s ∷ before)) (votes_at s) contest.candidates (λ c k. omega (arith, told c k)) in
     omega (arith, below, above, right.1.tells.non_transferable_told, right.1.tells.lost_told, votes-conserved contest handed s before fair right rankings)
 
--- The same for every stage.
+-- The same holds for every stage.
 pub all-conserved : (contest : Contest) (handed : History → Stage → Option ℕ) (stages : History) → IsContest contest → IsRightBy contest handed stages → AreRankings contest.papers →
     IsConserved contest stages
 all-conserved contest handed [] fair right rankings = tt

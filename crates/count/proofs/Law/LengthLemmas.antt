@@ -1,4 +1,4 @@
--- A count has at most one more stage than candidates.
+-- A count has at most one stage per candidate, plus one.
 use Rattle.std.proofs.Common.{◌≡◌, ℕ, ◌+◌, ◌-◌, ◌≤◌, ◌==◌, ◌||◌, ◌⊎◌, inl, inr, Bool, true, false, not, cond, eqb, nat_eq, nat_le, List, [], ◌∷◌, length, Option, refl, sym, ap, ◌∙◌, arith}
 use Rattle.std.specs.List.{list_any, filter, sum_by}
 use Rattle.std.proofs.lemmas.Bool.{eqb-true, eqb-false, eq-eqb}
@@ -51,12 +51,12 @@ in_the_race : (r e : Bool) → e ≡ false → (r || not e) ≡ true
 in_the_race true e h = refl
 in_the_race false e h = ap not h
 
--- a candidate who isn't elected has not reached the quota
+-- a candidate who isn't elected hasn't reached the quota
 pub not_reached : (contest : Contest) (stages : History) (c : ℕ) (b : Bool) → has_reached contest stages c ≡ b → is_elected contest stages c ≡ false → b ≡ false
 not_reached contest stages c true e h = let k = reached-elected contest stages c e in cc
 not_reached contest stages c false e h = refl
 
--- it removes one from the race
+-- an exclusion that moves nothing removes one candidate from the race
 last_race : (contest : Contest) (s s' : Stage) (before : History) (d : ℕ) → IsContest contest → In d contest.candidates → is_elected contest (s' ∷ before) d ≡ false →
     is_excluded (s' ∷ before) d ≡ false →
     Tells contest before s' → Tells contest (s' ∷ before) s → s.action ≡ ExcludeLast d → length (in_race contest (s ∷ s' ∷ before)) + 1 ≤ length (in_race contest (s' ∷ before))
@@ -74,7 +74,7 @@ last_race contest s s' before d fair is_candidate not_elected not_excluded tells
     let fewer = filter-more p q d contest.candidates (λ c. still_choice (has_reached contest stages c) (excludes s.action c) (is_excluded stages c)) fails passes is_candidate in
     omega (arith, ap length same, fewer)
 
--- the last exclusion is one after which there are as many others as vacancies
+-- the last exclusion is the one after which there are as many others as vacancies
 last_choice : (b : Bool) (c d : ℕ) → cond b (ExcludeLast c) (Exclude c) ≡ ExcludeLast d → (b ≡ true) × (c ≡ d)
 last_choice true c d h = (refl, cc)
 last_choice false c d h = cc
@@ -97,7 +97,7 @@ last_after contest handed s s' before d fair right (inr on) is =
     let some = eqb-false _ _ left in
     eq-eqb _ _ (omega (arith, fewer, others, chosen, standing, enough, some, race-parts contest stages, race-parts contest (s ∷ stages), few-reach contest handed stages fair right.0))
 
--- after it no vacancy remains
+-- after the last exclusion no vacancy remains
 pub last-fills : (contest : Contest) (handed : History → Stage → Option ℕ) (s : Stage) (before : History) (d : ℕ) → IsContest contest → IsRightBy contest handed (s ∷ before) →
     s.action ≡ ExcludeLast d → vacancies_after contest (s ∷ before) ≡ 0
 last-fills contest handed s [] d fair right is = let e = sym (step-first contest (handed [] s) s.action right.1.was_due) ∙ is in cc
@@ -111,7 +111,7 @@ action_excludes (Surplus d) c none h = cc
 action_excludes (Exclude d) c none h = h
 action_excludes (ExcludeLast d) c none h = absurd (none d refl)
 
--- if another stage follows, an excluded candidate has passed all papers on
+-- if another stage follows, an excluded candidate has passed on all papers
 pub excluded-passed : (contest : Contest) (handed : History → Stage → Option ℕ) (s : Stage) (before : History) (c : ℕ) → IsContest contest → IsRightBy contest handed (s ∷ before) →
     is_excluded before c ≡ true → has_passed before c ≡ true
 excluded-passed contest handed s [] c fair right h = cc
@@ -148,7 +148,7 @@ either_way : (a b : Bool) → (a || b) ≡ true → (a ≡ true) ⊎ (b ≡ true
 either_way true b h = inl refl
 either_way false b h = inr h
 
--- a surplus is of a candidate who isn't excluded, and an exclusion of one who isn't transferred
+-- a surplus belongs to a candidate who hasn't been excluded, and an exclusion to one whose surplus hasn't been transferred
 apart_step : (contest : Contest) (handed : History → Stage → Option ℕ) (s s' : Stage) (before : History) (c : ℕ) → IsContest contest → AreRankings contest.papers →
     IsRightBy contest handed (s ∷ s' ∷ before) → In c contest.candidates →
     IsSurplus contest (s' ∷ before) s.action ⊎ IsExclusion contest (s' ∷ before) s.action → (is_transferred (s' ∷ before) c ≡ true → is_excluded (s' ∷ before) c ≡ true → ⊥) →
@@ -177,7 +177,7 @@ apart_step contest handed s s' before c fair rankings right is_candidate (inr on
     one true k = k
     one false k = k
 
--- no candidate is both transferred and excluded
+-- no candidate both has a surplus transferred and is excluded
 pub transferred-apart : (contest : Contest) (handed : History → Stage → Option ℕ) (stages : History) (c : ℕ) → IsContest contest → AreRankings contest.papers → IsRightBy contest handed stages →
     In c contest.candidates →
     is_transferred stages c ≡ true → is_excluded stages c ≡ true → ⊥
@@ -194,7 +194,7 @@ apart_choice true false x l k n apart h = omega (arith, h)
 apart_choice false true x l k n apart h = omega (arith, h)
 apart_choice false false x l k n apart h = omega (arith, h)
 
--- two tests that no member passes together
+-- two tests such that no member passes both
 pub filter-apart : (p q : ℕ → Bool) (xs : List ℕ) → ((c : ℕ) → In c xs → p c ≡ true → q c ≡ true → ⊥) → length (filter p xs) + length (filter q xs) ≤ length xs
 filter-apart p q [] apart = omega arith
 filter-apart p q (x ∷ xs) apart =
@@ -202,7 +202,7 @@ filter-apart p q (x ∷ xs) apart =
     (filter-apart p q xs (λ c k. apart c (or_later (nat_eq c x) (list_any (nat_eq c) xs) k))) in
     omega (arith, one)
 
--- A count has at most as many stages as candidates, plus one.
+-- A count has at most one stage per candidate, plus one.
 pub stages-few : (contest : Contest) (handed : History → Stage → Option ℕ) (stages : History) → IsContest contest → AreRankings contest.papers → IsRightBy contest handed stages →
     length stages ≤ length contest.candidates + 1
 unfolding acted

@@ -20,7 +20,7 @@ use Rattle.count.proofs.Law.StepLemmas.{IsSurplus, IsExclusion, step-is, step-fi
 use Rattle.count.proofs.Law.ValueLemmas.{held}
 use Rattle.count.proofs.Law.LengthLemmas.{not_reached, transferred-reached}
 
--- ---- the elected stay elected
+-- ---- elected candidates stay elected
 
 all-pass : (xs : List ℕ) → length (filter (λ c. true && true) xs) ≡ length xs
 all-pass [] = refl
@@ -59,7 +59,7 @@ elected-stays contest handed s before c fair right h =
 
 -- ---- candidates named as elected
 
--- a member of a list is in the filter of a filter exactly if it passes both
+-- a member of a list is in the twice filtered list if and only if it passes both tests
 filtered_choice : (c : ℕ) (p q : ℕ → Bool) (xs : List ℕ) (b t : Bool) → q c ≡ b → list_any (nat_eq c) (filter p (filter q xs)) ≡ t → In c xs → t ≡ (b && p c)
 filtered_choice c p q xs true t e f h = sym f ∙ member-filter c p (filter q xs) (member-filter c q xs h ∙ e)
 filtered_choice c p q xs false true e f h = let k = (in-filter c q xs (in-filter c p (filter q xs) f).1).0 in cc
@@ -114,7 +114,7 @@ not_gone : (contest : Contest) (handed : History → Stage → Option ℕ) (stag
 not_gone contest handed stages d true gone right out = let k = reached-elected contest stages d (transferred-reached contest handed stages d right gone) in cc
 not_gone contest handed stages d false gone right out = refl
 
--- an excluded candidate isn't elected then: the votes are no more than before, and those were below the quota
+-- an excluded candidate isn't elected at that stage: the votes are no more than before, and those were below the quota
 excluded_step : (contest : Contest) (handed : History → Stage → Option ℕ) (s s' : Stage) (before : History) (d : ℕ) → IsContest contest → IsRightBy contest handed (s ∷ s' ∷ before) →
     IsSurplus contest (s' ∷ before) s.action ⊎ IsExclusion contest (s' ∷ before) s.action → excludes s.action d ≡ true → is_elected contest (s ∷ s' ∷ before) d ≡ false
 excluded_step contest handed s s' before d fair right (inl on) h = let none : false ≡ true = ap (λ a. excludes a d) (sym on.is) ∙ h in cc

@@ -12,11 +12,11 @@ member_choice c p xs true t e f h = sym f ∙ filter-in c p xs e h
 member_choice c p xs false true e f h = let k = (in-filter c p xs f).0 in cc
 member_choice c p xs false false e f h = refl
 
--- a member of a list is in the filtered list exactly if it passes
+-- a member of a list is in the filtered list if and only if it passes
 pub member-filter : (c : ℕ) (p : ℕ → Bool) (xs : List ℕ) → In c xs → list_any (nat_eq c) (filter p xs) ≡ p c
 member-filter c p xs h = member_choice c p xs _ _ refl refl h
 
--- the elected who were not elected before are the newly elected
+-- the elected candidates who weren't elected before are the newly elected ones
 pub newly-elected : (contest : Contest) (before after : History) →
     filter (λ c. not (list_any (nat_eq c) (elected_after contest before))) (elected_after contest after) ≡ filter (λ c. not (is_elected contest before c)) (elected_after contest after)
 newly-elected contest before after =

@@ -1,4 +1,4 @@
--- A candidate who has passed all papers on holds none.
+-- A candidate who has passed on all papers holds none.
 use Rattle.std.proofs.Common.{◌≡◌, ℕ, ◌<◌, ◌≤◌, ◌==◌, ◌||◌, ◌&&◌, ◌⊎◌, inl, inr, Bool, true, false, not, cond, eqb, nat_le, List, [], ◌∷◌, drop, Option, refl, sym, ap, ◌∙◌, arith}
 use Rattle.std.specs.List.{list_any}
 use Rattle.std.proofs.lemmas.Bool.{eqb-true, eqb-false, eq-eqb, le-leb}
@@ -20,11 +20,11 @@ use Rattle.count.proofs.Law.ValueLemmas.{held}
 use Rattle.count.proofs.Law.StepLemmas.{IsSurplus, IsExclusion, step-is, step-first, reached-elected}
 use Rattle.count.proofs.ChoiceLemmas.{or_later}
 
--- whether some stage passed on the papers of a candidate
+-- whether some stage passed on the given candidate's papers
 abbrev pub has_passed : History → ℕ → Bool
 has_passed stages c = list_any (λ s. passes_on s.action c) stages
 
--- the first element that passes a test passes it, and is in the list
+-- if an element is the first to pass a test, it passes the test and is in the list
 first_choice : (test : ℕ → Bool) (x c : ℕ) (xs : List ℕ) (b : Bool) → test x ≡ b → first_of (cond b (x ∷ xs) (from_first test xs)) ≡ c →
     (first_of (from_first test xs) ≡ c → (test c ≡ true) × (list_any (λ d. d == c) xs ≡ true)) → (test c ≡ true) × ((eqb x c || list_any (λ d. d == c) xs) ≡ true)
 first_choice test x c xs true e same later = (ap test (sym same) ∙ e, ap (λ b. b || list_any (λ d. d == c) xs) (eq-eqb x c same))
@@ -44,7 +44,7 @@ after-apart : (c : ℕ) (p : List ℕ) → IsRanking p → list_any (λ d. d == 
 after-apart c [] r = refl
 after-apart c (x ∷ xs) r = after_choice x c xs (eqb x c) refl r.2 (after-apart c xs r.3)
 
--- the reason why a candidate who passed all papers on before receives none: the candidate holds none, and doesn't continue
+-- why a candidate who has passed on all papers receives none: the candidate holds none, and doesn't continue
 abbrev IsApart : Contest → History → Place → ℕ → Type 0
 IsApart contest before at c = (at.holder ≡ c → ⊥) × (is_continuing contest before c ≡ false)
 
@@ -83,7 +83,7 @@ moved_gone contest s' before action c p at (inl on) r some old h held_by =
     (ap (λ a. (moved contest (s' ∷ before) a p at).holder) (sym on.is) ∙ held_by)
 moved_gone contest s' before action c p at (inr on) r some old h held_by = excluded_gone contest (s' ∷ before) action on.c c p at _ on.is r some old h held_by
 
--- a candidate who has passed all papers on has reached the quota or is excluded
+-- a candidate who has passed on all papers has reached the quota or is excluded
 IsOut : Contest → History → ℕ → Type 0
 IsOut contest stages c = (has_reached contest stages c ≡ true) ⊎ (is_excluded stages c ≡ true)
 
@@ -140,7 +140,7 @@ out_continuing contest stages c true e (inr h) =
     never false h = cc
 out_continuing contest stages c false e out = refl
 
--- A candidate who has passed all papers on holds none afterwards.
+-- A candidate who has passed on all papers holds none afterwards.
 pub passed-gone : (contest : Contest) (handed : History → Stage → Option ℕ) (stages : History) → IsRightBy contest handed stages → (p : List ℕ) → IsRanking p → (c : ℕ) → 1 ≤ c →
     has_passed stages c ≡ true →
     (place contest stages p).holder ≡ c → ⊥
@@ -152,7 +152,7 @@ passed-gone contest handed (s ∷ s' ∷ before) right p r c some h held_by =
     moved_gone contest s' before s.action c p (place contest (s' ∷ before) p) (step-is contest s' before (handed (s' ∷ before) s) s.action right.1.was_due) r some
     (λ k. (passed-gone contest handed (s' ∷ before) right.0 p r c some k, out_continuing contest (s' ∷ before) c _ refl (passed-out contest handed (s' ∷ before) right.0 c k))) h held_by
 
--- so the values that the candidate holds are none
+-- so the candidate holds no value
 pub passed-held : (contest : Contest) (handed : History → Stage → Option ℕ) (stages : History) → IsRightBy contest handed stages → AreRankings contest.papers → (c : ℕ) → 1 ≤ c →
     has_passed stages c ≡ true →
     held contest stages c ≡ 0

@@ -1,4 +1,4 @@
--- No more candidates than seats reach the quota, and those who have reached it keep it.
+-- No more candidates than there are seats reach the quota, and those who have reached it keep it.
 use Rattle.std.proofs.Common.{◌≡◌, ℕ, ◌+◌, ◌*◌, ◌/◌, ◌<◌, ◌≤◌, ◌||◌, ◌⊎◌, inl, inr, Bool, true, false, cond, eqb, nat_le, List, [], ◌∷◌, length, Option, refl, sym, ap, ◌∙◌, arith}
 use Rattle.std.specs.List.{filter, sum_by}
 use Rattle.std.proofs.lemmas.Bool.{leb-true, eqb-true, cases_order}
@@ -77,7 +77,7 @@ left_choice : (a t : Bool) (q : ℕ) → (a ≡ true → t ≡ false) → cond (
 left_choice true t q h = let e = ap (λ b. cond b q 0) (h refl) in omega (arith, e)
 left_choice false t q h = omega arith
 
--- a surplus leaves one more quota
+-- the transfer of a surplus leaves another quota
 pub quotas_more : (contest : Contest) (s : Stage) (before : History) (d : ℕ) → IsContest contest → s.action ≡ Surplus d → In d contest.candidates → is_transferred before d ≡ false →
     quotas_left contest (s ∷ before) ≡ contest.quota + quotas_left contest before
 quotas_more contest s before d fair is is_candidate fresh =
@@ -117,7 +117,7 @@ step_values contest s s' before fair tells (inl on) =
     omega (arith, conserved, more)
 step_values contest s s' before fair tells (inr on) = excluded_same contest s (s' ∷ before) on.c _ on.is
 
--- The values of all papers, the quotas that remain and the loss add up to one vote for each paper.
+-- The values of all papers, the quotas that remain and the loss add up to one vote per paper.
 pub values-conserved : (contest : Contest) (handed : History → Stage → Option ℕ) (s : Stage) (before : History) → IsContest contest → IsRightBy contest handed (s ∷ before) →
     all_values contest (s ∷ before) + quotas_left contest (s ∷ before) + lost_after contest (s ∷ before) ≡ one_vote * length contest.papers
 values-conserved contest handed s [] fair right = first_values contest s (step-first contest (handed [] s) s.action right.1.was_due)
@@ -129,7 +129,7 @@ values-conserved contest handed s (s' ∷ before) fair right =
           (step-is contest s' before (handed (s' ∷ before) s) s.action right.1.was_due),
     )
 
--- the same if the newest stage has only its action
+-- the same holds if the newest stage has only its action
 pub values-conserved-next : (contest : Contest) (handed : History → Stage → Option ℕ) (s : Stage) (before : History) → IsContest contest → IsRightBy contest handed before →
     IsDue contest before s.action →
     all_values contest (s ∷ before) + quotas_left contest (s ∷ before) + lost_after contest (s ∷ before) ≡ one_vote * length contest.papers
@@ -141,7 +141,7 @@ votes_parts : (contest : Contest) (stages : History) (c : ℕ) (b : Bool) → co
 votes_parts contest stages c true = omega arith
 votes_parts contest stages c false = omega arith
 
--- the votes of all candidates are at most one vote for each paper
+-- the votes of all candidates are at most one vote per paper
 pub votes-within : (contest : Contest) (handed : History → Stage → Option ℕ) (s : Stage) (before : History) → IsContest contest → IsRightBy contest handed (s ∷ before) →
     sum_by (votes_after contest (s ∷ before)) contest.candidates ≤ one_vote * length contest.papers
 votes-within contest handed s before fair right =
@@ -171,7 +171,7 @@ few_order w n seats q (inr (inr h)) all is =
 few_enough : (w n seats q : ℕ) → w * q ≤ one_vote * n → q ≡ one_vote * (n / (seats + 1) + 1) → w ≤ seats
 few_enough w n seats q all is = few_order w n seats q (cases_order w seats) all is
 
--- No more candidates than seats reach the quota.
+-- No more candidates than there are seats reach the quota.
 pub few-reach : (contest : Contest) (handed : History → Stage → Option ℕ) (stages : History) → IsContest contest → IsRightBy contest handed stages →
     length (with_quota contest stages) ≤ contest.seats
 few-reach contest handed [] fair right = omega (arith, none contest.candidates)

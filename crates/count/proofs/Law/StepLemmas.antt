@@ -31,7 +31,7 @@ pub record IsExclusion (contest : Contest) (stages : History) (action : Action) 
   pub not_elected : is_elected contest stages c ≡ false
   pub not_excluded : is_excluded stages c ≡ false
 
--- what follows a stage is the surplus of an elected candidate or the exclusion of a continuing one
+-- each stage is followed by the surplus of an elected candidate or the exclusion of a continuing one
 pub step-is : (contest : Contest) (s : Stage) (before : History) (lot : Option ℕ) (action : Action) →
     drawn contest (s ∷ before) lot (due_after contest (s ∷ before)) ≡ Some action → IsSurplus contest (s ∷ before) action ⊎ IsExclusion contest (s ∷ before) action
 step-is contest s before lot action h =
@@ -61,7 +61,7 @@ step-vacant contest s before lot action h = vacant_choice contest (s ∷ before)
 pub step-first : (contest : Contest) (lot : Option ℕ) (action : Action) → drawn contest [] lot (due_after contest []) ≡ Some action → action ≡ First
 step-first contest lot action h = cc
 
--- what a stage records of a candidate
+-- what a stage records for a candidate
 pub told-votes : (contest : Contest) (s : Stage) (before : History) (c : ℕ) → Tells contest before s → IsColumn c → newest_votes (s ∷ before) c ≡ votes_after contest (s ∷ before) c
 told-votes contest s before c tells column = ap (λ vs. slice_index vs (c - 1)) tells.votes_told ∙ at_number (votes_after contest (s ∷ before)) c column
 
@@ -69,7 +69,7 @@ told-votes contest s before c tells column = ap (λ vs. slice_index vs (c - 1)) 
 pub reached-elected : (contest : Contest) (stages : History) (c : ℕ) → has_reached contest stages c ≡ true → is_elected contest stages c ≡ true
 reached-elected contest stages c h = ap (λ b. b || (undecided_fill contest stages && not (is_excluded stages c))) h
 
--- the votes of a candidate whose surplus is transferred, and of another
+-- the votes of a candidate whose surplus is transferred, and of any other candidate
 pub votes-transferred : (contest : Contest) (stages : History) (c : ℕ) → is_transferred stages c ≡ true → votes_after contest stages c ≡ contest.quota
 votes-transferred contest stages c h = ap (λ b. cond b contest.quota (held contest stages c)) h
 
@@ -82,7 +82,7 @@ fresh_choice contest s before c true tells column gone more =
     absurd (omega (arith, more, told-votes contest s before c tells column, votes-transferred contest (s ∷ before) c gone))
 fresh_choice contest s before c false tells column gone more = refl
 
--- a candidate with more than the quota has not been transferred, and holds what was recorded
+-- if a candidate has more than the quota, the surplus hasn't been transferred, and the candidate holds what was recorded
 pub surplus-fresh : (contest : Contest) (s : Stage) (before : History) (c : ℕ) → Tells contest before s → IsColumn c → contest.quota < newest_votes (s ∷ before) c →
     is_transferred (s ∷ before) c ≡ false
 surplus-fresh contest s before c tells column more = fresh_choice contest s before c _ tells column refl more

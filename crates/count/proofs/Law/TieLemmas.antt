@@ -1,4 +1,4 @@
--- In a nonempty group some member is highest, and some member is lowest.
+-- In a nonempty group, some member is highest and some member is lowest.
 use Rattle.std.proofs.Common.{◌≡◌, ℕ, ◌||◌, Bool, true, false, not, cond, eqb, nat_eq, List, [], ◌∷◌, refl, ap, ◌∙◌, Ordering}
 use Rattle.std.specs.List.{list_any, filter}
 use Rattle.std.specs.Ordering.{is_lt}
@@ -43,7 +43,7 @@ not_beaten : (beats : ℕ → ℕ → Bool) (x m d : ℕ) (b : Bool) → IsConte
 not_beaten beats x m d true laws e over not_over = let t = laws.through d x m e over in cc
 not_beaten beats x m d false laws e over not_over = refl
 
--- by whether d is the first or in the rest
+-- by cases: d is the first member, or in the rest
 by_member : (beats : ℕ → ℕ → Bool) (d x c : ℕ) (b : Bool) (rest : List ℕ) → nat_eq d x ≡ b → beats x c ≡ false → (In d rest → beats d c ≡ false) → (b || list_any (nat_eq d) rest) ≡ true →
     beats d c ≡ false
 by_member beats d x c true rest same first others h = ap (λ y. beats y c) (eqb-true d x same) ∙ first

@@ -14,11 +14,11 @@ use Rattle.std.proofs.lemmas.List.Sums.{sum_by-le-sum_by}
 use Rattle.count.proofs.Law.CutLemmas.{cuts_le}
 use Rattle.std.proofs.Math.Nat.{mul-zero, zero-div}
 
--- the values of all papers, whatever their holders
+-- the total value of all papers, whatever their holders
 abbrev pub all_values : Contest → History → ℕ
 all_values contest stages = sum_by (λ paper. (place contest stages paper).value) contest.papers
 
--- the values of the papers that one candidate holds
+-- the total value of the papers that one candidate holds
 abbrev pub held : Contest → History → ℕ → ℕ
 held contest stages c = sum_by (λ paper. value_with c (place contest stages paper)) contest.papers
 
@@ -26,7 +26,7 @@ value_choice : (b : Bool) (x y : Place) → (cond b x y).value ≡ cond b x.valu
 value_choice true x y = refl
 value_choice false x y = refl
 
--- the effect of a surplus on the values of all papers: those transferred lose their old value, and have the new one
+-- the effect of a surplus on the values of all papers: those transferred lose their old value and get the new one
 pub surplus-values : (contest : Contest) (s : Stage) (before : History) (c : ℕ) → s.action ≡ Surplus c →
     all_values contest (s ∷ before) + held contest before c ≡ all_values contest before + value_passed_on contest s before c
 surplus-values contest s before c is =
@@ -63,7 +63,7 @@ taken-cuts contest s before c is = sum_by-same _ _ contest.papers (λ p. one p)
         let claim : Action → Type 0 = λ a. cond (eqb at.holder c) (moved contest before a p at).value 0 ≡ cut (surplus_of contest before c) (value_with c at) (newest_votes before c) in
         subst claim (sym is) (choice (eqb at.holder c) _ _ _ at)
 
--- A surplus conserves: the values of all papers, the quota that remains and the loss add up to what was there.
+-- A surplus conserves the total: the values of all papers, the quota that remains and the loss add up to the total before it.
 pub surplus-conserves : (contest : Contest) (s : Stage) (before : History) (c : ℕ) → s.action ≡ Surplus c →
     0 < newest_votes before c → contest.quota ≤ newest_votes before c → held contest before c ≡ newest_votes before c →
     all_values contest (s ∷ before) + contest.quota + lost_after contest (s ∷ before) ≡ all_values contest before + lost_after contest before
@@ -100,7 +100,7 @@ kept_choice true c d m at here differ =
     omega (arith, at_other at.holder c at.value 0 other)
 kept_choice false c d m at here differ = omega arith
 
--- a candidate from whom nothing is taken keeps at least what was held
+-- a candidate from whom nothing is taken keeps at least what was held before
 pub kept_at : (contest : Contest) (before : History) (a : Action) (c : ℕ) (p : List ℕ) (at : Place) → takes a c ≡ false → value_with c at ≤ value_with c (moved contest before a p at)
 kept_at contest before First c p at h = cc
 kept_at contest before (Surplus d) c p at h = kept_choice (eqb at.holder d) c d _ at refl h

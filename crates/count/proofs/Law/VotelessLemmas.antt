@@ -1,4 +1,4 @@
--- Numbers that aren't candidates have no votes: they hold no paper, and have no surplus that is transferred.
+-- Numbers that aren't candidates have no votes: they hold no paper, and no surplus of theirs is transferred.
 use Rattle.std.proofs.Common.{◌≡◌, ℕ, ◌≤◌, ◌||◌, ◌⊎◌, inl, inr, Bool, true, false, cond, nat_eq, List, [], ◌∷◌, Option, refl, sym, ap, ◌∙◌, arith}
 use Rattle.std.specs.List.{list_any}
 use Rattle.std.proofs.lemmas.Bool.{eqb-true}

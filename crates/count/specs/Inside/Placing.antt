@@ -21,11 +21,11 @@ use Rattle.count.specs.declared.stages.Action.TheVariants.{First, Surplus, Exclu
 use Rattle.count.specs.declared.stages.Stage.{Stage}
 use Rattle.count.specs.declared.terms.Terms.{Terms}
 
--- the contest of these terms and of the papers that bundles represent
+-- the contest with the given terms and the papers that the bundles represent
 abbrev pub contest_on : Terms → List Bundle → Contest
 contest_on terms bundles = contest_of terms (papers_of bundles)
 
--- the invariant of a book by bundles: each bundle is where the law puts its papers
+-- the invariant of a bundle book: each bundle is at the place that the law assigns to its papers
 pub record IsBundled (contest : Contest) (history : History) (bundles : List Bundle) (places : List Placed) : Type 0 where
   pub fair : IsContest contest
   pub right : IsRightByItself contest history
@@ -33,12 +33,12 @@ pub record IsBundled (contest : Contest) (history : History) (bundles : List Bun
   pub papers_are : contest.papers ≡ papers_of bundles
   pub places_are : places ≡ places_after contest history bundles
 
--- an action is due in a book by bundles
+-- an action that is due in a bundle book
 pub record IsDueInBook (contest : Contest) (history : History) (bundles : List Bundle) (places : List Placed) (action : Action) : Type 0 where
   pub book : IsBundled contest history bundles places
   pub due : IsDue contest history action
 
--- the holder is a number that a candidate can have, or 0, and the value is at most one vote
+-- the holder is a possible candidate number or 0, and the value is at most one vote
 abbrev pub IsSound : Placed → Type 0
 IsSound at = (at.holder ≤ max_candidates) × (at.value ≤ one_vote)
 
@@ -49,7 +49,7 @@ value_of at = at.value
 abbrev pub value_to : ℕ → Placed → ℕ
 value_to h at = if at.holder == h then at.value else 0
 
--- the sum of a function of places on bundles: for each bundle the value for one paper, times the number of its papers
+-- the sum of a function of places over bundles: for each bundle the value for one paper, times the number of its papers
 abbrev pub worth_placed : (Placed → ℕ) → List Placed → List Bundle → ℕ
 worth_placed f [] bundles = 0
 worth_placed f (at ∷ places) [] = 0
@@ -67,29 +67,30 @@ first_place paper = record { holder = first_of paper; value = one_vote }
 abbrev pub first_places : List Bundle → List Placed
 first_places bundles = map (λ (b : Bundle). first_place b.0) bundles
 
--- the new place of a paper if c holds it: its next available preference, at the value that a rule makes of its own; another paper stays
+-- the place of a paper after c's papers are passed on: if c holds it, its next available preference, at the value that the rule computes from its current value; otherwise
+-- unchanged
 abbrev pub passed_at : (ℕ → Bool) → TransferRule → ℕ → List ℕ → Placed → Placed
 passed_at continues rule c paper at =
     if at.holder == c then record { holder = first_of (passed_to continues (from_first (λ d. d == c) paper)); value = new_value rule at.value } else at
 
--- the new places of the bundles that c holds; others stay
+-- the places of bundles after c's papers are passed on; those that c doesn't hold stay
 abbrev pub passed_places : (ℕ → Bool) → TransferRule → ℕ → List Placed → List Bundle → List Placed
 passed_places continues rule c [] bundles = []
 passed_places continues rule c (at ∷ places) [] = []
 passed_places continues rule c (at ∷ places) (b ∷ bundles) = passed_at continues rule c b.0 at ∷ passed_places continues rule c places bundles
 
--- the votes of c from the worth of each holder's papers: exactly the quota once the surplus is transferred
+-- the votes of c, given the worth of each holder's papers: exactly the quota once the surplus is transferred
 abbrev pub votes_from : ℕ → History → Action → List ℕ → ℕ → ℕ
 votes_from quota stages action sums c = if transfers action c || is_transferred stages c then quota else slice_index sums c
 
--- the loss by fractions: on a surplus, what all papers were worth, less what they are worth now and the quota that stays
+-- the loss by fractions: on a surplus, the earlier worth of all papers, minus their present worth and the quota that stays
 abbrev pub lost_from : ℕ → History → Action → ℕ → ℕ → ℕ
 lost_from quota stages First old new = newest_lost stages
 lost_from quota stages (Surplus c) old new = newest_lost stages + (old - new - quota)
 lost_from quota stages (Exclude c) old new = newest_lost stages
 lost_from quota stages (ExcludeLast c) old new = newest_lost stages
 
--- a stage of an action with its figures
+-- the stage of an action with its figures
 pub record IsFigured (contest : Contest) (before : History) (action : Action) (s : Stage) : Type 0 where
   pub of_action : s.action ≡ action
   pub votes_are : s.votes ≡ map (votes_after contest (begun action [] ∷ before)) numbers

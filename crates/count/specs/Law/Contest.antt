@@ -1,4 +1,4 @@
--- What a count is held on, and the list of its stages.
+-- The terms on which a count is held, and the list of its stages.
 use Rattle.std.specs.Prelude.{◌≡◌, ℕ, ◌-◌, ◌<◌, ◌≤◌, List, [], ◌∷◌, length, slice_index}
 use Rattle.std.specs.List.{AllByRecursion, list_any, range_with_len}
 use Rattle.std.specs.Prelude.{nat_eq, true}
@@ -6,19 +6,19 @@ use Rattle.paper.specs.Columns.{max_candidates, IsCandidateSet}
 use Rattle.votes.specs.Units.{max_papers, max_seats, quota_of}
 use Rattle.count.specs.declared.stages.Stage.{Stage}
 
--- A contest: its candidates in ascending order, its seats, its quota in units, and the preferences of each valid paper.
+-- A contest: its candidates in ascending order, its seats, its quota in units, and the preferences on each valid paper.
 pub record Contest : Type 0 where
   pub candidates : List ℕ
   pub seats : ℕ
   pub quota : ℕ
   pub papers : List (List ℕ)
 
--- Quota: the contest of these candidates, seats and papers, with the quota that results from them.
+-- Quota: the contest for the given candidates, seats and papers, with the quota that results from them.
 abbrev pub contest_for : List ℕ → ℕ → List (List ℕ) → Contest
 contest_for candidates seats papers =
     record { candidates = candidates; seats = seats; quota = quota_of (length papers) seats; papers = papers }
 
--- c is one of a list of candidates
+-- c is in the given list of candidates
 abbrev pub In : ℕ → List ℕ → Type 0
 In c candidates = list_any (nat_eq c) candidates ≡ true
 
@@ -26,8 +26,8 @@ In c candidates = list_any (nat_eq c) candidates ≡ true
 abbrev pub AreForCandidates : List ℕ → List (List ℕ) → Type 0
 AreForCandidates candidates papers = AllByRecursion (λ paper. AllByRecursion (λ c. In c candidates) paper) papers
 
--- A contest to which the rules apply: it has more candidates than seats, and seats and papers within the limits. Its preferences are only for
--- candidates, and its quota is that of these papers and seats.
+-- A contest to which the rules apply: it has more candidates than seats, its seats and papers are within the limits, its preferences are only for
+-- candidates, and its quota is the one for these papers and seats.
 pub record IsContest (contest : Contest) : Type 0 where
   pub candidate_set : IsCandidateSet contest.candidates
   pub some_seats : 1 ≤ contest.seats

@@ -1,4 +1,4 @@
--- The sums over all papers: votes, the non-transferable and the loss.
+-- The sums over all papers: votes, non-transferable votes and loss.
 use Rattle.std.specs.Prelude.{ℕ, ◌+◌, ◌-◌, ◌==◌, if◌then◌else◌, [], ◌∷◌}
 use Rattle.std.specs.List.{sum_by}
 use Rattle.count.specs.Law.Contest.{Contest, History}
@@ -12,19 +12,18 @@ use Rattle.count.specs.declared.stages.Action.TheVariants.{First, Surplus, Exclu
 abbrev pub value_with : ℕ → Place → ℕ
 value_with c at = if at.holder == c then at.value else 0
 
--- Transfer of ballot papers: a candidate's votes are exactly the quota once the surplus is transferred, and before that the values of all papers that
--- the candidate holds
+-- Transfer of ballot papers: a candidate's votes are exactly the quota once the surplus is transferred, and before that the total value of the papers that the candidate holds
 abbrev pub votes_after : Contest → History → ℕ → ℕ
 votes_after contest stages c =
     if is_transferred stages c
     then contest.quota
     else sum_by (λ paper. value_with c (place contest stages paper)) contest.papers
 
--- non-transferable: the values of the papers that no one holds
+-- the non-transferable votes: the total value of the papers that no one holds
 abbrev pub non_transferable_after : Contest → History → ℕ
 non_transferable_after contest stages = sum_by (λ paper. value_with 0 (place contest stages paper)) contest.papers
 
--- the new values of the papers that a stage transfers from c
+-- the total new value of the papers that a stage transfers from c
 abbrev pub value_passed_on : Contest → Stage → History → ℕ → ℕ
 value_passed_on contest s before c =
     sum_by (λ paper. if (place contest before paper).holder == c then (place contest (s ∷ before) paper).value else 0) contest.papers
@@ -36,7 +35,7 @@ lost_by contest s before (Surplus c) = surplus_of contest before c - value_passe
 lost_by contest s before (Exclude c) = 0
 lost_by contest s before (ExcludeLast c) = 0
 
--- the total loss by fractions at all stages
+-- the loss by fractions over all stages
 abbrev pub lost_after : Contest → History → ℕ
 lost_after contest [] = 0
 lost_after contest (s ∷ before) = lost_after contest before + lost_by contest s before s.action

@@ -1,4 +1,4 @@
--- Laws of every right list of stages.
+-- Laws of every correct list of stages.
 use Rattle.std.specs.Prelude.{◌≡◌, ℕ, ◌+◌, ◌*◌, ◌≤◌, false, [], ◌∷◌, length, nat_eq, ⊤}
 use Rattle.std.specs.List.{list_any, sum_by}
 use Rattle.paper.specs.Columns.{IsColumn}
@@ -8,13 +8,13 @@ use Rattle.count.specs.Law.Elected.{elected_after}
 use Rattle.count.specs.declared.stages.Due.{Due}
 use Rattle.count.specs.declared.stages.Due.TheVariants.{Act, Lot, Finished}
 
--- after each stage the recorded votes of all candidates, the non-transferable and the loss add up to one vote for each paper
+-- after each stage, the recorded votes of all candidates, the non-transferable votes and the loss add up to one vote per paper
 abbrev pub IsConserved : Contest → History → Type 0
 IsConserved contest [] = ⊤
 IsConserved contest (s ∷ before) =
     (sum_by (votes_at s) contest.candidates + s.non_transferable + s.lost ≡ one_vote * length contest.papers) × IsConserved contest before
 
--- a count has at most one stage for each candidate, plus one
+-- a count has at most one stage per candidate, plus one
 abbrev pub IsShort : Contest → History → Type 0
 IsShort contest stages = length stages ≤ length contest.candidates + 1
 

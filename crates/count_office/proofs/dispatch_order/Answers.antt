@@ -11,16 +11,17 @@ use Rattle.count_office.proofs.dispatch_order.Goals as goal
 
 -- the words of an order to serve
 serving_in : Serving → Order → Serving
-serving_in none (order.Serve port connections origin codes) = record { port = port; connections = connections; origin = origin; codes = codes }
+serving_in none (order.Serve port connections origin codes public) = record { port = port; connections = connections; origin = origin; codes = codes; public = public }
 serving_in none other = none
 
-same_serving : (one other : Serving) → order.Serve one.port one.connections one.origin one.codes ≡ order.Serve other.port other.connections other.origin other.codes → one ≡ other
+same_serving : (one other : Serving) → order.Serve one.port one.connections one.origin one.codes one.public
+    ≡ order.Serve other.port other.connections other.origin other.codes other.public → one ≡ other
 unfolding serving_in
 same_serving one other same = ap (serving_in one) same
 
 pub returns-in-Serve-clause-serves : goal.returns-in-Serve-clause-serves
 returns-in-Serve-clause-serves g c = λ serving is.
-    let its : Serving = record { port = c.in-Serve.port; connections = c.in-Serve.connections; origin = c.in-Serve.origin; codes = c.in-Serve.codes } in (
+    let its : Serving = record { port = c.in-Serve.port; connections = c.in-Serve.connections; origin = c.in-Serve.origin; codes = c.in-Serve.codes; public = c.in-Serve.public } in (
       refl,
       subst (λ (s : Serving). ServesOrder (IsErrorTold g.E.Sink.taken g.E.Sink.failed c.args.err.now c.serve.new.err) (c.serve.new.err ≡ c.args.err.now) c.serve.result.0 s
           (g.H.Host.codes_at c.args.host.now) (g.H.Host.file c.args.host.now)

@@ -11,7 +11,8 @@ use register::{DrawnLot, Receipt, Ward};
 use rowcheck::finding::{candidates_of, lots_of};
 use std::alloc::{AllocError, Global};
 
-/// Appends an order after the reply to it, which its words don't show; nothing if there is no receipt.
+/// Appends an order, preceded by its reply as a comment, since the words of the order don't show it. Appends nothing if there is no
+/// receipt.
 fn put_told(text: &mut String, words: &str, receipt: Option<&Receipt>) -> Result<(), AllocError> {
     let Some(receipt) = receipt else {
         return Ok(());
@@ -20,7 +21,7 @@ fn put_told(text: &mut String, words: &str, receipt: Option<&Receipt>) -> Result
     put_order(text, words, Some(receipt))
 }
 
-/// Appends a lot of a ward, after the name of the candidate that it chose.
+/// Appends a lot of a ward, preceded by the name of the candidate that it chose.
 fn put_lot(
     alloc: Global,
     text: &mut String,
@@ -38,12 +39,12 @@ fn put_lot(
     put_order(text, words.as_str(), kept.only(subject.as_str()))
 }
 
-/// Returns the lot for a stage, among those of a ward.
+/// Returns the lot for a stage from a ward's lots.
 fn lot_at(lots: &[DrawnLot], stage: u32) -> Option<&DrawnLot> {
     lots.iter().find(|lot| lot.stage == stage)
 }
 
-/// Appends a stage of a ward's count: its lot, and the order that counted it, if there are any.
+/// Appends a stage of a ward's count: its lot and the order that counted it, if they exist.
 fn put_stage(
     alloc: Global,
     text: &mut String,
@@ -80,7 +81,7 @@ fn put_stages(
     Ok(())
 }
 
-/// Appends the seal of a ward, its count and its declaration, as far as there are any.
+/// Appends the seal, the count and the declaration of a ward, if they exist.
 pub(crate) fn put_count(
     alloc: Global,
     text: &mut String,

@@ -1,4 +1,4 @@
-//! A batch, its keyings, and the verdicts on its papers in a journal.
+//! A batch in a journal: its keyings, and the verdicts on its papers.
 
 ghost use Rattle.register.specs.Offices.{MapsAreSorted};
 ghost use Rattle.rowcheck.specs.States.{state_of};
@@ -9,8 +9,9 @@ use register::{Batch, JudgedPaper, KeyedPaper, ThirdClerk};
 use rowcheck::finding::{keying_of, third_at, verdicts_of, ward_at};
 use std::alloc::{AllocError, Global};
 
-/// The round in which a journal adds a third clerk, whenever the clerk was given the batch: no table says in which round that was. It
-/// is accepted there: in any batch with a third clerk the two clerks' keyings differ, first in this round.
+/// The round in which a journal adds a third clerk, regardless of when the clerk was actually added, since no table records that
+/// round. The order is always accepted in this round: in any batch with a third clerk, the keyings of the first two clerks already
+/// differ in it.
 const FIRST_ROUND: u32 = 1;
 
 /// Appends the order that gave out a batch.
@@ -35,7 +36,7 @@ fn put_given_out(
     put_order(text, words.as_str(), kept.only(subject.as_str()))
 }
 
-/// Appends the marks to a keying, one word per paper.
+/// Appends the marks of a keying, one word per paper.
 fn put_marks(text: &mut String, keying: &[KeyedPaper]) -> Result<(), AllocError> {
     for keyed in keying {
         text.push_str(" ")?;
@@ -96,7 +97,8 @@ fn put_third(
     put_order(text, words.as_str(), kept.only(subject.as_str()))
 }
 
-/// Appends a round of a batch: what opened it, and its keyings; in the first round the third clerk too, before that clerk's keying.
+/// Appends a round of a batch: the order that opened it, and its keyings. In the first round it also appends the third clerk,
+/// before that clerk's keying.
 fn put_round(
     alloc: Global,
     text: &mut String,

@@ -1,18 +1,18 @@
-//! The receipts of an office, found by their subject.
+//! The receipts of an office, indexed by subject.
 
 use register::Receipt;
 use rowcheck::Rows;
 use std::alloc::{AllocError, Global};
 use std::collections::HashMap;
 
-/// What a journal is written from: the rows of an office, and the positions of its receipts by subject.
+/// The input of a journal: the rows of an office, and the positions of its receipts by subject.
 #[derive(Clone, Copy)]
 pub(crate) struct KeptReceipts<'a> {
     pub(crate) rows: &'a Rows,
     pub(crate) places: &'a HashMap<String, Vec<usize>>,
 }
 
-/// Returns the positions of receipts in their list by subject, in the order of the list.
+/// Returns the positions of receipts in their list, grouped by subject, in list order.
 pub(crate) fn places_of(
     alloc: Global,
     receipts: &[Receipt],
@@ -24,7 +24,7 @@ pub(crate) fn places_of(
     Ok(places)
 }
 
-/// Appends a position to those of the receipts on a subject.
+/// Appends a position to the positions of a subject's receipts.
 fn put_place(
     alloc: Global,
     places: &mut HashMap<String, Vec<usize>>,
@@ -37,7 +37,7 @@ fn put_place(
 }
 
 impl<'a> KeptReceipts<'a> {
-    /// Returns the positions of the receipts on a subject.
+    /// Returns the positions of the receipts for a subject.
     fn about(&self, subject: &str) -> &'a [usize] {
         let all = self.places;
         match all.get(subject) {
@@ -52,23 +52,23 @@ impl<'a> KeptReceipts<'a> {
         rows.receipts.get(place)
     }
 
-    /// Returns how many receipts are on a subject.
+    /// Returns the number of receipts for a subject.
     pub(crate) fn count(&self, subject: &str) -> usize {
         self.about(subject).len()
     }
 
-    /// Returns the receipt of this index, from 0 on, among those on a subject.
+    /// Returns the receipt with the given index among those for a subject, counting from 0.
     pub(crate) fn numbered(&self, subject: &str, number: usize) -> Option<&'a Receipt> {
         let place = self.about(subject).get(number)?;
         self.receipt_at(*place)
     }
 
-    /// Returns the receipt on a subject that has at most one.
+    /// Returns a subject's receipt, if it has at most one.
     pub(crate) fn only(&self, subject: &str) -> Option<&'a Receipt> {
         self.numbered(subject, 0)
     }
 
-    /// Returns an actor's receipt among those on a subject.
+    /// Returns an actor's receipt among those for a subject.
     pub(crate) fn of_actor(&self, subject: &str, actor: u32) -> Option<&'a Receipt> {
         for place in self.about(subject) {
             match self.receipt_at(*place) {
@@ -79,7 +79,7 @@ impl<'a> KeptReceipts<'a> {
         None
     }
 
-    /// Returns the first of the receipts on a subject whose reply has this prefix.
+    /// Returns the first receipt for a subject whose reply has the given prefix.
     pub(crate) fn replied(&self, subject: &str, front: &str) -> Option<&'a Receipt> {
         for place in self.about(subject) {
             match self.receipt_at(*place) {

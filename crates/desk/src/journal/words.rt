@@ -1,9 +1,9 @@
-//! The words of a journal's lines, quoted such that a script reads them back.
+//! The words of a journal's lines, quoted so that they can be read back from a script.
 
 use register::Receipt;
 use std::alloc::AllocError;
 
-/// Appends a word between two `"`. Each `"` in it is written between two `'`, as a part of the same word.
+/// Appends a word in double quotes. Each `"` in it is written in single quotes, as part of the same word.
 fn put_quoted(text: &mut String, word: &str) -> Result<(), AllocError> {
     text.push_str("\"")?;
     for c in word.chars() {
@@ -16,7 +16,8 @@ fn put_quoted(text: &mut String, word: &str) -> Result<(), AllocError> {
     text.push_str("\"")
 }
 
-/// Appends an id to the words of an order. An id that begins with a hyphen would be read as an option.
+/// Appends an id to the words of an order. An id that begins with a hyphen is written after `--id=`, since it would otherwise be
+/// read as an option.
 pub(crate) fn put_id(text: &mut String, id: &str) -> Result<(), AllocError> {
     if id.starts_with("-") {
         text.push_str(" --id=")?;
@@ -26,7 +27,7 @@ pub(crate) fn put_id(text: &mut String, id: &str) -> Result<(), AllocError> {
     text.push_str(id)
 }
 
-/// Appends the line of an order with the id of its receipt; nothing if there is no receipt.
+/// Appends the line of an order, with the id of its receipt. Appends nothing if there is no receipt.
 pub(crate) fn put_order(
     text: &mut String,
     words: &str,
@@ -40,8 +41,8 @@ pub(crate) fn put_order(
     text.push_str("\n")
 }
 
-/// Appends the line of an order whose words end with a name. A name that begins with a hyphen follows `--`, after which no word is an
-/// option.
+/// Appends the line of an order whose words end with a name. A name that begins with a hyphen is written after `--`, which ends the
+/// options.
 pub(crate) fn put_named(
     text: &mut String,
     words: &str,
@@ -64,14 +65,14 @@ pub(crate) fn put_named(
     text.push_str("\n")
 }
 
-/// Appends a comment. Its text contains no line end.
+/// Appends a comment. The text must not contain a newline.
 pub(crate) fn put_comment(text: &mut String, says: &str) -> Result<(), AllocError> {
     text.push_str("# ")?;
     text.push_str(says)?;
     text.push_str("\n")
 }
 
-/// Appends a comment after an empty line.
+/// Appends a comment, preceded by an empty line.
 pub(crate) fn put_heading(text: &mut String, says: &str) -> Result<(), AllocError> {
     text.push_str("\n")?;
     put_comment(text, says)

@@ -1,4 +1,4 @@
-//! Part of the script: the drafts that the browser stores. A draft is what a clerk has keyed of a batch in a round.
+//! Part of the script: the drafts that the browser stores. A draft is what a clerk has keyed so far for a batch in one round.
 
 /// Declares drafts, and how they are stored, checked and removed.
 pub(crate) const DRAFTS: &str = r#"'use strict';
@@ -7,7 +7,8 @@ pub(crate) const DRAFTS: &str = r#"'use strict';
 
 const HERE = location.origin + location.pathname;
 const CLERK = location.pathname.split('/').at(-2);
-const NEW = 0, BEGUN = 1, KEYED = 2;
+// How far a paper is: of an earlier round it has what was keyed then, and wasn't looked at in this one.
+const NEW = 0, BEGUN = 1, KEYED = 2, EARLIER = 3;
 const LETTERS = 'abcdefghijklmnopqrstuvwxyz0123456789';
 
 const randomWord = (length) =>
@@ -55,16 +56,19 @@ const isMarksText = (text, columns) =>
   text === 'D' || (typeof text === 'string' && text.split(',').length === columns.length && text.split(',').every(isMark));
 
 const isRow = (row, columns) =>
-  isMarksText(row?.text, columns) && [NEW, BEGUN, KEYED].includes(row.state) && Number.isInteger(row.column)
+  isMarksText(row?.text, columns) && [NEW, BEGUN, KEYED, EARLIER].includes(row.state) && Number.isInteger(row.column)
   && row.column >= (row.text === 'D' ? columns.length : 0) && row.column <= columns.length;
 
-// Whether a draft is for this batch and round, with the same candidates and number of papers.
-const isDraftOf = (draft, {batch, round, size, columns}) =>
-  draft?.batch === batch && draft.round === round && draft.size === size && String(draft.columns) === String(columns)
-  && /^[a-z0-9-]{1,40}$/.test(draft.id) && Array.isArray(draft.rows) && draft.rows.length <= size
+// Whether a draft is for this batch and round, with the same candidates. The number of papers may have been put right since.
+const isDraftOf = (draft, {batch, round, columns}) =>
+  draft?.batch === batch && draft.round === round && String(draft.columns) === String(columns)
+  && /^[a-z0-9-]{1,40}$/.test(draft.id) && Array.isArray(draft.rows)
   && draft.rows[draft.at] !== undefined && draft.rows.every((row) => isRow(row, columns));
 
 const isWhole = ({rows, size}) => rows.length === size && rows.every((row) => row.state === KEYED);
+
+// Whether a clerk did nothing in a draft yet, neither keyed a paper nor looked at one of an earlier round.
+const isUntouched = ({rows}) => rows.every((row) => row.state === EARLIER) || (rows.length === 1 && rows[0].state === NEW);
 
 const keyedIn = ({rows}) => rows.filter((row) => row.state === KEYED).length;
 

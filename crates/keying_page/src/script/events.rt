@@ -1,4 +1,5 @@
-//! The last part of the script: the event listeners. It alone runs anything; the other parts only declare.
+//! The last part of the script: the event listeners. Only this part runs code when it is loaded; the other parts contain only
+//! declarations.
 
 /// Adds the event listeners, and shows the first view.
 pub(crate) const EVENTS: &str = r#"// ---- what leads where
@@ -8,6 +9,7 @@ const onClick = (id, act) => at(id).addEventListener('click', act);
 onClick('look', () => route());
 onClick('go-away', goAway);
 onClick('begin', () => backToPapers(''));
+onClick('through', goThrough);
 onClick('not-now', () => toBatches());
 onClick('leave', () => toBatches());
 onClick('leave-papers', () => toBatches());
@@ -23,7 +25,7 @@ at('out').addEventListener('close', () => { if (view === 'papers') putCursor(); 
 at('go').addEventListener('keydown', (event) => {
   const {value} = at('go');
   event.stopPropagation();
-  if (event.key === 'Enter') take(() => (/^[1-9][0-9]*$/.test(value) && value <= draft.size ? goTo(value - 1) : 'That is no number of a paper.'));
+  if (event.key === 'Enter') take(() => (/^[1-9][0-9]*$/.test(value) && value <= count() ? goTo(value - 1) : 'There is no paper with that number.'));
   if (event.key === 'Escape') showPapers();
 });
 
@@ -45,13 +47,16 @@ addEventListener('storage', ({key}) => {
   if (draft && key === draftName(draft.batch, draft.round)) toBatches(`Batch ${draft.batch} was opened in another window of this browser. Key it there, or open it here again.`);
 });
 addEventListener('blur', () => { at('away').hidden = view !== 'papers'; });
-addEventListener('resize', () => { if (isForPaper()) putCursor(); });
+addEventListener('resize', () => {
+  if (view === 'papers') fitColumns();
+  if (isForPaper()) putCursor();
+});
 addEventListener('focus', () => {
   at('away').hidden = true;
   if (isForPaper()) putCursor();
 });
 addEventListener('beforeunload', (event) => { if (draft && !keeps) event.preventDefault(); });
-// Nobody finds a clerk's papers by the browser's button Back.
+// The browser's button Back can't bring a clerk's papers back.
 addEventListener('pagehide', () => document.body.replaceChildren());
 addEventListener('pageshow', ({persisted}) => { if (persisted) location.reload(); });
 

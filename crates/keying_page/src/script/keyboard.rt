@@ -1,6 +1,6 @@
-//! Part of the script: the views of the page, and the keyboard input to a paper.
+//! Part of the script: the views of the page, and keyboard input for a paper.
 
-/// Declares how the views change, and what keyboard input does in the view of papers.
+/// Declares how the views change, and what keyboard input does in the view with papers.
 pub(crate) const VIEWS: &str = r#"// ---- what is shown
 
 const VIEWS = ['batches', 'start', 'papers', 'end'];
@@ -38,7 +38,7 @@ const take = (act) => {
 const askPaper = () => at('go').focus();
 
 const askTakeOut = () => {
-  at('out-text').textContent = `Take paper ${paper()} out? Each paper behind it moves up by one.`;
+  at('out-text').textContent = `Remove paper ${paper()}? Each later paper moves up by one.`;
   at('out').showModal();
   at('out-no').focus();
 };
@@ -86,12 +86,13 @@ const isLost = ({key}) => view === 'papers' && !at('out').open && document.activ
 const onLostKey = (event) => {
   event.preventDefault();
   putCursor();
-  refuse('The cursor wasn\u2019t in the paper, so that key is lost. Now it is there.');
+  refuse('The cursor wasn\u2019t in the paper, so that key had no effect. It is in the paper now.');
 };
 
 const backToPapers = (text) => {
   clearTimeout(timer);
   show('papers', at('which'));
+  fitColumns();
   showPapers();
   say(text);
 };

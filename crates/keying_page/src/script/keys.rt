@@ -1,6 +1,6 @@
 //! Part of the script: the effect of each key on the draft.
 
-/// Declares what each key does. A key that has no effect returns the message that says why; nothing is corrected.
+/// Declares what each key does. For a key without effect, the result is a message that says why; nothing is corrected.
 pub(crate) const KEYS: &str = r#"// ---- a paper, key by key
 
 // The draft that is keyed, and the candidates of its columns.
@@ -10,7 +10,7 @@ let candidates = [];
 let pending = null;
 // A key was pressed after the last candidate, so the paper must be checked again.
 let extra = false;
-// The last key was a mark, and the cursor went on by itself.
+// The last key was a mark, and the cursor moved by itself.
 let wentOn = false;
 
 const width = () => draft.columns.length;
@@ -18,22 +18,25 @@ const row = () => draft.rows[draft.at];
 const paper = () => draft.at + 1;
 const isDoubtful = () => row().text === 'D';
 const isBehind = () => row().column === width();
+// How many papers there are to key: too many only until one is taken out.
+const count = () => Math.max(draft.size, draft.rows.length);
 
-// Behind each of these nothing is half keyed any more.
+// After each of these no number is half typed.
 const settle = () => { pending = null; extra = false; wentOn = false; };
 
 const write = (column, mark) => {
   const fields = row().text.split(',');
   fields[column] = mark;
   row().text = fields.join(',');
-  if (row().state === NEW) row().state = BEGUN;
+  if (row().state !== KEYED) row().state = BEGUN;
 };
 
 const refuseBehind = () => {
+  if (row().state === EARLIER) return `Paper ${paper()} is as you keyed it in round ${draft.from}. Enter, if the paper says so. Else arrows go to a mark; Delete empties the paper.`;
   extra = true;
   return row().state === KEYED
     ? `Paper ${paper()} is keyed. Arrows go to a mark; Delete empties the paper.`
-    : `Paper ${paper()} is at its end, and another key came. Look at the paper again. Backspace takes that key back.`;
+    : `Paper ${paper()} is at its end, and another key came. Look at the paper again. Backspace undoes that key.`;
 };
 
 // Enters a mark for the candidate at the cursor, or none, and moves the cursor on.
@@ -57,7 +60,7 @@ const goToCandidate = (number) => {
   row().column = column;
 };
 
-// A digit of a candidate's number. Where another one may follow, Enter ends it.
+// A digit of a candidate's number. If another one may follow, Enter ends it.
 const jump = (digits) => {
   if (digits.length === 2 || Number(digits) * 10 > draft.columns.at(-1)) return goToCandidate(Number(digits));
   pending.digits = digits;
@@ -67,7 +70,7 @@ const jump = (digits) => {
 const digit = (key) => {
   const digits = pending.digits + key;
   if (pending.what === 'candidate') return jump(digits);
-  if (digits === '0') return 'No mark begins with 0.';
+  if (digits === '0') return 'A mark never begins with 0.';
   if (digits.length < 2) {
     pending.digits = digits;
     return undefined;
@@ -78,15 +81,15 @@ const digit = (key) => {
 
 const doubt = () => {
   settle();
-  Object.assign(row(), {text: 'D', column: width(), state: Math.max(row().state, BEGUN)});
+  Object.assign(row(), {text: 'D', column: width(), state: row().state === KEYED ? KEYED : BEGUN});
 };
 
 const empty = () => {
   settle();
-  draft.rows[draft.at] = newRow(draft.columns);
+  draft.rows[draft.at] = {...newRow(draft.columns), was: row().was};
 };
 
-// Before the first key of a paper the last one was Enter: the paper before is open again, as it was.
+// At the start of a paper, Backspace undoes Enter: it reopens the previous paper.
 const reopen = () => {
   if (draft.at === 0 || draft.rows[draft.at - 1].state !== KEYED) return;
   draft.at -= 1;
@@ -97,7 +100,7 @@ const reopen = () => {
 const back = () => {
   if (pending || extra) return settle();
   if (isDoubtful()) return empty();
-  if (row().state === NEW && row().column === 0) return reopen();
+  if ((row().state === NEW && row().column === 0) || (row().state === EARLIER && isBehind())) return reopen();
   row().column = Math.max(row().column - 1, 0);
   write(row().column, '');
   if (row().column === 0 && !/[0-9]/.test(row().text)) row().state = NEW;
@@ -111,8 +114,8 @@ const moveTo = (column) => {
 // Moves the cursor to another paper, among those that have been keyed.
 const goTo = (index) => {
   settle();
-  const {rows, size} = draft;
-  if (index < 0 || index >= size) return undefined;
+  const {rows} = draft;
+  if (index < 0 || index >= count()) return undefined;
   if (index > rows.length || (index === rows.length && rows.at(-1).state !== KEYED)) return `Paper ${firstOpen() + 1} comes first.`;
   if (index === rows.length) rows.push(newRow(draft.columns));
   draft.at = index;
@@ -126,7 +129,12 @@ const firstOpen = () => {
   return draft.rows.length < draft.size ? draft.rows.length : -1;
 };
 
-const goOn = () => (isWhole(draft) ? askToSend() : goTo(firstOpen()));
+const tooMany = () => `${draft.rows.length} papers are keyed here, and the batch has ${draft.size}. Go to the one that you keyed twice, and take it out.`;
+
+const goOn = () => {
+  if (isWhole(draft)) return askToSend();
+  return firstOpen() < 0 ? tooMany() : goTo(firstOpen());
+};
 
 // Goes to the next paper, after finishing one that is begun.
 const toNext = () => (row().state === BEGUN && firstOpen() === draft.at ? `Paper ${paper()} isn\u2019t ended. Enter ends it.` : goOn());
@@ -134,19 +142,18 @@ const toNext = () => (row().state === BEGUN && firstOpen() === draft.at ? `Paper
 // Finishes a paper and goes to the next; after the last, to the first that was left out.
 const finish = () => {
   if (pending?.what === 'candidate' && pending.digits) return goToCandidate(Number(pending.digits));
-  if (pending) return 'Two digits are wanted. Backspace takes the key back.';
+  if (pending) return 'Type two digits. Backspace undoes the key.';
   if (extra) return refuseBehind();
   if (row().state === NEW) return `Nothing is keyed for paper ${paper()}. Has it no number at all? Then press 0, and Enter.`;
   row().state = KEYED;
-  return paper() < draft.size ? goTo(draft.at + 1) : goOn();
+  return paper() < count() ? goTo(draft.at + 1) : goOn();
 };
 
 // A paper that was left out is put in before this one.
 const putIn = () => {
   settle();
   const {rows, at, size} = draft;
-  if (rows.length === size && rows.at(-1).state !== NEW) return `All ${size} papers are begun. Take one out first.`;
-  if (rows.length === size) rows.pop();
+  if (rows.length >= size && rows.at(-1).state === NEW) rows.pop();
   rows.splice(at, 0, newRow(draft.columns));
 };
 
@@ -173,7 +180,7 @@ const isDigitKey = (key) => /^[0-9]$/.test(key);
 const press = (key) => {
   wentOn = false;
   if (pending && isDigitKey(key)) return digit(key);
-  if (pending && key.length === 1) return 'A digit is wanted. Backspace takes the key back.';
+  if (pending && key.length === 1) return 'Type a digit. Backspace undoes the key.';
   if (isMarkKey(key)) return mark(key);
   return STEPS[key] ? STEPS[key]() : `The key ${key} means nothing here.`;
 };

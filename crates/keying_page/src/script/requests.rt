@@ -1,6 +1,6 @@
-//! Part of the script: the requests to the office, and what its responses mean.
+//! Part of the script: the requests to the office, and the meaning of its responses.
 
-/// Declares the requests. A keying is sent under an id of its own, and repeated unchanged until the office has replied.
+/// Declares the requests. A keying is sent under its own id, and repeated unchanged until the office has replied.
 pub(crate) const REQUESTS: &str = r#"// ---- what the office is asked
 
 const PATIENCE = 120;
@@ -23,23 +23,23 @@ const ask = async (target, body) => {
 
 // What to do about each refusal, by its number, and about each other answer, by its status.
 const AFTER_REFUSAL = {
-  2: 'Press Send once more: the batch goes out under a new id.',
+  2: 'Press Send once more: the batch is sent under a new id.',
   7: 'Compare the number on your pile. If it is right, tell the returning officer.',
   9: 'The ward isn\u2019t being keyed. Tell the returning officer.',
   14: 'The office hasn\u2019t given this batch to your number. Tell the returning officer.',
-  15: 'The batch is in another round. Ask for your batches, and key every paper anew if it stands there.',
-  16: 'Your keying of this round is there already. Nothing is left to do.',
+  15: 'The batch is in another round. Ask for your batches. If it is listed, begin it again.',
+  16: 'The office already has your keying of this round. Do nothing.',
   17: 'The batch has another number of papers. Tell the returning officer.',
-  18: 'Look at that paper, and mend it.',
+  18: 'Look at that paper, and correct it.',
 };
 const AFTER_STATUS = {
   401: 'The code is wrong, or none was sent. Try again, and type your number and your code when the browser asks for them.',
   403: 'This page was opened by an address that the office doesn\u2019t know. Open it by the one you were given.',
   429: 'The code is wrong, and very many wrong codes were sent to the office. Wait a minute, try again, and type your number and your code when the browser asks for them.',
 };
-const TELL = 'Tell the returning officer what stands here.';
-const NOBODY = 'The office doesn\u2019t answer.';
-const LATER = 'Ask again in a moment. What you keyed is kept here.';
+const TELL = 'Show this message to the returning officer.';
+const NOBODY = 'The office is not responding.';
+const LATER = 'Try again in a moment. What you keyed is kept here.';
 
 const isRefusal = (answer) => answer?.status === 409 && Number.isInteger(answer.says?.refusal);
 const isFault = (answer) => answer?.status === 503 && Number.isInteger(answer.says?.fault);
@@ -61,16 +61,31 @@ const isWork = (it) => [it?.batch, it?.ward, it?.size, it?.round].every(Number.i
 const askWork = async () => {
   const answer = await ask('work');
   const list = answer?.status === 200 && answer.says?.work;
-  return Array.isArray(list) && list.every(isWork) ? {list} : {why: explained(answer)};
+  return Array.isArray(list) && list.every(isWork) ? {list} : {why: explained(answer), waits: isUnknown(answer)};
 };
 
+// The names of wards, by their numbers, as far as the office was asked for them.
+const wardNames = new Map();
+
 // The names of the candidates of a batch and of its ward, or why they can't be had.
-const askNames = async ({batch, columns}) => {
+const askNames = async ({batch, ward, columns}) => {
   const answer = await ask(`batches/${batch}/candidates`);
   const list = answer?.status === 200 && answer.says?.candidates;
   if (!Array.isArray(list)) return {why: explained(answer)};
   const names = new Map(list.map(({candidate, name}) => [candidate, name]));
-  return {ward: answer.says.name, candidates: columns.map((number) => ({number, name: shownName(names.get(number))}))};
+  wardNames.set(ward, shownName(answer.says.name));
+  return {candidates: columns.map((number) => ({number, name: shownName(names.get(number))}))};
+};
+
+const isKeyed = (says, {batch, round, size, columns}) =>
+  says?.batch === batch && Number.isInteger(says.round) && says.round < round && Array.isArray(says.papers)
+  && says.papers.length === size && says.papers.every((text) => isMarksText(text, columns));
+
+// What this clerk keyed of a batch, in the clerk's latest earlier round; nothing, if there is none; or why it can't be had.
+const askKeyed = async (work) => {
+  const answer = work.round === 1 ? null : await ask(`batches/${work.batch}/keyed`);
+  if (work.round === 1 || answer?.status === 404) return {};
+  return answer?.status === 200 && isKeyed(answer.says, work) ? {keyed: answer.says} : {why: explained(answer)};
 };
 
 // A name without marks that change the direction of the text next to it.

@@ -1,6 +1,6 @@
 //! Part of the script: the rows in which papers are shown.
 
-/// Declares how papers are drawn: a row each, with the current one always at the same height. No markup is made of a name.
+/// Declares how papers are drawn: one row each, with the current one always at the same height. Names are never treated as markup.
 pub(crate) const ROWS: &str = r#"// ---- how papers are shown
 
 const ABOVE = 3, BELOW = 2;
@@ -17,6 +17,7 @@ const made = (name, properties, ...inner) => {
 // A name is isolated from the text around it, whatever its direction.
 const isolated = (name) => made('bdi', {}, name);
 const papersOf = (count) => `${count} paper${count === 1 ? '' : 's'}`;
+const wardOf = ({ward}) => (wardNames.get(ward) ? [`ward ${ward} `, isolated(wardNames.get(ward))] : [`ward ${ward}`]);
 const spoken = ({number, name}) => `${number} \u2068${name}\u2069`;
 
 let sound = null;
@@ -73,10 +74,10 @@ const endKey = () => {
 const rowAt = (index) => {
   const it = draft.rows[index];
   const isNow = index === draft.at;
-  const number = made('th', {scope: 'row', className: 'number'}, index < 0 || index >= draft.size ? '' : String(index + 1));
+  const number = made('th', {scope: 'row', className: 'number'}, index < 0 || index >= count() ? '' : String(index + 1));
   if (!it) return made('tr', {}, number, made('td', {colSpan: width()}), endCell([]));
   const cells = isNow && it.text !== 'D' ? candidates.map((_, column) => field(column)) : keyedCells(it);
-  const classes = [isNow ? 'now' : it.state === KEYED ? '' : 'open', (index + 1) % 10 === 0 ? 'tenth' : ''];
+  const classes = [isNow ? 'now' : it.state === KEYED || (it.state === EARLIER && index > draft.at) ? '' : 'open', (index + 1) % 10 === 0 ? 'tenth' : ''];
   const line = made('tr', {className: classes.join(' ').trim()}, number, ...cells, endCell(isNow ? [endKey()] : []));
   if (!isNow) line.addEventListener('click', () => take(() => goTo(index)));
   return line;
@@ -107,35 +108,46 @@ const cursorText = () => {
   if (extra) return ['A key too many'];
   if (pending?.what === 'candidate') return [`To candidate ${pending.digits}_`];
   if (!isBehind()) return [`${candidates[row().column].number} `, isolated(candidates[row().column].name)];
-  return [paper() < draft.size ? `Enter: on to paper ${paper() + 1}` : 'Enter: the last paper is keyed'];
+  if (row().state === EARLIER) return [`Does paper ${paper()} say just this? Then Enter`];
+  return [paper() < count() ? `Enter: on to paper ${paper() + 1}` : 'Enter: the last paper is keyed'];
 };
 
 const writeHeading = () => {
   at('paper').textContent = `Paper ${paper()} of ${draft.size}`;
-  at('state').textContent = row().state === KEYED ? 'keyed' : '';
+  at('state').textContent = row().state === KEYED ? doneWord(draft) : '';
   at('cursor').replaceChildren(...cursorText());
-  at('done').textContent = `${keyedIn(draft)} of ${draft.size} keyed`;
+  at('done').textContent = `${keyedIn(draft)} of ${draft.size} ${doneWord(draft)}`;
 };
 
 const putCursor = () => {
   const target = isBehind() ? at('end-key') : inputs()[row().column];
   target.focus({preventScroll: true});
-  target.scrollIntoView({block: 'nearest', inline: 'center'});
+  const isRead = draft.from && isBehind();
+  (isRead ? at('read') : target).scrollIntoView({block: 'nearest', inline: 'center'});
 };
 
 const showPapers = () => {
   drawRows();
   writeFields();
   writeHeading();
+  writeRead();
   putCursor();
 };
 
-// Once for a batch: its heads, and how wide its columns are.
-const drawHeads = (ward) => {
+// The columns have the room that there is. Their names are across, if a column has room for words, and else upright.
+const fitColumns = () => {
+  const rem = parseFloat(getComputedStyle(document.documentElement).fontSize) || 16;
+  const room = document.body.clientWidth / rem - 9.5;
+  const width = Math.min(Math.max(room / candidates.length, 1.75), 16);
+  at('table').className = width >= 5.5 ? 'across' : 'upright';
+  at('table').style.setProperty('--field', `${width}rem`);
+};
+
+// The heads, once for a batch.
+const drawHeads = () => {
   drawn = null;
   at('heads').replaceChildren(head());
-  at('table').className = candidates.length <= 6 ? 'few' : candidates.length <= 14 ? 'some' : 'many';
-  at('which').replaceChildren(`Batch ${draft.batch}, round ${draft.round}, ward ${draft.ward} `, isolated(shownName(ward)));
+  at('which').replaceChildren(`Batch ${draft.batch}, round ${draft.round}, `, ...wardOf(draft));
 };
 
 "#;

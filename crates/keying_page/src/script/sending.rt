@@ -1,11 +1,11 @@
 //! Part of the script: the view of a finished batch, and how it is sent.
 
-/// Declares what is shown of a finished batch while it is sent, repeated, refused or kept.
+/// Declares what is shown for a finished batch while it is being sent, repeated, refused or kept.
 pub(crate) const SENDING: &str = r#"// ---- the end of a batch
 
-const numbersOf = (isMeant) => draft.rows.flatMap((it, index) => (isMeant(it.text) ? [index + 1] : []));
+const numbersOf = (isMeant) => draft.rows.flatMap((it, index) => (isMeant(it.text, it.was) ? [index + 1] : []));
 
-// How many papers something is so of, and which the first of them are.
+// Counts the papers that match, and lists the first of them.
 const counted = (what, numbers) => {
   const first = numbers.slice(0, 20).join(', ') + (numbers.length > 20 ? ', ..' : '');
   return `${what}: ${papersOf(numbers.length)}${numbers.length ? `, by number ${first}` : ''}`;
@@ -22,10 +22,11 @@ const showEnd = (text, {sends, goesBack, isKept = false}) => {
 
 const askToSend = () => {
   settle();
-  at('end-title').textContent = `Batch ${draft.batch}, round ${draft.round}: ${papersOf(draft.size)} keyed`;
+  at('end-title').textContent = `Batch ${draft.batch}, round ${draft.round}: ${papersOf(draft.rows.length)} ${doneWord(draft)}`;
   at('summary').replaceChildren(
     made('li', {}, counted('Doubtful', numbersOf((text) => text === 'D'))),
-    made('li', {}, counted('Without any number', numbersOf((text) => !/[0-9D]/.test(text)))));
+    made('li', {}, counted('Without any number', numbersOf((text) => !/[0-9D]/.test(text)))),
+    ...(draft.from ? [made('li', {}, counted('Corrected', numbersOf((text, was) => text !== was)))] : []));
   tries = 0;
   show('end', at('end-title'));
   showEnd('', {sends: true, goesBack: true});
@@ -35,7 +36,7 @@ const askToSend = () => {
 const sendNow = async () => {
   clearTimeout(timer);
   const sent = draft;
-  showEnd('It is being sent.', {sends: false, goesBack: false});
+  showEnd('Sending ..', {sends: false, goesBack: false});
   const {kept, why, isOpen, waits, refusal} = await send();
   if (draft !== sent) return undefined;
   if (kept) return showKept(kept);

@@ -12,7 +12,7 @@ use std::alloc::Global;
 use tables::value_conversion::{number, number_at};
 use tables::{Entries, Fault, Table};
 
-/// The batches, by number.
+/// The batches, ordered by number.
 pub(crate) struct Batches;
 
 impl Entries for Batches {

@@ -1,4 +1,4 @@
-//! Bundles of equal ballot papers and their places, as the rows of their table.
+//! Bundles of identical ballot papers and their places, as the rows of their table.
 
 ghost use Rattle.std.specs.Prelude.{refl};
 ghost use Rattle.register.specs.Tabulated.{placed_entry};
@@ -13,7 +13,7 @@ use std::alloc::Global;
 use tables::value_conversion::{amount_at, bytes, bytes_at, number, number_at};
 use tables::{Entries, Fault, Table};
 
-/// The bundles, by ward and list of preferences.
+/// The bundles, ordered by ward and list of preferences.
 pub(crate) struct PlacedBundles;
 
 impl Entries for PlacedBundles {

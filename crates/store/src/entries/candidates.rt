@@ -12,7 +12,7 @@ use std::alloc::Global;
 use tables::value_conversion::{number_at, row_values, text, text_at};
 use tables::{Entries, Fault, Table};
 
-/// The candidates, by ward and number.
+/// The candidates, ordered by ward and number.
 pub(crate) struct Candidates;
 
 impl Entries for Candidates {

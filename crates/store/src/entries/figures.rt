@@ -1,4 +1,4 @@
-//! Figures of the stages of counts, as the rows of their table.
+//! The figures for the stages of counts, as the rows of their table.
 
 ghost use Rattle.std.specs.Prelude.{refl};
 ghost use Rattle.register.specs.Tabulated.{figure_entry};
@@ -13,7 +13,7 @@ use std::alloc::Global;
 use tables::value_conversion::{amount_at, number, number_at, row_values};
 use tables::{Entries, Fault, Table};
 
-/// The figures, by ward, stage and candidate.
+/// The figures, ordered by ward, stage and candidate.
 pub(crate) struct StageFigures;
 
 impl Entries for StageFigures {

@@ -12,7 +12,7 @@ use std::alloc::Global;
 use tables::value_conversion::{number_at, row_values, text, text_at};
 use tables::{Entries, Fault, Table};
 
-/// The keyed papers, by batch, round, clerk and paper.
+/// The keyed papers, ordered by batch, round, clerk and paper.
 pub(crate) struct KeyedPapers;
 
 impl Entries for KeyedPapers {

@@ -12,7 +12,7 @@ use std::alloc::Global;
 use tables::value_conversion::{number_at, row_values};
 use tables::{Entries, Fault, Table};
 
-/// The lots, by ward and stage.
+/// The lots, ordered by ward and stage.
 pub(crate) struct Lots;
 
 impl Entries for Lots {

@@ -12,7 +12,7 @@ use std::alloc::Global;
 use tables::value_conversion::{number, number_at, text, text_at};
 use tables::{Entries, Fault, Table};
 
-/// The receipts, by actor and id.
+/// The receipts, ordered by actor and id.
 pub(crate) struct Receipts;
 
 impl Entries for Receipts {

@@ -12,7 +12,7 @@ use std::alloc::Global;
 use tables::value_conversion::{number_at, row_values};
 use tables::{Entries, Fault, Table};
 
-/// The third clerks, by batch.
+/// The third clerks, ordered by batch.
 pub(crate) struct ThirdClerks;
 
 impl Entries for ThirdClerks {

@@ -12,7 +12,7 @@ use std::alloc::Global;
 use tables::value_conversion::{number_at, row_values, text, text_at};
 use tables::{Entries, Fault, Table};
 
-/// The judged papers, by batch and paper.
+/// The judged papers, ordered by batch and paper.
 pub(crate) struct JudgedPapers;
 
 impl Entries for JudgedPapers {

@@ -19,20 +19,20 @@ use sqlite::Alter;
 use std::alloc::Global;
 use tables::Fault;
 
-/// The standing of a batch by the keyings of its current round.
+/// The standing of a batch, based on the keyings of its current round.
 #[derive(Clone, Copy, PartialEq, Eq)]
 pub enum BatchStanding {
-    /// Two of them are equal.
+    /// Two of the keyings are equal.
     Taken,
-    /// There are at least two, and no two are equal.
+    /// There are at least two keyings, no two of which are equal.
     Differing,
-    /// There are fewer than two.
+    /// There are fewer than two keyings.
     Waiting,
 }
 
-/// A batch, and its two or three clerks in the order of their numbers; its standing; and how many doubtful papers
-/// without a verdict it has, once it is taken. `twin` is the number of the first other batch that is taken with exactly
-/// the same papers, of a ward with the same candidates' numbers.
+/// A batch, with its two or three clerks ordered by number; its standing; and, once it is taken, how many of its
+/// doubtful papers have no verdict. `twin` is the number of the first other batch that is taken with exactly the same
+/// papers and whose ward has the same candidate numbers.
 #[derive(Drop)]
 pub struct BatchOverview {
     pub batch: Batch,
@@ -42,7 +42,7 @@ pub struct BatchOverview {
     pub twin: Option<u32>,
 }
 
-/// Returns the standing of a batch by these keyings of its current round.
+/// Returns the standing of a batch with the given keyings of its current round.
 fn standing_by(keyings: &Keyings) -> BatchStanding
     ensures { result ≡ standing_by (keyings_by keyings.now) }
 {
@@ -55,7 +55,7 @@ fn standing_by(keyings: &Keyings) -> BatchStanding
     }
 }
 
-/// Returns the overview of a batch by its clerks, its keyings and the verdicts on its papers, without its twin.
+/// Returns the overview of a batch, without its twin, from its clerks, its keyings and the verdicts on its papers.
 fn overview_by(
     batch: Batch,
     clerks: Vec<ClerkOverview>,
@@ -73,7 +73,7 @@ fn overview_by(
     }
 }
 
-/// Returns the overviews of the batches of a ward, from what was read of all batches. An error is `Memory`.
+/// Returns the overviews of a ward's batches, from the data read for all batches. The only error is `Memory`.
 fn overviews_among(alloc: Global, read: Vec<ReadBatch>) -> Result<Vec<BatchOverview>, Fault>
     ensures is { IfOk result (λ found. (s : OfficeState) (ward : ℕ) → map read_view read.items ≡ map (read_view_of s ward) s.batches → map batch_view found.items ≡ batch_views s ward) }
     ensures cause { IfErr result (λ f. f ≡ Fault.Memory) }
@@ -88,8 +88,12 @@ fn overviews_among(alloc: Global, read: Vec<ReadBatch>) -> Result<Vec<BatchOverv
 }
 
 impl<S: Alter> Store<S> {
-    /// Returns the overview of a batch with these keyings, without its twin.
-    fn batch_overview(&mut self, batch: Batch, keyings: &Keyings) -> Result<BatchOverview, Fault>
+    /// Returns the overview of a batch with the given keyings, without its twin.
+    pub(crate) fn batch_overview(
+        &mut self,
+        batch: Batch,
+        keyings: &Keyings,
+    ) -> Result<BatchOverview, Fault>
         requires { IsOpen S.Store self.old }
         ensures { Loads S.Store self.old self.new result (λ s found. KeyingsAre s (batch_entry batch) keyings.now → batch_view found ≡ batch_view_with s (batch_entry batch) None) }
     {
@@ -102,7 +106,7 @@ impl<S: Alter> Store<S> {
         Ok(overview_by(batch, clerks, keyings, &verdicts))
     }
 
-    /// Returns the same for a batch of this ward, and nothing for one of another ward.
+    /// Returns the overview of a batch in the given ward; `None` for a batch in any other ward.
     fn overview_in(
         &mut self,
         batch: Batch,
@@ -119,8 +123,12 @@ impl<S: Alter> Store<S> {
         Ok(Some(overview))
     }
 
-    /// Returns the papers that a batch is taken with by these keyings, as one text; none if it isn't taken.
-    fn pile_in(&mut self, batch: &Batch, keyings: &Keyings) -> Result<Option<String>, Fault>
+    /// Returns the agreed papers of a batch with the given keyings, as one text; `None` if the batch isn't taken.
+    pub(crate) fn pile_in(
+        &mut self,
+        batch: &Batch,
+        keyings: &Keyings,
+    ) -> Result<Option<String>, Fault>
         requires { IsOpen S.Store self.old }
         ensures { Loads S.Store self.old self.new result (λ s found. KeyingsAre s (batch_entry batch.now) keyings.now → option_map string_bytes found ≡ pile_in s (batch_entry batch.now)) }
     {
@@ -135,7 +143,7 @@ impl<S: Alter> Store<S> {
         Ok(Some(text))
     }
 
-    /// Reads what the overviews of this ward need of a batch.
+    /// Reads the data about a batch that the overviews of the given ward need.
     fn read_batch(&mut self, batch: Batch, ward: u32) -> Result<ReadBatch, Fault>
         ensures { Loads S.Store self.old self.new result (λ s found. read_view found ≡ read_view_of s ward (batch_entry batch)) }
     {
@@ -150,7 +158,7 @@ impl<S: Alter> Store<S> {
         })
     }
 
-    /// Does the same for batches, one after another.
+    /// Reads the given batches in order, each as `read_batch` does.
     fn read_batches(&mut self, batches: Vec<Batch>, ward: u32) -> Result<Vec<ReadBatch>, Fault>
         requires { IsOpen S.Store self.old }
         ensures { Loads S.Store self.old self.new result (λ s found. map read_view found.items ≡ map (read_view_of s ward) (map batch_entry batches.items)) }
@@ -175,11 +183,11 @@ impl<S: Alter> Store<S> {
         Ok(found)
     }
 
-    /// Returns the overviews of the batches of the ward with this number, in the order of their numbers; none if there
+    /// Returns the overviews of the batches of the ward with the given number, ordered by batch number; `None` if there
     /// is no such ward. The batches of all wards are read once, one after another, each with its keyings of the current
-    /// round, since a batch's twin may be of another ward. The papers of the taken ones are held in memory as texts, by
-    /// which twins are found. Changes nothing, and adds nothing to what a stop may leave. `Memory` or `Store` if a row
-    /// can't be read.
+    /// round, because a batch's twin may belong to another ward. The papers of taken batches are held in memory as
+    /// texts, which are compared to find twins. Changes nothing, and doesn't add to the states that a stop may leave
+    /// behind. Returns `Memory` or `Store` if a row can't be read.
     pub fn load_batches(&mut self, ward: u32) -> Result<Option<Vec<BatchOverview>>, Fault>
         ensures { Loads S.Store self.old self.new result (λ s found. option_map (λ batches. map batch_view batches.items) found ≡ batch_views_at s ward) }
     {

@@ -1,11 +1,11 @@
-//! Where the keyings of a batch differ, read from the tables.
+//! The papers on which the keyings of a batch differ, read from the tables.
 
 ghost use Rattle.std.specs.Prelude.{◌≡◌, ◌∷◌, [], ◌&&◌, map, filter, option_map, IfOk, IfErr};
 ghost use Rattle.register.specs.Offices.{batch_entry, keyed_entry};
 ghost use Rattle.register.specs.Agreement.{is_keyed, differ};
 ghost use Rattle.tables.specs.declared.fault.Fault.{Fault};
 ghost use Rattle.store.specs.Keyings.{keyings_by};
-ghost use Rattle.store.specs.Overviews.{has_alike, is_apart, apart_among, papers_apart, differences_view, differences_by, differences_of, differences_at};
+ghost use Rattle.store.specs.Overviews.{has_alike, differs_in, differing_among, differing_papers, differences_view, differences_by, differences_of, differences_at};
 ghost use Rattle.store.specs.Loads.{Loads};
 
 use crate::storage::Store;
@@ -24,7 +24,7 @@ pub struct Differences {
     pub papers: Vec<u32>,
 }
 
-/// Returns whether a keying has this paper with these marks.
+/// Returns whether `keying` has the same paper as `keyed`, with the same marks.
 fn has_alike(keyed: &KeyedPaper, keying: &[KeyedPaper]) -> bool
     ensures { result ≡ has_alike (keyed_entry keyed.now) (map keyed_entry keying.now) }
 {
@@ -37,25 +37,26 @@ fn has_alike(keyed: &KeyedPaper, keying: &[KeyedPaper]) -> bool
 }
 
 #[tactic(auto, using(crate::proofs::OverviewLemmas::apart_two))]
-/// Returns whether one of the two other keyings, if it is there, has the paper with other marks.
-fn is_apart(keyed: &KeyedPaper, second: &[KeyedPaper], third: &[KeyedPaper]) -> bool
-    ensures { result ≡ is_apart (filter is_keyed (map keyed_entry second.now ∷ map keyed_entry third.now ∷ [])) (keyed_entry keyed.now) }
+/// Returns whether at least one of the other two keyings exists and has different marks on the paper.
+fn differs_in(keyed: &KeyedPaper, second: &[KeyedPaper], third: &[KeyedPaper]) -> bool
+    ensures { result ≡ differs_in (filter is_keyed (map keyed_entry second.now ∷ map keyed_entry third.now ∷ [])) (keyed_entry keyed.now) }
 {
     (is_keyed(second) & !has_alike(keyed, second)) | (is_keyed(third) & !has_alike(keyed, third))
 }
 
-/// Returns the numbers of the papers of one keying that one of the two others, if it is there, has with other marks.
-fn apart_among(
+/// Returns the numbers of the papers in one keying on which at least one of the other two has different marks. A keying
+/// that doesn't exist is ignored.
+fn differing_among(
     alloc: Global,
     keying: &[KeyedPaper],
     second: &[KeyedPaper],
     third: &[KeyedPaper],
 ) -> Result<Vec<u32>, AllocError>
-    ensures { IfOk result (λ papers. papers.items ≡ apart_among (filter is_keyed (map keyed_entry second.now ∷ map keyed_entry third.now ∷ [])) (map keyed_entry keying.now)) }
+    ensures { IfOk result (λ papers. papers.items ≡ differing_among (filter is_keyed (map keyed_entry second.now ∷ map keyed_entry third.now ∷ [])) (map keyed_entry keying.now)) }
 {
     let mut papers = Vec::new(alloc);
     for keyed in keying {
-        if is_apart(keyed, second, third) {
+        if differs_in(keyed, second, third) {
             papers.push(keyed.paper)?;
         }
     }
@@ -63,10 +64,10 @@ fn apart_among(
 }
 
 #[tactic(auto, using(crate::proofs::OverviewLemmas::apart_three))]
-/// Returns the numbers of the papers on which these keyings differ: those of the first one there that another one has
-/// with other marks.
-fn papers_apart(alloc: Global, keyings: &Keyings) -> Result<Vec<u32>, AllocError>
-    ensures { IfOk result (λ papers. papers.items ≡ papers_apart (keyings_by keyings.now)) }
+/// Returns the numbers of the papers on which the given keyings differ: those on which another keying has different
+/// marks from the first existing one.
+fn differing_papers(alloc: Global, keyings: &Keyings) -> Result<Vec<u32>, AllocError>
+    ensures { IfOk result (λ papers. papers.items ≡ differing_papers (keyings_by keyings.now)) }
 {
     let Keyings {
         first,
@@ -75,18 +76,18 @@ fn papers_apart(alloc: Global, keyings: &Keyings) -> Result<Vec<u32>, AllocError
         ..
     } = keyings;
     if is_keyed(first) {
-        apart_among(alloc, first, second, third)
+        differing_among(alloc, first, second, third)
     } else {
-        apart_among(alloc, second, third, &[])
+        differing_among(alloc, second, third, &[])
     }
 }
 
-/// Returns a batch, and where these keyings of its current round differ. An error is `Memory`.
+/// Returns a batch, and where the given keyings of its current round differ. The only error is `Memory`.
 fn differences_by(alloc: Global, batch: Batch, keyings: &Keyings) -> Result<Differences, Fault>
     ensures is { IfOk result (λ found. differences_view found ≡ differences_by (batch_entry batch) (keyings_by keyings.now)) }
     ensures cause { IfErr result (λ f. f ≡ Fault.Memory) }
 {
-    let Ok(papers) = papers_apart(alloc, keyings) else {
+    let Ok(papers) = differing_papers(alloc, keyings) else {
         return Err(Fault::Memory);
     };
     Ok(Differences {
@@ -106,10 +107,10 @@ impl<S: Alter> Store<S> {
         Ok(found)
     }
 
-    /// Returns the batch with this number, if there is one; whether its keyings differ; and the numbers of the papers
-    /// on which keyings of its current round differ, in the order of the papers. The numbers are returned even if two
-    /// of three keyings are equal. Changes nothing, and adds nothing to what a stop may leave. `Memory` or `Store` if a
-    /// row can't be read.
+    /// Returns the batch with the given number, if there is one; whether its keyings differ; and the numbers of the
+    /// papers on which keyings of its current round differ, ordered by paper. The numbers are returned even if two of
+    /// three keyings are equal. Changes nothing, and doesn't add to the states that a stop may leave behind. Returns
+    /// `Memory` or `Store` if a row can't be read.
     pub fn load_differences(&mut self, batch: u32) -> Result<Option<Differences>, Fault>
         ensures { Loads S.Store self.old self.new result (λ s found. option_map differences_view found ≡ differences_at s batch) }
     {

@@ -1,4 +1,4 @@
-//! The papers of a batch as they count, read from the tables.
+//! The papers of a batch as they are counted, read from the tables.
 
 ghost use Rattle.std.specs.Prelude.{◌≡◌, ℕ, map, option_map, IfOk, IfErr};
 ghost use Rattle.std.specs.List.{flat_map};
@@ -22,7 +22,7 @@ use sqlite::Alter;
 use std::alloc::{AllocError, Global};
 use tables::Fault;
 
-/// A ballot paper (1 to 500) of a batch (1 to 9999) that is taken, and the judgement by which it is counted.
+/// A ballot paper (1 to 500) of a taken batch (1 to 9999), and the judgement by which it is counted.
 #[derive(Drop)]
 pub struct CountedPaper {
     pub batch: u32,
@@ -30,8 +30,8 @@ pub struct CountedPaper {
     pub judgement: Judgement,
 }
 
-/// Whether a batch is taken; the candidates of its ward; and its papers as they count, in the order of their numbers,
-/// none if it isn't taken.
+/// Whether a batch is taken; the candidates of its ward; and its papers as they are counted, ordered by number. It has
+/// no papers if it isn't taken.
 #[derive(Drop)]
 pub struct CountedPapers {
     pub taken: bool,
@@ -39,13 +39,14 @@ pub struct CountedPapers {
     pub papers: Vec<CountedPaper>,
 }
 
-/// The law of papers shown as they count: those of a ward's batches, one batch after another, have the judgements that
-/// the ward's count is based on. It is for callers.
+/// The law of papers shown as counted: the papers of a ward's batches, one batch after another, have the judgements on
+/// which the ward's count is based. This is a lemma for callers.
 pub fn papers_told_are_counted()
     ensures { (s : OfficeState) (ward : ℕ) → flat_map (judgements_told s) (batches_of s ward) ≡ judgements (columns_of (candidates_of s ward)) (piles_of s ward) }
 {}
 
-/// Returns the papers of a keying, each as it counts by the columns of its ward and the verdicts on the papers of its batch.
+/// Returns the papers of a keying, each as counted with the columns of its ward and the verdicts on the papers of its
+/// batch.
 fn counted_among(
     alloc: Global,
     columns: Columns,
@@ -66,7 +67,7 @@ fn counted_among(
     Ok(found)
 }
 
-/// Returns the papers of a batch as they count in a ward with these candidates. An error is `Memory`.
+/// Returns the papers of a batch as they are counted in a ward with the given candidates. The only error is `Memory`.
 fn papers_by(
     alloc: Global,
     candidates: Vec<Candidate>,
@@ -88,7 +89,7 @@ fn papers_by(
 }
 
 impl<S: Alter> Store<S> {
-    /// Returns the papers of a batch as they count.
+    /// Returns the papers of a batch as they are counted.
     fn batch_papers(&mut self, batch: &Batch) -> Result<CountedPapers, Fault>
         ensures { Loads S.Store self.old self.new result (λ s found. papers_view found ≡ papers_of s (batch_entry batch.now)) }
     {
@@ -98,10 +99,11 @@ impl<S: Alter> Store<S> {
         Ok(found)
     }
 
-    /// Returns the papers of the batch with this number, if there is one, as they count, with the candidates of its
-    /// ward. If the batch is taken, each paper has the judgement by which it is counted; if it isn't, there are none.
-    /// The candidates, the keyings of the current round and the verdicts on the papers are read. Changes nothing, and
-    /// adds nothing to what a stop may leave. `Memory` or `Store` if a row can't be read.
+    /// Returns the papers of the batch with the given number as they are counted, with the candidates of its ward;
+    /// `None` if there is no such batch. If the batch is taken, each paper has the judgement by which it is counted; if
+    /// it isn't, there are no papers. The candidates, the keyings of the current round and the verdicts on the papers
+    /// are read. Changes nothing, and doesn't add to the states that a stop may leave behind. Returns `Memory` or
+    /// `Store` if a row can't be read.
     pub fn load_batch_papers(&mut self, batch: u32) -> Result<Option<CountedPapers>, Fault>
         ensures { Loads S.Store self.old self.new result (λ s found. option_map papers_view found ≡ papers_at s batch) }
     {

@@ -1,4 +1,4 @@
-//! What the commands about a ward's count need, read for a request.
+//! The inputs for commands about a ward's count, read for a request.
 
 ghost use Rattle.std.specs.Prelude.{◌≡◌, ◌≤◌, true, Option, MatchOption, option_map, IfOk, IfErr, IsOk};
 ghost use Rattle.votes.specs.Units.{max_seats};
@@ -7,7 +7,7 @@ ghost use Rattle.register.specs.Elections.{ElectionEntry, election_of, has_count
 ghost use Rattle.register.specs.Counts.{poll_for, due_for, elected_for};
 ghost use Rattle.register.specs.CommandInputs.{empty_input, input_entries};
 ghost use Rattle.register.specs.Tabulated.{has_stages};
-ghost use Rattle.store.specs.Elections.{IsFoundFor, polled_part, counted_part, election_in, IsThere, IsWardCount, IsBegun, IsCounted, IsCountedFor, IsShown};
+ghost use Rattle.store.specs.Elections.{IsFoundFor, polled_part, counted_part, election_in, WasFound, IsWardCount, IsBegun, IsCounted, IsCountedFor, IsCountIfExists};
 ghost use Rattle.store.specs.Loads.{Loads};
 
 use crate::storage::Store;
@@ -20,8 +20,8 @@ use sqlite::Alter;
 use std::alloc::Global;
 use tables::Fault;
 
-/// Returns the part of a command that needs the poll of an election, if there is one. It fails only if the ward has no
-/// seats, or more than a ward can have; no ward of an office does.
+/// Returns the input for a command that needs the poll of an election, if there is one. It fails only if the ward has
+/// no seats or too many, which never happens in an office.
 fn polled(alloc: Global, found: Option<Election>) -> Result<CommandInput, Fault>
     ensures part { IfOk result (λ part. (entry : Option ElectionEntry) → IsFoundFor found entry → input_entries part ≡ polled_part entry) }
     ensures cause { IfErr result (λ f. f ≡ Fault.Store) }
@@ -41,7 +41,8 @@ fn polled(alloc: Global, found: Option<Election>) -> Result<CommandInput, Fault>
     })
 }
 
-/// Returns the progress of a ward's count. That of an uncontested ward is finished, and all its candidates are elected.
+/// Returns the progress of a ward's count. The count of an uncontested ward is finished, and all its candidates are
+/// elected.
 fn progress_of(found: &CountedWard) -> Progress
     ensures { (e : ElectionEntry) → IsWardCount e found.now → (result.due ≡ due_of e) × (result.elected ≡ elected_of e) }
 {
@@ -54,10 +55,11 @@ fn progress_of(found: &CountedWard) -> Progress
     }
 }
 
-/// Returns the part of a command that needs what is due in the count of a ward, if there is one, those elected, and the count.
+/// Returns the input for a command that needs the count of a ward, if there is one: what it requires next, the elected
+/// candidates, and the count itself.
 fn counted(alloc: Global, found: Option<CountedWard>) -> CommandInput
     ensures part { (entry : Option ElectionEntry) → IsCountedFor entry found → input_entries result ≡ counted_part entry }
-    ensures count { (entry : Option ElectionEntry) → IsCountedFor entry found → IsShown entry result.count }
+    ensures count { (entry : Option ElectionEntry) → IsCountedFor entry found → IsCountIfExists entry result.count }
 {
     let Some(found) = found else {
         return CommandInput::empty(alloc);
@@ -74,7 +76,7 @@ fn counted(alloc: Global, found: Option<CountedWard>) -> CommandInput
 }
 
 impl<S: Alter> Store<S> {
-    /// Returns the part of the command that seals a ward: the ward, and the poll of its papers.
+    /// Returns the input for the command that seals a ward: the ward, and the poll of its papers.
     pub(crate) fn seal_part(&mut self, ward: u32) -> Result<CommandInput, Fault>
         ensures { Loads S.Store self.old self.new result (λ s part. input_entries part ≡ record empty_input { ward = ward_at s ward; poll = poll_for s (ward_at s ward) }) }
     {
@@ -83,11 +85,11 @@ impl<S: Alter> Store<S> {
         Ok(part)
     }
 
-    /// Returns the count of a contested ward with no stage done, begun from its papers, and how many of the papers are
-    /// rejected. None if the ward has more seats than a ward can have; no ward of an office does.
-    pub(crate) fn begun_sheet(&mut self, contest: CountedWard) -> Result<Option<WardSheet>, Fault>
+    /// Returns the count of a contested ward before its first stage, begun from its papers, and how many of the papers
+    /// are rejected. Returns `None` if the ward has too many seats, which never happens in an office.
+    pub(crate) fn begin_sheet(&mut self, contest: CountedWard) -> Result<Option<WardSheet>, Fault>
         ensures { Loads S.Store self.old self.new result
-            (λ s found. IsThere s contest → has_count (election_in s contest) ≡ true → contest.ward.done ≡ 0 → IsBegun (election_in s contest) found) }
+            (λ s found. WasFound s contest → has_count (election_in s contest) ≡ true → contest.ward.done ≡ 0 → IsBegun (election_in s contest) found) }
     {
         elections_are_fair();
         let election = self.ward_election(contest)?;
@@ -97,16 +99,16 @@ impl<S: Alter> Store<S> {
         }
     }
 
-    /// Returns the count of a contested ward that has a stage, as it was stored, from the tabulation alone. None if the
-    /// tabulation is not that of any count; in an office it always is.
-    pub(crate) fn resumed_count(
+    /// Returns the count of a contested ward that has a stage, as it was stored, from the tabulation alone. Returns
+    /// `None` if no count has this tabulation, which never happens in an office.
+    pub(crate) fn resume_count(
         &mut self,
         contest: CountedWard,
     ) -> Result<Option<CountedWard>, Fault>
         ensures { Loads S.Store self.old self.new result
-            (λ s found. IsThere s contest → has_stages (election_in s contest) ≡ true → IsCounted (election_in s contest) found) }
+            (λ s found. WasFound s contest → has_stages (election_in s contest) ≡ true → IsCounted (election_in s contest) found) }
     {
-        let found = self.kept_count(&contest)?;
+        let found = self.stored_count(&contest)?;
         match found {
             Some(count) => Ok(Some(CountedWard {
                 count: Some(count),
@@ -116,25 +118,26 @@ impl<S: Alter> Store<S> {
         }
     }
 
-    /// Returns the count of a contested ward: begun from its papers if no stage is done, otherwise from the tabulation alone.
+    /// Returns the count of a contested ward: begun from its papers if no stage has been done, otherwise read from the
+    /// tabulation alone.
     pub(crate) fn contested_count(
         &mut self,
         contest: CountedWard,
     ) -> Result<Option<CountedWard>, Fault>
         ensures { Loads S.Store self.old self.new result
-            (λ s found. IsThere s contest → has_count (election_in s contest) ≡ true → IsCounted (election_in s contest) found) }
+            (λ s found. WasFound s contest → has_count (election_in s contest) ≡ true → IsCounted (election_in s contest) found) }
     {
         if contest.ward.done != 0 {
-            return self.resumed_count(contest);
+            return self.resume_count(contest);
         }
-        let begun = self.begun_sheet(contest)?;
+        let begun = self.begin_sheet(contest)?;
         match begun {
             Some(sheet) => Ok(Some(sheet.counted)),
             None => Ok(None),
         }
     }
 
-    /// Returns the ward with this number, if there is one, and its count if it is contested.
+    /// Returns the ward with the given number, if there is one, and its count if it is contested.
     fn find_count(&mut self, ward: u32) -> Result<Option<CountedWard>, Fault>
         ensures { Loads S.Store self.old self.new result (λ s found. IsCountedFor (option_map (election_of s) (ward_at s ward)) found) }
     {
@@ -152,18 +155,18 @@ impl<S: Alter> Store<S> {
         Ok(count)
     }
 
-    /// Returns the part of a command that needs the progress of a ward's count: the ward, what is due, those elected,
-    /// and the count itself.
+    /// Returns the input for a command that needs the progress of a ward's count: the ward, what the count requires
+    /// next, the elected candidates, and the count itself.
     pub(crate) fn count_part(&mut self, ward: u32) -> Result<CommandInput, Fault>
         ensures { Loads S.Store self.old self.new result
             (λ s part. (input_entries part ≡ record empty_input { ward = ward_at s ward; due = due_for s (ward_at s ward); elected = elected_for s (ward_at s ward) })
-            × IsShown (option_map (election_of s) (ward_at s ward)) part.count) }
+            × IsCountIfExists (option_map (election_of s) (ward_at s ward)) part.count) }
     {
         let found = self.find_count(ward)?;
         Ok(counted(self.allocator(), found))
     }
 
-    /// Returns the part of the command about a lot: the progress of the ward's count, and the candidate.
+    /// Returns the input for the command about a lot: the progress of the ward's count, and the candidate.
     pub(crate) fn lot_part(&mut self, ward: u32, candidate: u32) -> Result<CommandInput, Fault>
         ensures { Loads S.Store self.old self.new result
             (λ s part. input_entries part ≡ record empty_input {

@@ -1,11 +1,11 @@
-//! What the count of a ward is based on, read from the tables.
+//! The papers and lots on which the count of a ward is based, read from the tables.
 
 ghost use Rattle.std.specs.Prelude.{◌≡◌, ◌++◌, ◌∷◌, [], true, map, option_map, IfOk, IfErr};
 ghost use Rattle.register.specs.Offices.{ward_entry, candidate_entry, batch_entry, lot_entry, ward_at, candidates_of, lots_of};
 ghost use Rattle.register.specs.Marks.{columns_of};
 ghost use Rattle.register.specs.Polls.{pile_of, piles_of, ballots_in, StandFor};
 ghost use Rattle.register.specs.Elections.{IsElection, lot_pair, election_of};
-ghost use Rattle.store.specs.Elections.{pile_by, is_counted_with, election_in, IsThere, IsInCount, IsFoundFor};
+ghost use Rattle.store.specs.Elections.{pile_by, is_counted_with, election_in, WasFound, IsInCount, IsFoundFor};
 ghost use Rattle.store.specs.Loads.{Loads, IsOpen};
 
 use crate::entries::lots::Lots;
@@ -21,7 +21,7 @@ use tables::Fault;
 use tables::finding::entries_beginning;
 use tables::value_conversion::number;
 
-/// Adds the papers of a batch to those of others. An error is `Memory`, after which the others are unusable.
+/// Adds the papers of a batch to those of other batches. The only error is `Memory`, after which those can't be used.
 fn add_papers<P: KeepsPapers>(
     ballots: &mut Ballots<P>,
     columns: Columns,
@@ -42,7 +42,7 @@ fn add_papers<P: KeepsPapers>(
     }
 }
 
-/// Returns whether a ward with these candidates was found, and is in count.
+/// Returns whether a ward was found and is in count with the given candidates.
 fn is_found_in_count(found: &Option<Ward>, candidates: &[Candidate]) -> bool
     ensures { result ≡ is_counted_with (option_map ward_entry found.now) (map candidate_entry candidates.now) }
 {
@@ -53,15 +53,15 @@ fn is_found_in_count(found: &Option<Ward>, candidates: &[Candidate]) -> bool
 }
 
 impl<S: Alter> Store<S> {
-    /// Returns the lots for the count of a ward, in the order of their stages.
+    /// Returns the lots for the count of a ward, ordered by stage.
     pub(crate) fn list_lots(&mut self, ward: u32) -> Result<Vec<DrawnLot>, Fault>
         ensures { Loads S.Store self.old self.new result (λ s found. map lot_entry found.items ≡ lots_of s ward) }
     {
         entries_beginning::<Lots, S>(self.alloc, &mut self.conn, &[number(ward)])
     }
 
-    /// Returns the lots for the count of a ward: each stage and the candidate drawn, in the order of the stages.
-    /// Changes nothing, and adds nothing to what a stop may leave. `Memory` or `Store` if a row can't be read.
+    /// Returns the lots for the count of a ward: each stage and the candidate drawn, ordered by stage. Changes nothing,
+    /// and doesn't add to the states that a stop may leave behind. Returns `Memory` or `Store` if a row can't be read.
     pub fn load_lots(&mut self, ward: u32) -> Result<Vec<(u8, u8)>, Fault>
         ensures { Loads S.Store self.old self.new result (λ s found. found.items ≡ map lot_pair (lots_of s ward)) }
     {
@@ -73,7 +73,8 @@ impl<S: Alter> Store<S> {
         }
     }
 
-    /// Returns the ballots of batches. They are read one batch after another, into a collection that is still empty.
+    /// Returns the ballots of the given batches, which are read one after another and added to `kept`, an empty
+    /// collection.
     fn ballots_of<P: KeepsPapers + Drop>(
         &mut self,
         kept: P,
@@ -92,8 +93,8 @@ impl<S: Alter> Store<S> {
         Ok(ballots)
     }
 
-    /// Returns the ballots of a ward, by its columns. If the ward is in count, its papers are read as those of settled
-    /// batches; otherwise the keyings of all clerks are read, one batch after another.
+    /// Returns the ballots of a ward with the given columns. If the ward is in count, its papers are read as those of
+    /// settled batches; otherwise the keyings of all clerks are read, one batch after another.
     pub(crate) fn ward_ballots<P: KeepsPapers + Drop>(
         &mut self,
         kept: P,
@@ -114,7 +115,8 @@ impl<S: Alter> Store<S> {
         Ok(ballots)
     }
 
-    /// Returns the ballots of the ward with this number, by the columns of its candidates, in a collection that is still empty.
+    /// Returns the ballots of the ward with the given number, added to `kept`, an empty collection. The columns are
+    /// those of the ward's candidates.
     pub(crate) fn find_ballots<P: KeepsPapers + Drop>(
         &mut self,
         kept: P,
@@ -131,9 +133,9 @@ impl<S: Alter> Store<S> {
         Ok(ballots)
     }
 
-    /// Returns the election in a ward that was found.
+    /// Returns the election in the given ward, which was found with its candidates.
     pub(crate) fn ward_election(&mut self, contest: CountedWard) -> Result<Election, Fault>
-        ensures { Loads S.Store self.old self.new result (λ s found. IsThere s contest → IsElection found (election_in s contest)) }
+        ensures { Loads S.Store self.old self.new result (λ s found. WasFound s contest → IsElection found (election_in s contest)) }
     {
         let in_count = is_in_count(&contest.ward, &contest.candidates);
         let columns = columns_of(&contest.candidates);
@@ -148,7 +150,7 @@ impl<S: Alter> Store<S> {
         })
     }
 
-    /// Returns the election in the ward with this number, if there is one.
+    /// Returns the election in the ward with the given number, if there is one.
     pub(crate) fn find_election(&mut self, ward: u32) -> Result<Option<Election>, Fault>
         ensures { Loads S.Store self.old self.new result (λ s found. IsFoundFor found (option_map (election_of s) (ward_at s ward))) }
     {

@@ -1,4 +1,5 @@
-//! The papers of a ward whose batches are all settled, read row by row if two clerks keyed a batch.
+//! The papers of a ward whose batches are all settled. If a batch was keyed by two clerks, its papers are read row by
+//! row.
 
 ghost use Rattle.std.specs.Prelude.{◌≡◌, [], map, Some, IfOk, IfErr};
 ghost use Rattle.tables.specs.declared.fault.Fault.{Fault};
@@ -19,13 +20,13 @@ use tables::Fault;
 use tables::value_conversion::number;
 use tables::walking::{Visitor, walk_beginning};
 
-/// What the walk through the papers of a batch begins with, for its proof alone.
+/// What is known when a walk through the papers of a batch starts; used only in its proof.
 pub(crate) trait Start {
     ghost use Rattle.std.specs.Prelude.{ℕ, List};
     ghost use Rattle.register.specs.declared.polls.Judgement.{Judgement};
     ghost use Rattle.register.specs.Offices.{JudgedEntry};
 
-    // Which judgements were counted before.
+    // The judgements that may have been counted before.
     ghost were_counted: { List Judgement → Type 0 };
 
     // The columns of the papers.
@@ -71,8 +72,8 @@ impl<P: KeepsPapers, B: Start> Visitor<KeyedPapers> for SettledPapers<P, B> {
     }
 }
 
-/// Adds the papers of a keying of a settled batch, one after another. An error is `Memory`, after which the papers
-/// before are unusable.
+/// Adds the papers of a settled batch's keying, one after another. The only error is `Memory`, after which the ballots
+/// can't be used.
 fn add_each<P: KeepsPapers>(
     ballots: &mut Ballots<P>,
     columns: Columns,
@@ -91,8 +92,8 @@ fn add_each<P: KeepsPapers>(
 }
 
 impl<S: Alter> Store<S> {
-    /// Adds the papers of a batch as the clerk with the lower number of its two keyed them in its current round, row by
-    /// row, to those that the walk begins with.
+    /// Adds the papers of a batch to the ballots, row by row, as keyed in its current round by the lower-numbered of
+    /// its two clerks.
     fn walk_papers<P: KeepsPapers + Drop, B: Start>(
         &mut self,
         ballots: Ballots<P>,
@@ -125,8 +126,8 @@ impl<S: Alter> Store<S> {
         Ok(counted.ballots)
     }
 
-    /// Adds the papers of a batch that a third clerk keys too, with these verdicts: those of the first keying that
-    /// another one equals.
+    /// Adds the papers of a batch that has a third clerk, with the given verdicts: the papers of the first keying that
+    /// equals another.
     fn add_agreed<P: KeepsPapers + Drop>(
         &mut self,
         ballots: Ballots<P>,
@@ -145,7 +146,7 @@ impl<S: Alter> Store<S> {
         Ok(counted)
     }
 
-    /// Adds the papers of a settled batch with these verdicts.
+    /// Adds the papers of a settled batch with the given verdicts.
     fn add_batch<P: KeepsPapers + Drop>(
         &mut self,
         ballots: Ballots<P>,
@@ -169,7 +170,7 @@ impl<S: Alter> Store<S> {
         }
     }
 
-    /// Returns the ballots of batches that are all settled, in a collection that is still empty.
+    /// Returns the ballots of the given batches, all of them settled, added to `kept`, an empty collection.
     pub(crate) fn settled_ballots<P: KeepsPapers + Drop>(
         &mut self,
         kept: P,

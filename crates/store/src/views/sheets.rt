@@ -1,10 +1,10 @@
-//! What the declaration and the stage sheet of a ward are written from.
+//! The data from which the declaration and the stage sheet of a ward are written.
 
 ghost use Rattle.std.specs.Prelude.{◌≡◌, true, option_map};
 ghost use Rattle.register.specs.Offices.{ward_at};
 ghost use Rattle.register.specs.Polls.{piles_of, ballots_in};
 ghost use Rattle.register.specs.Elections.{election_of, is_in_count as is_in_count_of};
-ghost use Rattle.store.specs.Elections.{IsInCount, election_in, IsThere, IsCountedInFor, IsSheet, IsSheetFor};
+ghost use Rattle.store.specs.Elections.{IsInCount, election_in, WasFound, IsCountedInFor, IsSheet, IsSheetFor};
 ghost use Rattle.store.specs.Loads.{Loads};
 
 use crate::storage::Store;
@@ -17,9 +17,10 @@ use sqlite::Alter;
 use tables::Fault;
 
 impl<S: Alter> Store<S> {
-    /// Returns the ward with this number, if there is one, with all that its declaration needs. The count is included if the ward
-    /// is in count; once a stage is done, it is read from the tabulation, and no paper is read. Changes nothing, and
-    /// adds nothing to what a stop may leave. `Memory` or `Store` if a row can't be read.
+    /// Returns the ward with the given number, if there is one, with everything that its declaration needs. The count
+    /// is included if the ward is in count; once a stage has been done, it is read from the tabulation, and no papers
+    /// are read. Changes nothing, and doesn't add to the states that a stop may leave behind. Returns `Memory` or
+    /// `Store` if a row can't be read.
     pub fn load_counted(&mut self, ward: u32) -> Result<Option<CountedWard>, Fault>
         ensures { Loads S.Store self.old self.new result (λ s found. IsCountedInFor (option_map (election_of s) (ward_at s ward)) found) }
     {
@@ -37,8 +38,8 @@ impl<S: Alter> Store<S> {
         Ok(counted)
     }
 
-    /// Returns how many papers of a ward in count with these columns are rejected, by code. The papers are read row by
-    /// row, and none is held.
+    /// Returns how many papers are rejected, by code, in a ward in count with the given columns. The papers are read
+    /// row by row and aren't kept in memory.
     fn rejected_of(&mut self, ward: u32, columns: Columns) -> Result<[u32; REJECTIONS], Fault>
         ensures { Loads S.Store self.old self.new result (λ s rejected. IsInCount s ward → rejected ≡ (ballots_in columns (piles_of s ward)).rejected) }
     {
@@ -47,35 +48,36 @@ impl<S: Alter> Store<S> {
     }
 
     /// Returns the count of a ward in count that has a stage, from the tabulation alone; and how many of its papers are
-    /// rejected. None if the tabulation is not that of any count; in an office it always is.
-    fn resumed_sheet(&mut self, contest: CountedWard) -> Result<Option<WardSheet>, Fault>
+    /// rejected. Returns `None` if no count has this tabulation, which never happens in an office.
+    fn resume_sheet(&mut self, contest: CountedWard) -> Result<Option<WardSheet>, Fault>
         ensures { Loads S.Store self.old self.new result
-            (λ s found. IsThere s contest → is_in_count_of (election_in s contest) ≡ true → (contest.ward.done ≡ 0 → ⊥) → IsSheet (election_in s contest) found) }
+            (λ s found. WasFound s contest → is_in_count_of (election_in s contest) ≡ true → (contest.ward.done ≡ 0 → ⊥) → IsSheet (election_in s contest) found) }
     {
         let columns = columns_of(&contest.candidates);
         let rejected = self.rejected_of(contest.ward.number, columns)?;
-        let found = self.resumed_count(contest)?;
+        let found = self.resume_count(contest)?;
         match found {
             Some(counted) => Ok(Some(WardSheet { counted, rejected })),
             None => Ok(None),
         }
     }
 
-    /// Returns what the sheet of a ward in count is written from. If no stage is done, its papers are read once for both.
+    /// Returns the data for the sheet of a ward in count. If no stage has been done, the papers are read once for both
+    /// the count and the rejected papers.
     fn sheet_in_count(&mut self, contest: CountedWard) -> Result<Option<WardSheet>, Fault>
         ensures { Loads S.Store self.old self.new result
-            (λ s found. IsThere s contest → is_in_count_of (election_in s contest) ≡ true → IsSheet (election_in s contest) found) }
+            (λ s found. WasFound s contest → is_in_count_of (election_in s contest) ≡ true → IsSheet (election_in s contest) found) }
     {
         if contest.ward.done == 0 {
-            self.begun_sheet(contest)
+            self.begin_sheet(contest)
         } else {
-            self.resumed_sheet(contest)
+            self.resume_sheet(contest)
         }
     }
 
-    /// Returns what the stage sheet of the ward with this number is written from, if there is one. It is the result of
-    /// `load_counted`, and how many of its papers are rejected, counted from the papers. Changes nothing, and adds
-    /// nothing to what a stop may leave. `Memory` or `Store` if a row can't be read.
+    /// Returns the data for the stage sheet of the ward with the given number, if there is one: the result of
+    /// `load_counted`, and how many of the ward's papers are rejected, counted from the papers. Changes nothing, and
+    /// doesn't add to the states that a stop may leave behind. Returns `Memory` or `Store` if a row can't be read.
     pub fn load_sheet(&mut self, ward: u32) -> Result<Option<WardSheet>, Fault>
         ensures { Loads S.Store self.old self.new result (λ s found. IsSheetFor (option_map (election_of s) (ward_at s ward)) found) }
     {

@@ -4,7 +4,7 @@ ghost use Rattle.std.specs.Prelude.{◌≡◌, true, map, option_map};
 ghost use Rattle.register.specs.Offices.{ward_at};
 ghost use Rattle.register.specs.Elections.{election_of};
 ghost use Rattle.register.specs.Tabulated.{placed_entry, figure_entry, has_stages, IsCount};
-ghost use Rattle.store.specs.Elections.{bundles_at, figures_at, election_in, IsThere, IsKept, IsBookFor};
+ghost use Rattle.store.specs.Elections.{bundles_at, figures_at, election_in, WasFound, IsStoredCount, IsCountIfBegunFor};
 ghost use Rattle.store.specs.Loads.{Loads};
 
 use crate::entries::bundles::PlacedBundles;
@@ -21,25 +21,25 @@ use tables::finding::entries_beginning;
 use tables::value_conversion::number;
 
 impl<S: Alter> Store<S> {
-    /// Returns the bundles of a ward, in the order of their lists.
+    /// Returns the bundles of a ward, ordered by list.
     fn list_bundles(&mut self, ward: u32) -> Result<Vec<PlacedBundle>, Fault>
         ensures { Loads S.Store self.old self.new result (λ s found. map placed_entry found.items ≡ bundles_at s ward) }
     {
         entries_beginning::<PlacedBundles, S>(self.alloc, &mut self.conn, &[number(ward)])
     }
 
-    /// Returns the figures of the stages of a ward, in the order of stages and candidates.
+    /// Returns the figures for a ward's stages, ordered by stage and candidate.
     fn list_figures(&mut self, ward: u32) -> Result<Vec<StageFigure>, Fault>
         ensures { Loads S.Store self.old self.new result (λ s found. map figure_entry found.items ≡ figures_at s ward) }
     {
         entries_beginning::<StageFigures, S>(self.alloc, &mut self.conn, &[number(ward)])
     }
 
-    /// Returns what is stored of the count of a ward that has a stage. None if the tabulation is not that of any count;
-    /// in an office it always is.
+    /// Returns the stored data of the count of a ward that has a stage. Returns `None` if no count has this tabulation,
+    /// which never happens in an office.
     fn read_stored_count(&mut self, contest: &CountedWard) -> Result<Option<StoredCount>, Fault>
         ensures { Loads S.Store self.old self.new result
-            (λ s found. IsThere s contest.now → has_stages (election_in s contest.now) ≡ true → IsKept (election_in s contest.now) found) }
+            (λ s found. WasFound s contest.now → has_stages (election_in s contest.now) ≡ true → IsStoredCount (election_in s contest.now) found) }
     {
         tabulations_are_ordered();
         let bundles = self.list_bundles(contest.ward.number)?;
@@ -57,9 +57,9 @@ impl<S: Alter> Store<S> {
     }
 
     /// Returns the count of a ward that has a stage, from its tabulation and its lots.
-    pub(crate) fn kept_count(&mut self, contest: &CountedWard) -> Result<Option<Count>, Fault>
+    pub(crate) fn stored_count(&mut self, contest: &CountedWard) -> Result<Option<Count>, Fault>
         ensures { Loads S.Store self.old self.new result
-            (λ s found. IsThere s contest.now → has_stages (election_in s contest.now) ≡ true → IsCount (election_in s contest.now) found) }
+            (λ s found. WasFound s contest.now → has_stages (election_in s contest.now) ≡ true → IsCount (election_in s contest.now) found) }
     {
         let found = self.read_stored_count(contest)?;
         let lots = self.load_lots(contest.ward.number)?;
@@ -69,11 +69,11 @@ impl<S: Alter> Store<S> {
         }
     }
 
-    /// Returns the stored count of the ward with this number, from its tabulation and its lots; no paper is read. There
-    /// is one if the ward exists, is contested and has a stage done; otherwise none is returned. Changes nothing, and
-    /// adds nothing to what a stop may leave. `Memory` or `Store` if a row can't be read.
+    /// Returns the stored count of the ward with the given number, from its tabulation and its lots; no papers are
+    /// read. Returns `None` unless the ward exists, is contested and has a stage done. Changes nothing, and doesn't add
+    /// to the states that a stop may leave behind. Returns `Memory` or `Store` if a row can't be read.
     pub fn load_book(&mut self, ward: u32) -> Result<Option<Count>, Fault>
-        ensures { Loads S.Store self.old self.new result (λ s found. IsBookFor (option_map (election_of s) (ward_at s ward)) found) }
+        ensures { Loads S.Store self.old self.new result (λ s found. IsCountIfBegunFor (option_map (election_of s) (ward_at s ward)) found) }
     {
         let found = self.find_contest(ward)?;
         let Some(contest) = found else {
@@ -85,7 +85,7 @@ impl<S: Alter> Store<S> {
         if contest.ward.done == 0 {
             return Ok(None);
         }
-        let count = self.kept_count(&contest)?;
+        let count = self.stored_count(&contest)?;
         Ok(count)
     }
 }

@@ -1,4 +1,4 @@
-//! A whole office, written inside a transaction: the rows of another office, already read and checked.
+//! Writes a whole office inside a transaction: the rows of another office, already read and checked.
 
 ghost use Rattle.std.specs.Prelude.{⊤};
 ghost use Rattle.rowcheck.specs.States.{state_of, tabulated};
@@ -24,7 +24,7 @@ use std::alloc::Global;
 use tables::Fault;
 use tables::writing::add_both;
 
-/// Creates all tables, with these rows, in an empty database.
+/// Creates all tables in an empty database, and inserts the given rows.
 pub(crate) fn write_whole_office<S: Alter>(
     alloc: Global,
     tx: &mut Transaction<'_, S>,

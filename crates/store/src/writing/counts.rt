@@ -1,4 +1,4 @@
-//! The tabulation of counts, written inside a transaction.
+//! Writes the tabulation of counts inside a transaction.
 
 ghost use Rattle.register.specs.Tabulated.{addition_entries, with_addition};
 ghost use Rattle.tables.specs.Writing.{Alters};
@@ -12,8 +12,8 @@ use std::alloc::Global;
 use tables::Fault;
 use tables::writing::{add_both, replace_entries};
 
-/// Adds to the tabulation: replaces the rows of bundles that have moved by those with the same keys, and inserts the
-/// rows of new bundles and figures.
+/// Adds to the tabulation: replaces the rows of bundles that have moved with the new rows that have the same keys, and
+/// inserts the rows of new bundles and figures.
 pub(crate) fn write_addition<S: Alter>(
     alloc: Global,
     tx: &mut Transaction<'_, S>,

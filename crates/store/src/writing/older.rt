@@ -1,4 +1,4 @@
-//! What an older office lacks, written inside a transaction.
+//! Writes what an older office lacks, inside a transaction.
 
 ghost use Rattle.std.specs.Prelude.{◌≡◌, []};
 ghost use Rattle.register.specs.Offices.{OfficeState};
@@ -7,7 +7,7 @@ ghost use Rattle.tables.specs.Contents.{Contents, Sees};
 ghost use Rattle.tables.specs.Making.{SeesMade};
 ghost use Rattle.tables.specs.Writing.{Alters};
 ghost use Rattle.store.specs.StateTables.{tables_of};
-ghost use Rattle.store.specs.Migrations.{older_tables, SeesOlder, Lacks};
+ghost use Rattle.store.specs.Migrations.{older_tables, SeesOlder, IsCompletedBy};
 
 use crate::older::{Older, OlderForm};
 use crate::writing::VERSION;
@@ -28,7 +28,7 @@ fn create_last_three<S: Alter>(tx: &mut Transaction<'_, S>) -> Result<(), Fault>
     create_table(tx, Table::Third)
 }
 
-/// Creates the tables that an office of this form lacks, all empty.
+/// Creates the tables that an office of the given form lacks, all empty.
 fn create_missing<S: Alter>(tx: &mut Transaction<'_, S>, form: OlderForm) -> Result<(), Fault>
     ensures { Alters S.Store tx.old.conn tx.new.conn result (SeesOlder form) (λ s. Sees (older_tables form s)) }
 {
@@ -38,15 +38,15 @@ fn create_missing<S: Alter>(tx: &mut Transaction<'_, S>, form: OlderForm) -> Res
     }
 }
 
-/// Migrates an older office to this program's version: writes the tables that it lacks, the version in the office row,
-/// and the rows that it lacks.
+/// Migrates an older office to this program's version: creates the tables that it lacks, writes the version to the
+/// office row, and inserts the rows that it lacks.
 pub(crate) fn write_migration<S: Alter>(
     alloc: Global,
     tx: &mut Transaction<'_, S>,
     older: &Older,
 ) -> Result<(), Fault>
     ensures { Alters S.Store tx.old.conn tx.new.conn result
-        (λ (s : OfficeState) st. Lacks older.now.form s (addition_entries older.now.missing) × SeesOlder older.now.form s st) (λ s. Sees (tables_of s)) }
+        (λ (s : OfficeState) st. IsCompletedBy older.now.form s (addition_entries older.now.missing) × SeesOlder older.now.form s st) (λ s. Sees (tables_of s)) }
 {
     create_missing(tx, older.form)?;
     set_value(

@@ -1,4 +1,4 @@
-//! Orders of a count, each stopped at each call of the store.
+//! Orders in a count, each stopped at each call on the store.
 
 use super::super::begun::{
     AFTER_A_SURPLUS, EQUAL_SURPLUSES, FIRST_OF_FOURTEEN, FOURTEEN, OPENED as WARD,
@@ -11,7 +11,7 @@ use super::stop_orders;
 use std::process::Abort;
 use std::test::Fail;
 
-/// A ward without a batch is sealed.
+/// Seals a ward without batches.
 const TO_SEAL: &str = "$ seal 7 --id s1
 ward 7 sealed: 0 valid, 0 rejected, quota 1.00000
 ";
@@ -21,12 +21,12 @@ const FIRST_STAGE: &str = "$ advance 7 --id n1
 ward 7 stage 1 first preferences
 ";
 
-/// The next one: those of a surplus move.
+/// The next stage: the bundles of a surplus move.
 const SECOND_STAGE: &str = "$ advance 7 --id n2
 ward 7 stage 2 surplus of 1
 ";
 
-/// The last one, and the ward's declaration.
+/// The last stage, and the ward's declaration.
 const LAST_STAGE: &str = "$ advance 7 --id n3
 ward 7 stage 3 exclusion of 2, last vacancies
 ";
@@ -35,17 +35,17 @@ const DECLARATION: &str = "$ declare 7 --id d1
 ward 7 declared: 1, 3
 ";
 
-/// The lot for which the count waits, between two surpluses. The stage after it is that of a surplus too.
+/// The lot that the count waits for, between two surpluses. The next stage also transfers a surplus.
 const LOT: &str = "$ lot 7 2 1 --id l2
 lot at ward 7 stage 2: candidate 1
 ";
 
-/// The stage of a surplus with papers that were transferred by an earlier surplus.
+/// The stage that transfers a surplus including papers transferred in an earlier surplus.
 const SECOND_SURPLUS: &str = "$ advance 7 --id n3
 ward 7 stage 3 surplus of 2
 ";
 
-/// The state of a count, and the orders that are stopped there.
+/// States of a count, and the orders stopped in each.
 const COUNTS: [(&[Act], &str); 7] = [
     (&[Act::Typed(POLLING)], TO_SEAL),
     (SEALED, FIRST_STAGE),
@@ -71,7 +71,7 @@ const COUNTS: [(&[Act], &str); 7] = [
     (AFTER_A_SURPLUS, SECOND_SURPLUS),
 ];
 
-/// Stops the orders of some counts, each at each call of one file.
+/// Stops the orders of the given counts, each at each call on one file.
 fn stop_counts<M: TestHost + Drop>(
     rt: &(impl Abort + AllocGlobal),
     counts: &[(&[Act], &str)],

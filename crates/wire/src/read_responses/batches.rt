@@ -1,4 +1,4 @@
-//! The JSON of the batches of a ward.
+//! The JSON for a ward's batches.
 
 ghost use Rattle.std.specs.Prelude.{◌≡◌, IfOk, map};
 ghost use Rattle.serde_json.specs.View.{view};
@@ -9,19 +9,19 @@ ghost use Rattle.wire.specs.Serving.{IsReadTold, data_response};
 
 use crate::office_responses::{faulted, refused, valued};
 use crate::response::Response;
-use office::Stop;
+use office::ReadError;
 use serde_json::{Value, json};
 use std::alloc::{AllocError, Global};
 use store::{BatchOverview, BatchStanding, ClerkOverview};
 
-/// Returns a clerk of a batch, as a value.
+/// Returns a clerk of a batch, as a JSON value.
 fn clerk_value(alloc: Global, clerk: &ClerkOverview) -> Result<Value, AllocError>
     ensures { IfOk result (λ value. view value ≡ batch_clerk_data (clerk_view clerk.now)) }
 {
     json!(in alloc; {"clerk": clerk.clerk, "keyed": clerk.keyed})
 }
 
-/// Returns the clerks of a batch, as a list of values.
+/// Returns the clerks of a batch, as a list of JSON values.
 fn clerks_value(alloc: Global, clerks: &[ClerkOverview]) -> Result<Value, AllocError>
     ensures { IfOk result (λ value. view value ≡ list_data batch_clerk_data (map clerk_view clerks.now)) }
 {
@@ -32,7 +32,7 @@ fn clerks_value(alloc: Global, clerks: &[ClerkOverview]) -> Result<Value, AllocE
     Ok(Value::Array(values))
 }
 
-/// Returns the standing of a batch, in a word.
+/// Returns the word for the standing of a batch.
 fn standing_word(standing: BatchStanding) -> &'static str
     ensures { result.now ≡ standing_word standing }
 {
@@ -43,7 +43,7 @@ fn standing_word(standing: BatchStanding) -> &'static str
     }
 }
 
-/// Returns a batch, as a value.
+/// Returns a batch, as a JSON value.
 fn batch_value(alloc: Global, overview: &BatchOverview) -> Result<Value, AllocError>
     ensures { IfOk result (λ value. view value ≡ batch_data (batch_view overview.now)) }
 {
@@ -55,7 +55,7 @@ fn batch_value(alloc: Global, overview: &BatchOverview) -> Result<Value, AllocEr
     })
 }
 
-/// Returns batches, as a list of values.
+/// Returns batches, as a list of JSON values.
 fn list_value(alloc: Global, batches: &[BatchOverview]) -> Result<Value, AllocError>
     ensures { IfOk result (λ value. view value ≡ list_data batch_data (map batch_view batches.now)) }
 {
@@ -66,7 +66,7 @@ fn list_value(alloc: Global, batches: &[BatchOverview]) -> Result<Value, AllocEr
     Ok(Value::Array(values))
 }
 
-/// Returns the batches of a ward, as a value.
+/// Returns the batches of a ward, as a JSON value.
 fn batches_value(alloc: Global, ward: u32, batches: &[BatchOverview]) -> Result<Value, AllocError>
     ensures { IfOk result (λ value. view value ≡ batches_data ward (map batch_view batches.now)) }
 {
@@ -78,13 +78,13 @@ fn batches_value(alloc: Global, ward: u32, batches: &[BatchOverview]) -> Result<
 pub(crate) fn answer_batches(
     alloc: Global,
     ward: u32,
-    told: Result<Vec<BatchOverview>, Stop>,
+    told: Result<Vec<BatchOverview>, ReadError>,
 ) -> Response
     ensures { IsReadTold (λ batches. data_response (batches_data ward batches)) (λ batches. map batch_view batches.items) told result }
 {
     match told {
         Ok(batches) => valued(alloc, batches_value(alloc, ward, &batches)),
-        Err(Stop::Refused(why)) => refused(alloc, &why),
-        Err(Stop::Fault(fault)) => faulted(alloc, fault),
+        Err(ReadError::Refused(why)) => refused(alloc, &why),
+        Err(ReadError::Fault(fault)) => faulted(alloc, fault),
     }
 }

@@ -1,4 +1,4 @@
-//! The JSON of the papers on which the keyings of a batch differ.
+//! The JSON for the papers on which a batch's keyings differ.
 
 ghost use Rattle.std.specs.Prelude.{◌≡◌, IfOk};
 ghost use Rattle.serde_json.specs.View.{view};
@@ -9,12 +9,12 @@ ghost use Rattle.wire.specs.Serving.{IsReadTold, data_response};
 use crate::office_responses::{faulted, refused, valued};
 use crate::read_responses::numbers::numbers_value;
 use crate::response::Response;
-use office::Stop;
+use office::ReadError;
 use serde_json::{Value, json};
 use std::alloc::{AllocError, Global};
 use store::Differences;
 
-/// Returns the papers on which the keyings of a batch differ, as a value.
+/// Returns the papers on which a batch's keyings differ, as a JSON value.
 fn differences_value(alloc: Global, batch: u32, found: &Differences) -> Result<Value, AllocError>
     ensures { IfOk result (λ value. view value ≡ differences_data batch (differences_view found.now)) }
 {
@@ -22,17 +22,17 @@ fn differences_value(alloc: Global, batch: u32, found: &Differences) -> Result<V
     json!(in alloc; {"batch": batch, "papers": papers, "round": found.batch.round})
 }
 
-/// Returns the response with these papers, or with the refusal or fault.
+/// Returns the response with the papers that differ, or with the refusal or fault.
 pub(crate) fn answer_differences(
     alloc: Global,
     batch: u32,
-    told: Result<Differences, Stop>,
+    told: Result<Differences, ReadError>,
 ) -> Response
     ensures { IsReadTold (λ differences. data_response (differences_data batch differences)) differences_view told result }
 {
     match told {
         Ok(found) => valued(alloc, differences_value(alloc, batch, &found)),
-        Err(Stop::Refused(why)) => refused(alloc, &why),
-        Err(Stop::Fault(fault)) => faulted(alloc, fault),
+        Err(ReadError::Refused(why)) => refused(alloc, &why),
+        Err(ReadError::Fault(fault)) => faulted(alloc, fault),
     }
 }

@@ -1,4 +1,4 @@
-//! The JSON of the doubtful papers of a ward.
+//! The JSON for a ward's doubtful papers.
 
 ghost use Rattle.std.specs.Prelude.{◌≡◌, IfOk, map, option_map};
 ghost use Rattle.serde_json.specs.View.{view};
@@ -12,13 +12,13 @@ use crate::candidates::candidates_value;
 use crate::office_responses::{faulted, refused, valued};
 use crate::read_responses::papers::preferences_value;
 use crate::response::Response;
-use office::Stop;
+use office::ReadError;
 use register::JudgedPaper;
 use serde_json::{Value, json};
 use std::alloc::{AllocError, Global};
 use store::{DoubtfulPaper, DoubtfulPapers};
 
-/// Returns a verdict, in a word.
+/// Returns the word for a verdict.
 fn verdict_word(verdict: &Option<JudgedPaper>) -> &'static str
     ensures { result.now ≡ verdict_word (option_map judged_entry verdict.now) }
 {
@@ -34,7 +34,7 @@ fn verdict_word(verdict: &Option<JudgedPaper>) -> &'static str
     }
 }
 
-/// Returns the code of a rejected paper, or 0.
+/// Returns the code of a rejected paper, or 0 for any other.
 fn verdict_code(verdict: &Option<JudgedPaper>) -> u32
     ensures { result ≡ verdict_code (option_map judged_entry verdict.now) }
 {
@@ -44,7 +44,7 @@ fn verdict_code(verdict: &Option<JudgedPaper>) -> u32
     }
 }
 
-/// Returns the marks of an accepted paper; none of any other.
+/// Returns the marks of an accepted paper, or an empty text for any other.
 fn verdict_marks(verdict: &Option<JudgedPaper>) -> &str
     ensures { result.now ≡ verdict_marks (option_map judged_entry verdict.now) }
 {
@@ -60,7 +60,7 @@ fn verdict_marks(verdict: &Option<JudgedPaper>) -> &str
     }
 }
 
-/// Returns a doubtful paper, as a value.
+/// Returns a doubtful paper, as a JSON value.
 fn doubtful_value(alloc: Global, doubtful: &DoubtfulPaper) -> Result<Value, AllocError>
     ensures { IfOk result (λ value. view value ≡ doubtful_data (doubtful_view doubtful.now)) }
 {
@@ -71,7 +71,7 @@ fn doubtful_value(alloc: Global, doubtful: &DoubtfulPaper) -> Result<Value, Allo
     })
 }
 
-/// Returns doubtful papers, as a list of values.
+/// Returns doubtful papers, as a list of JSON values.
 fn list_value(alloc: Global, papers: &[DoubtfulPaper]) -> Result<Value, AllocError>
     ensures { IfOk result (λ value. view value ≡ list_data doubtful_data (map doubtful_view papers.now)) }
 {
@@ -82,7 +82,7 @@ fn list_value(alloc: Global, papers: &[DoubtfulPaper]) -> Result<Value, AllocErr
     Ok(Value::Array(values))
 }
 
-/// Returns the doubtful papers of a ward, as a value.
+/// Returns the doubtful papers of a ward, as a JSON value.
 fn papers_value(alloc: Global, ward: u32, found: &DoubtfulPapers) -> Result<Value, AllocError>
     ensures { IfOk result (λ value. view value ≡ doubtful_papers_data ward (doubtful_papers_view found.now)) }
 {
@@ -95,13 +95,13 @@ fn papers_value(alloc: Global, ward: u32, found: &DoubtfulPapers) -> Result<Valu
 pub(crate) fn answer_doubtful(
     alloc: Global,
     ward: u32,
-    told: Result<DoubtfulPapers, Stop>,
+    told: Result<DoubtfulPapers, ReadError>,
 ) -> Response
     ensures { IsReadTold (λ papers. data_response (doubtful_papers_data ward papers)) doubtful_papers_view told result }
 {
     match told {
         Ok(found) => valued(alloc, papers_value(alloc, ward, &found)),
-        Err(Stop::Refused(why)) => refused(alloc, &why),
-        Err(Stop::Fault(fault)) => faulted(alloc, fault),
+        Err(ReadError::Refused(why)) => refused(alloc, &why),
+        Err(ReadError::Fault(fault)) => faulted(alloc, fault),
     }
 }

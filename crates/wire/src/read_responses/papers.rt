@@ -1,4 +1,4 @@
-//! The JSON of the papers of a batch, as they count.
+//! The JSON for a batch's papers, and how each counts.
 
 ghost use Rattle.std.specs.Prelude.{◌≡◌, IfOk, map};
 ghost use Rattle.serde_json.specs.View.{view};
@@ -11,13 +11,13 @@ use crate::candidates::candidates_value;
 use crate::office_responses::{faulted, refused, valued};
 use crate::read_responses::numbers::candidate_numbers_value;
 use crate::response::Response;
-use office::Stop;
+use office::ReadError;
 use register::Judgement;
 use serde_json::{Value, json};
 use std::alloc::{AllocError, Global};
 use store::{CountedPaper, CountedPapers};
 
-/// Returns the preferences of a valid paper, as a list of values; none of any other.
+/// Returns the preferences of a valid paper, as a list of JSON values; for any other paper, an empty list.
 pub(crate) fn preferences_value(alloc: Global, judgement: &Judgement) -> Result<Value, AllocError>
     ensures { IfOk result (λ value. view value ≡ numbers_data (preferences_of judgement.now)) }
 {
@@ -28,7 +28,7 @@ pub(crate) fn preferences_value(alloc: Global, judgement: &Judgement) -> Result<
     }
 }
 
-/// Returns how a paper counts, in a word.
+/// Returns the word for how a paper counts.
 fn judgement_word(judgement: &Judgement) -> &'static str
     ensures { result.now ≡ judgement_word judgement.now }
 {
@@ -39,7 +39,7 @@ fn judgement_word(judgement: &Judgement) -> &'static str
     }
 }
 
-/// Returns the code of a rejected paper, or 0.
+/// Returns the code of a rejected paper, or 0 for any other.
 fn judgement_code(judgement: &Judgement) -> u32
     ensures { result ≡ judgement_code judgement.now }
 {
@@ -50,7 +50,7 @@ fn judgement_code(judgement: &Judgement) -> u32
     }
 }
 
-/// Returns a paper, as a value.
+/// Returns a paper, as a JSON value.
 fn paper_value(alloc: Global, paper: &CountedPaper) -> Result<Value, AllocError>
     ensures { IfOk result (λ value. view value ≡ counted_data (paper_view paper.now)) }
 {
@@ -60,7 +60,7 @@ fn paper_value(alloc: Global, paper: &CountedPaper) -> Result<Value, AllocError>
     })
 }
 
-/// Returns papers, as a list of values.
+/// Returns papers, as a list of JSON values.
 fn list_value(alloc: Global, papers: &[CountedPaper]) -> Result<Value, AllocError>
     ensures { IfOk result (λ value. view value ≡ list_data counted_data (map paper_view papers.now)) }
 {
@@ -71,7 +71,7 @@ fn list_value(alloc: Global, papers: &[CountedPaper]) -> Result<Value, AllocErro
     Ok(Value::Array(values))
 }
 
-/// Returns the papers of a batch, as a value.
+/// Returns the papers of a batch, as a JSON value.
 fn papers_value(alloc: Global, batch: u32, found: &CountedPapers) -> Result<Value, AllocError>
     ensures { IfOk result (λ value. view value ≡ papers_data batch (papers_view found.now)) }
 {
@@ -84,13 +84,13 @@ fn papers_value(alloc: Global, batch: u32, found: &CountedPapers) -> Result<Valu
 pub(crate) fn answer_papers(
     alloc: Global,
     batch: u32,
-    told: Result<CountedPapers, Stop>,
+    told: Result<CountedPapers, ReadError>,
 ) -> Response
     ensures { IsReadTold (λ papers. data_response (papers_data batch papers)) papers_view told result }
 {
     match told {
         Ok(found) => valued(alloc, papers_value(alloc, batch, &found)),
-        Err(Stop::Refused(why)) => refused(alloc, &why),
-        Err(Stop::Fault(fault)) => faulted(alloc, fault),
+        Err(ReadError::Refused(why)) => refused(alloc, &why),
+        Err(ReadError::Fault(fault)) => faulted(alloc, fault),
     }
 }

@@ -1,4 +1,4 @@
-//! The JSON of receipts.
+//! The JSON for receipts.
 
 ghost use Rattle.std.specs.Prelude.{◌≡◌, IfOk, map};
 ghost use Rattle.serde_json.specs.View.{view};
@@ -9,12 +9,12 @@ ghost use Rattle.wire.specs.Serving.{IsReadTold, data_response};
 
 use crate::office_responses::{faulted, refused, valued};
 use crate::response::Response;
-use office::Stop;
+use office::ReadError;
 use register::Receipt;
 use serde_json::{Value, json};
 use std::alloc::{AllocError, Global};
 
-/// Returns a receipt, as a value.
+/// Returns a receipt, as a JSON value.
 fn receipt_value(alloc: Global, receipt: &Receipt) -> Result<Value, AllocError>
     ensures { IfOk result (λ value. view value ≡ receipt_data (receipt_entry receipt.now)) }
 {
@@ -23,7 +23,7 @@ fn receipt_value(alloc: Global, receipt: &Receipt) -> Result<Value, AllocError>
     })
 }
 
-/// Returns receipts, as a list of values.
+/// Returns receipts, as a list of JSON values.
 fn list_value(alloc: Global, receipts: &[Receipt]) -> Result<Value, AllocError>
     ensures { IfOk result (λ value. view value ≡ list_data receipt_data (map receipt_entry receipts.now)) }
 {
@@ -34,7 +34,7 @@ fn list_value(alloc: Global, receipts: &[Receipt]) -> Result<Value, AllocError>
     Ok(Value::Array(values))
 }
 
-/// Returns receipts, as a value.
+/// Returns receipts, as a JSON value.
 fn receipts_value(alloc: Global, receipts: &[Receipt]) -> Result<Value, AllocError>
     ensures { IfOk result (λ value. view value ≡ receipts_data (map receipt_entry receipts.now)) }
 {
@@ -43,12 +43,12 @@ fn receipts_value(alloc: Global, receipts: &[Receipt]) -> Result<Value, AllocErr
 }
 
 /// Returns the response with receipts, or with the refusal or fault.
-pub(crate) fn answer_receipts(alloc: Global, told: Result<Vec<Receipt>, Stop>) -> Response
+pub(crate) fn answer_receipts(alloc: Global, told: Result<Vec<Receipt>, ReadError>) -> Response
     ensures { IsReadTold (λ receipts. data_response (receipts_data receipts)) (λ receipts. map receipt_entry receipts.items) told result }
 {
     match told {
         Ok(receipts) => valued(alloc, receipts_value(alloc, &receipts)),
-        Err(Stop::Refused(why)) => refused(alloc, &why),
-        Err(Stop::Fault(fault)) => faulted(alloc, fault),
+        Err(ReadError::Refused(why)) => refused(alloc, &why),
+        Err(ReadError::Fault(fault)) => faulted(alloc, fault),
     }
 }

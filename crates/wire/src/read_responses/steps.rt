@@ -1,4 +1,4 @@
-//! The JSON of the next step in a ward.
+//! The JSON for the next step in a ward.
 
 ghost use Rattle.std.specs.Prelude.{◌≡◌, IfOk};
 ghost use Rattle.serde_json.specs.View.{view};
@@ -13,14 +13,14 @@ use register::{NextStep, Status};
 use serde_json::{Value, json};
 use std::alloc::{AllocError, Global};
 
-/// Returns a step of which there is nothing more to say, as a value.
+/// Returns a step that needs no further details, as a JSON value.
 fn word_value(alloc: Global, word: &str) -> Result<Value, AllocError>
     ensures { IfOk result (λ value. view value ≡ word_data word.now) }
 {
     json!(in alloc; {"step": word})
 }
 
-/// Returns what comes next in keying, in a word.
+/// Returns the word for the next step of keying.
 fn papers_word(status: &Status) -> &'static str
     ensures { result.now ≡ papers_word (status_entry status.now) }
 {
@@ -33,7 +33,7 @@ fn papers_word(status: &Status) -> &'static str
     "papers"
 }
 
-/// Returns what a stage does, in a word.
+/// Returns the word for what a stage does.
 fn action_word(action: Action) -> &'static str
     ensures { result.now ≡ action_word action }
 {
@@ -45,7 +45,7 @@ fn action_word(action: Action) -> &'static str
     }
 }
 
-/// Returns the candidate of a stage, or 0.
+/// Returns the candidate that a stage concerns, or 0.
 fn action_candidate(action: Action) -> u8
     ensures { result ≡ action_candidate action }
 {
@@ -57,7 +57,7 @@ fn action_candidate(action: Action) -> u8
     }
 }
 
-/// Returns the next stage of a count, as a value.
+/// Returns the next stage of a count, as a JSON value.
 fn stage_value(alloc: Global, stage: u32, action: Action) -> Result<Value, AllocError>
     ensures { IfOk result (λ value. view value ≡ stage_data stage action) }
 {
@@ -65,7 +65,7 @@ fn stage_value(alloc: Global, stage: u32, action: Action) -> Result<Value, Alloc
     json!(in alloc; {"action": word, "candidate": candidate, "stage": stage, "step": "stage"})
 }
 
-/// Returns what a lot decides, in a word.
+/// Returns the word for what a lot decides.
 fn lot_word(kind: TiedFor) -> &'static str
     ensures { result.now ≡ lot_word kind }
 {
@@ -75,7 +75,7 @@ fn lot_word(kind: TiedFor) -> &'static str
     }
 }
 
-/// Returns a lot that is due, as a value.
+/// Returns a lot that must be drawn next, as a JSON value.
 fn lot_value(alloc: Global, stage: u8, kind: TiedFor, among: &Columns) -> Result<Value, AllocError>
     ensures { IfOk result (λ value. view value ≡ lot_data stage kind among.now) }
 {
@@ -83,7 +83,7 @@ fn lot_value(alloc: Global, stage: u8, kind: TiedFor, among: &Columns) -> Result
     json!(in alloc; {"decides": lot_word(kind), "stage": stage, "step": "lot", "tied": tied})
 }
 
-/// Returns what is due in a count, as a value.
+/// Returns what comes next in a count, as a JSON value.
 fn due_value(alloc: Global, stage: u32, due: Due) -> Result<Value, AllocError>
     ensures { IfOk result (λ value. view value ≡ due_data stage due) }
 {
@@ -94,7 +94,7 @@ fn due_value(alloc: Global, stage: u32, due: Due) -> Result<Value, AllocError>
     }
 }
 
-/// Returns the next step in a ward, as a value.
+/// Returns the next step in a ward, as a JSON value.
 pub(crate) fn step_value(alloc: Global, next: &NextStep) -> Result<Value, AllocError>
     ensures { IfOk result (λ value. view value ≡ step_data (step_entry next.now)) }
 {

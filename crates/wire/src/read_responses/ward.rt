@@ -1,4 +1,4 @@
-//! The JSON of one ward, with its next step and its papers.
+//! The JSON for one ward, with its next step and its papers.
 
 ghost use Rattle.std.specs.Prelude.{◌≡◌, ◌==◌, IfOk, find, map, option_map};
 ghost use Rattle.serde_json.specs.View.{view};
@@ -15,13 +15,13 @@ use crate::read_responses::found::{WardPapers, WardRead};
 use crate::read_responses::steps::step_value;
 use crate::read_responses::wards::ward_value;
 use crate::response::Response;
-use office::Stop;
+use office::ReadError;
 use register::{NextStep, Reason, Refusal};
 use serde_json::{Value, json};
 use std::alloc::{AllocError, Global};
 use store::{BatchOverview, BatchStanding, Fault, WardOverview};
 
-/// Returns the sizes of batches, added up.
+/// Returns the total size of the batches.
 fn given_out(batches: &[BatchOverview]) -> u64
     ensures { result ≡ given_out (map batch_view batches.now) }
 {
@@ -32,7 +32,7 @@ fn given_out(batches: &[BatchOverview]) -> u64
     papers
 }
 
-/// Returns the size of a batch, if it is taken, and otherwise 0.
+/// Returns the size of a batch if it is taken, otherwise 0.
 fn size_in(standing: BatchStanding, size: u32) -> u32
     ensures { result ≡ size_in standing size }
 {
@@ -43,7 +43,7 @@ fn size_in(standing: BatchStanding, size: u32) -> u32
     }
 }
 
-/// Returns the sizes of the taken ones, added up.
+/// Returns the total size of the taken batches.
 fn agreed_in(batches: &[BatchOverview]) -> u64
     ensures { result ≡ agreed_in (map batch_view batches.now) }
 {
@@ -55,7 +55,7 @@ fn agreed_in(batches: &[BatchOverview]) -> u64
     papers
 }
 
-/// Returns a ward with its next step and its papers, as a value.
+/// Returns a ward with its next step and its papers, as a JSON value.
 fn read_value(
     alloc: Global,
     ward: &WardOverview,
@@ -73,7 +73,7 @@ fn read_value(
     })
 }
 
-/// Returns the ward with this number among others.
+/// Returns the ward with the given number from a list of wards.
 fn ward_in(wards: &[WardOverview], number: u32) -> Option<&WardOverview>
     ensures { option_map (λ w. ward_view w.now) result ≡ find (λ (w : WardView). w.ward.number == number) (map ward_view wards.now) }
 {
@@ -85,7 +85,7 @@ fn ward_in(wards: &[WardOverview], number: u32) -> Option<&WardOverview>
     None
 }
 
-/// Returns the response that there is no such ward.
+/// Returns the response saying that the ward doesn't exist.
 fn no_such_ward(alloc: Global) -> Response
     ensures { IsTold (refused_for Reason.NoSuchWard) result }
 {
@@ -95,7 +95,7 @@ fn no_such_ward(alloc: Global) -> Response
     }
 }
 
-/// Returns the response with a ward, if it was found.
+/// Returns the response with a ward, if it was found; otherwise the response saying that it doesn't exist.
 fn answer_found(alloc: Global, ward: Option<&WardOverview>, found: &WardRead) -> Response
     ensures { IsTold (found_response (ward_read_view found.now) (option_map (λ w. ward_view w.now) ward.entry)) result }
 {
@@ -109,12 +109,12 @@ fn answer_found(alloc: Global, ward: Option<&WardOverview>, found: &WardRead) ->
 }
 
 /// Returns the response with a ward, or with the refusal or fault.
-pub(crate) fn answer_ward(alloc: Global, ward: u32, told: Result<WardRead, Stop>) -> Response
+pub(crate) fn answer_ward(alloc: Global, ward: u32, told: Result<WardRead, ReadError>) -> Response
     ensures { IsReadTold (ward_response ward) ward_read_view told result }
 {
     match told {
         Ok(found) => answer_found(alloc, ward_in(&found.progress.wards, ward), &found),
-        Err(Stop::Refused(why)) => refused(alloc, &why),
-        Err(Stop::Fault(fault)) => faulted(alloc, fault),
+        Err(ReadError::Refused(why)) => refused(alloc, &why),
+        Err(ReadError::Fault(fault)) => faulted(alloc, fault),
     }
 }

@@ -1,4 +1,4 @@
-//! The JSON of the wards.
+//! The JSON for the wards.
 
 ghost use Rattle.std.specs.Prelude.{◌≡◌, [], IfOk, map, unwrap_or};
 ghost use Rattle.serde_json.specs.View.{view};
@@ -12,15 +12,15 @@ use crate::office_responses::{faulted, refused, valued};
 use crate::read_responses::found::WardsRead;
 use crate::read_responses::numbers::candidate_numbers_value;
 use crate::response::Response;
-use office::Stop;
+use office::ReadError;
 use paper::Columns;
 use register::Phase;
 use serde_json::{Value, json};
 use std::alloc::{AllocError, Global};
 use store::WardOverview;
 
-/// Returns a phase, in a word.
-fn phase_word(phase: Phase) -> &'static str
+/// Returns the word for a phase.
+pub(crate) fn phase_word(phase: Phase) -> &'static str
     ensures { result.now ≡ phase_word phase }
 {
     match phase {
@@ -31,7 +31,7 @@ fn phase_word(phase: Phase) -> &'static str
     }
 }
 
-/// Returns those elected, as a list of values; none before the ward is declared.
+/// Returns the elected candidates, as a list of JSON values; an empty list before the ward is declared.
 fn elected_value(alloc: Global, elected: Option<Columns>) -> Result<Value, AllocError>
     ensures { IfOk result (λ value. view value ≡ numbers_data (unwrap_or elected [])) }
 {
@@ -41,7 +41,7 @@ fn elected_value(alloc: Global, elected: Option<Columns>) -> Result<Value, Alloc
     }
 }
 
-/// Returns a ward, as a value.
+/// Returns a ward, as a JSON value.
 pub(crate) fn ward_value(alloc: Global, overview: &WardOverview) -> Result<Value, AllocError>
     ensures { IfOk result (λ value. view value ≡ ward_data (ward_view overview.now)) }
 {
@@ -55,7 +55,7 @@ pub(crate) fn ward_value(alloc: Global, overview: &WardOverview) -> Result<Value
     })
 }
 
-/// Returns wards, as a list of values.
+/// Returns wards, as a list of JSON values.
 fn list_value(alloc: Global, wards: &[WardOverview]) -> Result<Value, AllocError>
     ensures { IfOk result (λ value. view value ≡ list_data ward_data (map ward_view wards.now)) }
 {
@@ -66,7 +66,7 @@ fn list_value(alloc: Global, wards: &[WardOverview]) -> Result<Value, AllocError
     Ok(Value::Array(values))
 }
 
-/// Returns all wards and the number of receipts, as a value.
+/// Returns all wards and the number of receipts, as a JSON value.
 fn wards_value(alloc: Global, found: &WardsRead) -> Result<Value, AllocError>
     ensures { IfOk result (λ value. view value ≡ wards_data (wards_read_view found.now)) }
 {
@@ -75,12 +75,12 @@ fn wards_value(alloc: Global, found: &WardsRead) -> Result<Value, AllocError>
 }
 
 /// Returns the response with all wards, or with the refusal or fault.
-pub(crate) fn answer_wards(alloc: Global, told: Result<WardsRead, Stop>) -> Response
+pub(crate) fn answer_wards(alloc: Global, told: Result<WardsRead, ReadError>) -> Response
     ensures { IsReadTold (λ wards. data_response (wards_data wards)) wards_read_view told result }
 {
     match told {
         Ok(found) => valued(alloc, wards_value(alloc, &found)),
-        Err(Stop::Refused(why)) => refused(alloc, &why),
-        Err(Stop::Fault(fault)) => faulted(alloc, fault),
+        Err(ReadError::Refused(why)) => refused(alloc, &why),
+        Err(ReadError::Fault(fault)) => faulted(alloc, fault),
     }
 }

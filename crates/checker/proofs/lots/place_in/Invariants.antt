@@ -1,4 +1,4 @@
--- The invariant of the loop in `place_in`: the lots so far are not of a later stage.
+-- The invariant of the loop in `place_in`: none of the lots so far is for a later stage.
 use Rattle.std.proofs.Common.{◌≡◌, ◌+◌, drop}
 use Rattle.checker.specs.Counts.{place_in}
 use Rattle.checker.proofs.lots.place_in.Given as goal

@@ -1,4 +1,4 @@
--- The invariant of the loop in `with_lots`: the lots so far, with those that are left, are all lots.
+-- The invariant of the loop in `with_lots`: the lots so far, with the remaining ones added, are all lots.
 use Rattle.std.proofs.Common.{◌≡◌, drop}
 use Rattle.checker.specs.Counts.{with_lots}
 use Rattle.checker.proofs.lots.with_lots.Given as goal

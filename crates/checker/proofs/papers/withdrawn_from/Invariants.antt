@@ -1,4 +1,4 @@
--- The invariant of the loop in `withdrawn_from`: the numbers so far and the remaining words make up all of them.
+-- The invariant of the loop in `withdrawn_from`: the numbers so far and those in the remaining words make up the whole set.
 use Rattle.std.proofs.Common.{◌≡◌, map, drop}
 use Rattle.checker.specs.Papers.{withdrawn_from}
 use Rattle.checker.proofs.papers.withdrawn_from.Given as goal

@@ -1,4 +1,4 @@
--- The invariant of the loop in `standing_in`: the number so far and that of the remaining words add up to the total of those who aren't withdrawn.
+-- The invariant of the loop in `standing_in`: the number so far and that in the remaining words add up to the number of candidates who haven't withdrawn.
 use Rattle.std.proofs.Common.{◌≡◌, ◌≤◌, map, drop}
 use Rattle.checker.specs.Ranks.{standing_from}
 use Rattle.checker.proofs.ranks.standing_in.Given as goal

@@ -1,4 +1,4 @@
--- The invariant of the loop in `count_request`: the request so far, with the words that are left, is that of all words.
+-- The invariant of the loop in `count_request`: the request so far, with the remaining words, is the whole request.
 use Rattle.std.proofs.Common.{◌≡◌, Ok, map, drop, string_bytes}
 use Rattle.checker.specs.Requests.{nothing_asked, with_words}
 use Rattle.checker.specs.RequestViews.{words_told}

@@ -1,4 +1,4 @@
--- The invariant of the loop in `pieces_of`: the pieces so far, followed by those of the remaining bytes after the beginning of the next, are those of the text.
+-- The invariant of the loop in `pieces_of`: the pieces so far, followed by those of the current piece and the remaining bytes, are the pieces of the text.
 use Rattle.std.proofs.Common.{◌≡◌, ◌≤◌, ◌-◌, ◌++◌, [], map, take, drop}
 use Rattle.checker.specs.Tokens.{pieces_of}
 use Rattle.checker.proofs.tokens.pieces_of.Given as goal

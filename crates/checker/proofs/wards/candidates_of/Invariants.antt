@@ -1,4 +1,4 @@
--- The invariant of the loop in `candidates_of`: those so far, followed by those of the remaining names, are all of them.
+-- The invariant of the loop in `candidates_of`: the candidates so far, followed by those with the remaining names, are all candidates.
 use Rattle.std.proofs.Common.{◌≡◌, ◌+◌, ◌++◌, map, drop}
 use Rattle.std.specs.Prelude.{string_bytes}
 use Rattle.checker.specs.Wards.{candidates_from, candidates_of}

@@ -1,4 +1,4 @@
--- What holds each time round the loop of `credentials_by`.
+-- The invariant of the loop in `credentials_by`.
 use Rattle.std.proofs.Common.{◌≡◌, map, take}
 use Rattle.codes.specs.Codes.{holder}
 use Rattle.codes.specs.Files.{code_entry, holders_by}

@@ -1,4 +1,4 @@
--- What holds each time round the loop of `is_of`.
+-- The invariant of the loop in `is_of`.
 use Rattle.std.proofs.Common.{◌≡◌, drop, map}
 use Rattle.codes.specs.Codes.{holder, is_of}
 use Rattle.codes.proofs.holders.is_of.Given as goal

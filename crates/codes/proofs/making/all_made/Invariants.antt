@@ -1,4 +1,4 @@
--- What holds each time round the loop of `all_made`.
+-- The invariant of the loop in `all_made`.
 use Rattle.std.proofs.Common.{◌≡◌, drop, map}
 use Rattle.std.specs.List.{list_all}
 use Rattle.codes.specs.Files.{CodeEntry, code_entry}

@@ -1,4 +1,4 @@
--- What holds each time round the loop of `are_of`: what the test says of the lines that are left is what it says of all.
+-- The invariant of the loop in `are_of`: the test has the same result for the remaining lines as for all lines.
 use Rattle.std.proofs.Common.{◌≡◌, ◌+◌, drop, map}
 use Rattle.codes.specs.Files.{code_entry}
 use Rattle.codes.specs.Making.{are_from}

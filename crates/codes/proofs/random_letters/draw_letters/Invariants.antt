@@ -1,4 +1,4 @@
--- What holds each time round the loop of `draw_letters`: the letters so far are those of the bytes so far.
+-- The invariant of the loop in `draw_letters`: the letters so far are those that the bytes read so far select.
 use Rattle.std.proofs.Common.{◌≡◌, ◌*◌, ◌≤◌, length}
 use Rattle.codes.proofs.DrawingLemmas.{IsDrawing}
 use Rattle.codes.proofs.random_letters.draw_letters.Given as goal

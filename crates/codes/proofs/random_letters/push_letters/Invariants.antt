@@ -1,4 +1,4 @@
--- What holds each time round the loop of `push_letters`.
+-- The invariant of the loop in `push_letters`.
 use Rattle.std.proofs.Common.{◌≡◌, ◌++◌, string_bytes, take}
 use Rattle.codes.proofs.random_letters.push_letters.Given as goal
 

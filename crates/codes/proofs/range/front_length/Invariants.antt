@@ -1,4 +1,4 @@
--- What holds each time round the loop of `front_length`.
+-- The invariant of the loop in `front_length`.
 use Rattle.std.proofs.Common.{◌≡◌, ◌+◌, drop}
 use Rattle.std.specs.List.{prefix_len}
 use Rattle.codes.specs.Files.{is_no_hyphen}

@@ -1,4 +1,4 @@
--- What holds each time round the loop of `clerk_has_code`.
+-- The invariant of the loop in `clerk_has_code`.
 use Rattle.std.proofs.Common.{◌≡◌, drop, map}
 use Rattle.std.specs.Prelude.{bytes_eq}
 use Rattle.std.specs.List.{list_any}

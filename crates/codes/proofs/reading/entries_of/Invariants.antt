@@ -1,4 +1,4 @@
--- What holds each time round the loop of `entries_of`: what is found behind the lines so far is what all lines say.
+-- The invariant of the loop in `entries_of`: reading the remaining lines after those read so far has the same result as reading all the lines.
 use Rattle.std.proofs.Common.{◌≡◌, ◌+◌, map, drop}
 use Rattle.codes.specs.Files.{file_entry, file_from, no_codes}
 use Rattle.codes.proofs.reading.entries_of.Given as goal

@@ -1,4 +1,4 @@
--- What holds each time round the loop of `has_clerk`.
+-- The invariant of the loop in `has_clerk`.
 use Rattle.std.proofs.Common.{◌≡◌, ◌==◌, drop, map}
 use Rattle.std.specs.List.{list_any}
 use Rattle.codes.specs.Files.{CodeEntry, code_entry}

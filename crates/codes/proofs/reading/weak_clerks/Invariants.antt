@@ -1,4 +1,4 @@
--- What holds each time round the loop of `weak_clerks`: those so far, followed by those of the lines that are left, are those of all lines.
+-- The invariant of the loop in `weak_clerks`: the weak clerks so far, followed by those in the remaining lines, are the weak clerks in all lines.
 use Rattle.std.proofs.Common.{◌≡◌, ◌++◌, drop, map}
 use Rattle.codes.specs.Files.{code_entry, weak_clerks}
 use Rattle.codes.proofs.reading.weak_clerks.Given as goal

@@ -1,9 +1,9 @@
--- What holds each time round the loop of `deliver`, and what gets less.
+-- The loop invariant and the measure of `deliver`.
 use Rattle.std.proofs.Common.{◌≡◌, ◌-◌, length}
 use Rattle.connections.specs.Streams.{Delivers, stream_of}
 use Rattle.connections.proofs.client.deliver.Given as goal
 
--- the line took the answer up to here
+-- the stream has accepted the response up to the given position
 abbrev pub invariant-loop-answer : goal.invariant-loop-answer
 invariant-loop-answer g l = record {
   same : l.answer.bytes.items ≡ l.fn.answer.bytes.items;

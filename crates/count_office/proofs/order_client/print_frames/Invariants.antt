@@ -1,4 +1,4 @@
--- The invariant of the loop in `print_frames`: neither output has failed.
+-- The loop invariant of `print_frames`: neither output has failed.
 use Rattle.std.proofs.Common.{◌≡◌}
 use Rattle.count_office.proofs.order_client.print_frames.Given as goal
 

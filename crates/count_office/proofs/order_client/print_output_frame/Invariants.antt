@@ -1,4 +1,4 @@
--- The invariant of the loop in `print_output_frame`, and its measure: the output hasn't failed.
+-- The loop invariant and the measure of `print_output_frame`: the output hasn't failed.
 use Rattle.std.proofs.Common.{◌≡◌}
 use Rattle.count_office.proofs.order_client.print_output_frame.Given as goal
 

@@ -1,4 +1,4 @@
--- The invariant of the loop in `perform_with_retries`: neither output has failed.
+-- The loop invariant of `perform_with_retries`: neither output has failed.
 use Rattle.std.proofs.Common.{◌≡◌}
 use Rattle.count_office.proofs.order_run.perform_with_retries.Given as goal
 

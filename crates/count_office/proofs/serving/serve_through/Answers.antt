@@ -1,10 +1,10 @@
 -- Proof that `serve_through` meets its contract: the gate is that of the settings, and so is the number of clients.
 use Rattle.std.proofs.Common.{subst, ℕ}
-use Rattle.std.specs.Prelude.{Option}
+use Rattle.std.specs.Prelude.{Option, option_map}
 use Rattle.sqlite.specs.Held.{state}
 use Rattle.connections.specs.Streams.{stream_of}
-use Rattle.wire.specs.Gates.{GateEntry}
-use Rattle.wire.specs.Origins.{given_by}
+use Rattle.wire.specs.Gates.{GateEntry, public_entry}
+use Rattle.wire.specs.Origins.{origin_setting}
 use Rattle.count_office.specs.Serving.{ServesAtNetwork, settings_with}
 use Rattle.count_office.proofs.serving.serve_through.Goals as goal
 
@@ -12,7 +12,7 @@ pub returns : goal.returns
 returns g c =
     let settings = c.args.settings in
     let at = λ (gate : Option GateEntry) (most : Option ℕ). ServesAtNetwork
-    (settings_with (given_by settings.serving.origin) gate settings.file (g.A.ServedFile.whole c.args.served_file.now))
+    (settings_with (origin_setting settings.serving.origin) gate (option_map public_entry settings.public) settings.file (g.A.ServedFile.whole c.args.served_file.now))
     (stream_of g.D.Stream.Stream.held g.D.Stream.Stream.taken g.D.Stream.Stream.failed) (state g.S.Store) (g.D.Network.known c.args.network.now)
     (g.D.Network.known c.serve_connections.new.network) most
     c.args.office.now c.serve_connections.new.office c.serve_connections.result in

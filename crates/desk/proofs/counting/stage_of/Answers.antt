@@ -18,7 +18,7 @@ returns-in-Ok-Kept-clause-told g c = λ clean is_open s at.
 pub returns-in-Ok-Refused-clause-told : goal.returns-in-Ok-Refused-clause-told
 returns-in-Ok-Refused-clause-told g c = λ clean is_open s at.
     let handled = rw c.in-Ok-Refused.field-0-is at (rw c.as_str.ensures.value at (c.in-Ok-Refused.ensures.handled clean is_open s at)) in
-    (1, inl (refl, c.at_rest.ensures ∙ ap (page_counted c.args.is_first) handled.0, handled.1), ap (λ (b : Bool). 1 == 1 && not b) (ap tells_no handled.0 ∙ no_is_refused _))
+    (1, inl (refl, c.outcome_of_refused_stage.ensures ∙ ap (page_counted c.args.is_first) handled.0, handled.1), ap (λ (b : Bool). 1 == 1 && not b) (ap tells_no handled.0 ∙ no_is_refused _))
 
 pub returns-in-Err-clause-told : goal.returns-in-Err-clause-told
 returns-in-Err-clause-told g c = λ clean is_open s at.

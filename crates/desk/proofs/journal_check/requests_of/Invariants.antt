@@ -1,4 +1,4 @@
--- The invariant of the loop in `requests_of`: the steps so far are the requests.
+-- The invariant of the loop in `requests_of`: the steps so far send the requests so far.
 use Rattle.desk.specs.Journals.{AreSent}
 use Rattle.desk.proofs.journal_check.requests_of.Given as goal
 

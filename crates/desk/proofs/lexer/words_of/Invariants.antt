@@ -1,4 +1,4 @@
--- The invariant of the loop in `words_of`: splitting the bytes that are left after those so far results in the line's words.
+-- The invariant of the loop in `words_of`: splitting the remaining bytes, starting from the current state, results in the words of the line.
 use Rattle.std.proofs.Common.{◌≡◌, [], drop}
 use Rattle.std.specs.Prelude.{fold}
 use Rattle.desk.specs.Lexing.{lexer_entry}

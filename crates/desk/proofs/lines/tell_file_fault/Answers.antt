@@ -6,5 +6,5 @@ use Rattle.desk.proofs.lines.tell_file_fault.Goals as goal
 pub returns : goal.returns
 returns g c =
     let text = flaw_in_pieces c.args.fault.flaw (codes "\n") in
-    rw (c.format.ensures.text, c.number.ensures, c.format-2.ensures.text, c.words.ensures, c.batch_of.ensures, c.between_of.ensures, c.clerk_of.ensures, text, c.status_of_file.ensures) at
+    rw (c.format.ensures.text, c.number.ensures, c.format-2.ensures.text, c.words.ensures, c.batch_of.ensures, c.text_before_clerk.ensures, c.clerk_of.ensures, text, c.status_of_file.ensures) at
     c.tell_error.ensures

@@ -1,7 +1,7 @@
 -- Proof that `tell_words` meets its contract.
 use Rattle.std.proofs.Common.{refl}
 use Rattle.desk.specs.Pages.{words_page}
-use Rattle.desk.specs.declared.words.WordsFault.TheVariants.{Digest, Origin, Verdict}
+use Rattle.desk.specs.declared.words.WordsFault.TheVariants.{Digest, Origin, TitleAlone, Verdict}
 use Rattle.desk.proofs.PageLemmas.{error_shown}
 use Rattle.desk.proofs.lines.tell_words.Goals as goal
 
@@ -15,3 +15,8 @@ returns-in-Origin g c =
 pub returns-in-Digest : goal.returns-in-Digest
 returns-in-Digest g c =
     rw c.in-Digest.is (error_shown g.O.Sink.taken g.O.Sink.failed g.E.Sink.taken g.E.Sink.failed _ _ _ (words_page Digest) c.tell_error-in-Digest.result refl c.tell_error-in-Digest.ensures)
+
+pub returns-in-TitleAlone : goal.returns-in-TitleAlone
+returns-in-TitleAlone g c =
+    rw c.in-TitleAlone.is (error_shown g.O.Sink.taken g.O.Sink.failed g.E.Sink.taken g.E.Sink.failed _ _ _ (words_page TitleAlone) c.tell_error-in-TitleAlone.result refl
+    c.tell_error-in-TitleAlone.ensures)

@@ -20,11 +20,11 @@ returns-in-Err-clause-ran g c =
           (page_of c.in-Err.outcome) told.0 c.in-Err.ensures.unread (record { is_open = is_open; at = at });
     }
 
-pub returns-in-Ok-all_said-clause-ran : goal.returns-in-Ok-all_said-clause-ran
-returns-in-Ok-all_said-clause-ran g c =
-    let told = c.send_lines.ensures.sent in
-    let lines = map typed_line_entry c.in-Ok-all_said.said.items in
-    let holds = holds_lines _ (map line_entry c.in-Ok.lines.items) lines (rw c.deref.ensures.value at c.in-Ok-all_said.ensures) c.in-Ok.ensures.read in
+pub returns-in-Ok-typed_lines-clause-ran : goal.returns-in-Ok-typed_lines-clause-ran
+returns-in-Ok-typed_lines-clause-ran g c =
+    let told = c.run_script.ensures.sent in
+    let lines = map typed_line_entry c.in-Ok-typed_lines.said.items in
+    let holds = holds_lines _ (map line_entry c.in-Ok.lines.items) lines (rw c.deref.ensures.value at c.in-Ok-typed_lines.ensures) c.in-Ok.ensures.read in
     record {
       page = told.page;
       cut = told.cut;
@@ -33,9 +33,9 @@ returns-in-Ok-all_said-clause-ran g c =
           let it = told.is clean is_open s at in (
             it.0,
             it.1,
-            replay_of (g.F.Folder.held c.args.folder.now) s c.args.keep_going c.args.path _ c.open.ensures (state g.S.Store c.args.office.now.held) c.send_lines.new.office.closed
-                (state g.S.Store c.send_lines.new.office.held) lines _ holds
-                (rw c.deref-in-Ok-all_said.ensures.value at it.2),
+            replay_of (g.F.Folder.held c.args.folder.now) s c.args.keep_going c.args.path _ c.open.ensures (state g.S.Store c.args.office.now.held) c.run_script.new.office.closed
+                (state g.S.Store c.run_script.new.office.held) lines _ holds
+                (rw c.deref-in-Ok-typed_lines.ensures.value at it.2),
           );
     }
 

@@ -58,6 +58,89 @@ returns-in-ImportCandidates-clause-ran g c =
           );
     }
 
+pub returns-in-Ok-batch_requests-clause-ran : goal.returns-in-Ok-batch_requests-clause-ran
+returns-in-Ok-batch_requests-clause-ran g c =
+    let told = c.send_all-in-Ok-batch_requests.ensures.sent in
+    record {
+      page = told.page;
+      cut = told.cut;
+      shown = told.shown;
+      is = λ clean is_open s at.
+          let it = told.is clean is_open s at in (
+            it.0,
+            it.1,
+            (
+              _,
+              c.opened-file.ensures,
+              rw c.in-ImportBatches.is (inl (c.in-Ok-batch_requests.requests.items, c.in-Ok-batch_requests.ensures.rows, rw c.deref-in-Ok-batch_requests.ensures.value at it.2)),
+            ),
+          );
+    }
+
+pub returns-in-ImportBatches-clause-ran : goal.returns-in-ImportBatches-clause-ran
+returns-in-ImportBatches-clause-ran g c =
+    let told = c.tell-in-Err-batch_requests.ensures in
+    let page = page_of c.in-Err-batch_requests.outcome in
+    let st = state g.S.Store c.args.office.now.held in
+    record {
+      page = fronted c.args.line page;
+      cut = told.0;
+      shown = told.1;
+      is = λ clean is_open s at.
+          let here : IsOpenAt s c.args.office.now.closed st = record { is_open = is_open; at = at } in (
+            [],
+            0,
+            (
+              _,
+              c.opened-file.ensures,
+              rw c.in-ImportBatches.is (inr (unsent_told st c.args.office.now.closed st c.args.keep_going c.args.line _ s page told.0
+                  (elim c.in-Err-batch_requests.ensures.refused [ inl why ↦ inl (why, here) | inr memory ↦ inr (Memory, memory, (inl refl, inl (record { memory = refl; open_at = here }))) ]))),
+            ),
+          );
+    }
+
+pub returns-in-Ok-seal_of-clause-ran : goal.returns-in-Ok-seal_of-clause-ran
+returns-in-Ok-seal_of-clause-ran g c =
+    let told = c.send_all-in-Ok-seal_of.ensures.sent in
+    record {
+      page = told.page;
+      cut = told.cut;
+      shown = told.shown;
+      is = λ clean is_open s at.
+          let honest = c.send_all-in-Ok-seal_of.ensures.clean clean in
+          let read = c.in-Ok-seal_of.ensures.read honest is_open s at in
+          let first = state g.S.Store c.args.office.now.held in
+          let mid = state g.S.Store c.seal_of.new.office.held in
+          let next = state g.S.Store c.send_all-in-Ok-seal_of.new.office.held in
+          let closed = c.send_all-in-Ok-seal_of.new.office.closed in
+          let tells = since first mid next honest (reads_connection first mid c.seal_of.ensures.same) c.send_all-in-Ok-seal_of.ensures.keeps_connection in
+          let it = told.is clean read.1.is_open s read.1.at in
+          let sent = sent_turned {Then = IsOver closed next} {Else = IsOver closed next} {Q = Unit {0}} first mid closed next c.args.keep_going c.args.line page_for tells
+          (λ x e over gone. over) s (c.in-Ok-seal_of.request ∷ []) _ (λ gone. tt) it.2 in
+          (it.0, it.1, (_, c.opened-file.ensures, rw c.in-SealExpected.is (inl (c.in-Ok-seal_of.request ∷ [], read.0, sent))));
+    }
+
+pub returns-in-SealExpected-clause-ran : goal.returns-in-SealExpected-clause-ran
+returns-in-SealExpected-clause-ran g c =
+    let told = c.tell-in-Err-seal_of.ensures in
+    let page = page_of c.in-Err-seal_of.outcome in
+    record {
+      page = fronted c.args.line page;
+      cut = told.0;
+      shown = told.1;
+      is = λ clean is_open s at. (
+        [],
+        0,
+        (
+          _,
+          c.opened-file.ensures,
+          rw c.in-SealExpected.is (inr (unsent_told (state g.S.Store c.args.office.now.held) c.seal_of.new.office.closed
+              (state g.S.Store c.seal_of.new.office.held) c.args.keep_going c.args.line _ s page told.0
+              (c.in-Err-seal_of.ensures.read clean is_open s at))),
+        ),
+      );
+    }
+
 pub returns-in-Ok-keying_of-clause-ran : goal.returns-in-Ok-keying_of-clause-ran
 returns-in-Ok-keying_of-clause-ran g c =
     let told = c.send_all-in-Ok-keying_of.ensures.sent in
@@ -134,9 +217,9 @@ returns-in-Count-clause-ran g c =
           );
     }
 
-pub returns-in-TellNext-clause-ran : goal.returns-in-TellNext-clause-ran
-returns-in-TellNext-clause-ran g c =
-    let told = c.tell-in-TellNext.ensures in
+pub returns-in-PrintNext-clause-ran : goal.returns-in-PrintNext-clause-ran
+returns-in-PrintNext-clause-ran g c =
+    let told = c.tell-in-PrintNext.ensures in
     record {
       page = fronted c.args.line (page_of c.next_of.result);
       cut = told.0;
@@ -147,16 +230,16 @@ returns-in-TellNext-clause-ran g c =
         (
           _,
           c.opened-file.ensures,
-          rw c.in-TellNext.is (inr (unsent_told (state g.S.Store c.args.office.now.held) c.next_of.new.office.closed
+          rw c.in-PrintNext.is (inr (unsent_told (state g.S.Store c.args.office.now.held) c.next_of.new.office.closed
               (state g.S.Store c.next_of.new.office.held) c.args.keep_going c.args.line _ s (page_of c.next_of.result) told.0
               (c.next_of.ensures.found clean is_open s at))),
         ),
       );
     }
 
-pub returns-in-TellStatus-clause-ran : goal.returns-in-TellStatus-clause-ran
-returns-in-TellStatus-clause-ran g c =
-    let told = c.tell-in-TellStatus.ensures in
+pub returns-in-PrintStatus-clause-ran : goal.returns-in-PrintStatus-clause-ran
+returns-in-PrintStatus-clause-ran g c =
+    let told = c.tell-in-PrintStatus.ensures in
     record {
       page = fronted c.args.line (page_of c.standing_of.result);
       cut = told.0;
@@ -167,7 +250,7 @@ returns-in-TellStatus-clause-ran g c =
         (
           _,
           c.opened-file.ensures,
-          rw c.in-TellStatus.is (inr (unsent_told (state g.S.Store c.args.office.now.held) c.standing_of.new.office.closed
+          rw c.in-PrintStatus.is (inr (unsent_told (state g.S.Store c.args.office.now.held) c.standing_of.new.office.closed
               (state g.S.Store c.standing_of.new.office.held) c.args.keep_going c.args.line _ s (page_of c.standing_of.result) told.0
               (c.standing_of.ensures.found clean is_open s at))),
         ),

@@ -3,7 +3,7 @@ use Rattle.std.proofs.Common.{inl, inr, refl}
 use Rattle.sqlite.specs.Held.{state}
 use Rattle.tables.specs.declared.fault.Fault.TheVariants.{Memory}
 use Rattle.store.specs.Overviews.{differences_view}
-use Rattle.office.specs.Overviews.{differences_told}
+use Rattle.office.specs.Overviews.{differences_answer}
 use Rattle.desk.specs.Overviews.{differences_line}
 use Rattle.desk.specs.Pages.{page_of, replied}
 use Rattle.desk.proofs.OverviewLemmas.{stop_found}
@@ -14,6 +14,6 @@ returns-in-Ok-clause-found g c = λ clean is_open s at. inr (Memory, refl, (inl 
 
 pub returns-clause-found : goal.returns-clause-found
 returns-clause-found g c = λ clean is_open s at.
-    stop_found differences_view (λ found. replied (differences_line found)) s (differences_told s c.args.batch) c.in-Err.stop
+    stop_found differences_view (λ found. replied (differences_line found)) s (differences_answer s c.args.batch) c.in-Err.stop
     (page_of c.stopped.result) c.differences.new.self.closed (state g.S.Store c.args.office.now.held) (state g.S.Store c.differences.new.self.held)
     (c.in-Err.ensures.reads clean is_open s at) (c.in-Err.ensures.cause clean is_open s at) c.stopped.ensures

@@ -3,7 +3,7 @@ use Rattle.std.proofs.Common.{inl, inr, refl}
 use Rattle.sqlite.specs.Held.{state}
 use Rattle.tables.specs.declared.fault.Fault.TheVariants.{Memory}
 use Rattle.store.specs.Overviews.{doubtful_papers_view}
-use Rattle.office.specs.Overviews.{doubtful_told}
+use Rattle.office.specs.Overviews.{doubtful_answer}
 use Rattle.desk.specs.Overviews.{doubtful_lines}
 use Rattle.desk.specs.Pages.{page_of, printed}
 use Rattle.desk.proofs.OverviewLemmas.{stop_found}
@@ -14,6 +14,6 @@ returns-in-Ok-clause-found g c = λ clean is_open s at. inr (Memory, refl, (inl 
 
 pub returns-clause-found : goal.returns-clause-found
 returns-clause-found g c = λ clean is_open s at.
-    stop_found doubtful_papers_view (λ found. printed (doubtful_lines found)) s (doubtful_told s c.args.ward) c.in-Err.stop (page_of c.stopped.result)
+    stop_found doubtful_papers_view (λ found. printed (doubtful_lines found)) s (doubtful_answer s c.args.ward) c.in-Err.stop (page_of c.stopped.result)
     c.doubtful.new.self.closed (state g.S.Store c.args.office.now.held) (state g.S.Store c.doubtful.new.self.held)
     (c.in-Err.ensures.reads clean is_open s at) (c.in-Err.ensures.cause clean is_open s at) c.stopped.ensures

@@ -1,4 +1,4 @@
--- The invariant of the loop in `numbers_in`: the numbers so far.
+-- The invariant of the loop in `numbers_in`: the numbers so far have been collected.
 use Rattle.std.proofs.Common.{◌≡◌, take}
 use Rattle.desk.proofs.overviews.numbers_in.Given as goal
 

@@ -1,4 +1,4 @@
--- The invariant of the loop in `preferences`: the text so far, and that of the preferences that are left, are all.
+-- The invariant of the loop in `preferences`: the text so far, followed by that of the remaining preferences, is the whole text.
 use Rattle.std.proofs.Common.{◌≡◌, ◌+◌, ◌++◌, drop, string_bytes}
 use Rattle.desk.specs.CandidateNames.{names_told}
 use Rattle.desk.specs.Overviews.{preferences_from}

@@ -1,4 +1,4 @@
--- The invariant of the loop in `texts_of`: the words so far are UTF-8.
+-- The invariant of the loop in `texts_of`: all words so far are UTF-8.
 use Rattle.std.proofs.Common.{◌≡◌, ◌∷◌, true, map, take}
 use Rattle.std.specs.Prelude.{codes}
 use Rattle.std.specs.List.{list_all}

@@ -37,7 +37,7 @@ loop-request-preserved g c =
       clean = λ clean. c.loop-request.invariant.clean (c.outcome_of.ensures.clean clean);
       so_far = record {
         said = below so_far.said (fronted line page);
-        shown = rw c.status_behind-ends.ensures (whole_more _ _ _ so_far.said (fronted line page) c.loop-request.ends c.tell-status.result so_far.shown
+        shown = rw c.combined_status-ends.ensures (whole_more _ _ _ so_far.said (fronted line page) c.loop-request.ends c.tell-status.result so_far.shown
             (shown_whole keep told.0 _ _ (fronted line page) c.tell-status.result told.1 goes));
         is = λ clean is_open s at.
             let so = so_far.is (c.outcome_of.ensures.clean clean) is_open s at in

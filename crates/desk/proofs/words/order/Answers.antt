@@ -60,11 +60,20 @@ returns-in-Err-BadOrigin-clause-err c = λ taken.
 pub returns-in-Err-BadDigest-clause-denies : goal.returns-in-Err-BadDigest-clause-denies
 returns-in-Err-BadDigest-clause-denies c = taken_is_right c.in-Ok.command (map (λ s. s.now) c.args.words.now) c.in-Ok.ensures.app c.in-Ok-try_get_matches_from.ensures.kinds
 
+pub returns-in-Err-TitleAlone-clause-denies : goal.returns-in-Err-TitleAlone-clause-denies
+returns-in-Err-TitleAlone-clause-denies c = taken_is_right c.in-Ok.command (map (λ s. s.now) c.args.words.now) c.in-Ok.ensures.app c.in-Ok-try_get_matches_from.ensures.kinds
+
 pub returns-in-Err-BadDigest-clause-err : goal.returns-in-Err-BadDigest-clause-err
 returns-in-Err-BadDigest-clause-err c = λ taken.
     let parse = c.in-Ok-try_get_matches_from in
     let same = matches_are_the_words c.in-Ok.command parse.matches (map (λ s. s.now) c.args.words.now) c.in-Ok.ensures.app parse.ensures.matches in
-    inr (inr (inr (refl, ap meaning (sym same) ∙ c.in-Err-BadDigest.ensures.bad_digest (ap Err c.in-Err-BadDigest.field-0-is))))
+    inr (inr (inr (inl (refl, ap meaning (sym same) ∙ c.in-Err-BadDigest.ensures.bad_digest (ap Err c.in-Err-BadDigest.field-0-is)))))
+
+pub returns-in-Err-TitleAlone-clause-err : goal.returns-in-Err-TitleAlone-clause-err
+returns-in-Err-TitleAlone-clause-err c = λ taken.
+    let parse = c.in-Ok-try_get_matches_from in
+    let same = matches_are_the_words c.in-Ok.command parse.matches (map (λ s. s.now) c.args.words.now) c.in-Ok.ensures.app parse.ensures.matches in
+    inr (inr (inr (inr (refl, ap meaning (sym same) ∙ c.in-Err-TitleAlone.ensures.title_alone (ap Err c.in-Err-TitleAlone.field-0-is)))))
 
 pub returns-clause-err : goal.returns-clause-err
 returns-clause-err c = λ taken.
@@ -83,6 +92,10 @@ returns-in-Err-BadOrigin-clause-version c =
 
 pub returns-in-Err-BadDigest-clause-version : goal.returns-in-Err-BadDigest-clause-version
 returns-in-Err-BadDigest-clause-version c =
+    λ asked. absurd (none_asked _ (taken_is_right c.in-Ok.command (map (λ s. s.now) c.args.words.now) c.in-Ok.ensures.app c.in-Ok-try_get_matches_from.ensures.kinds) asked)
+
+pub returns-in-Err-TitleAlone-clause-version : goal.returns-in-Err-TitleAlone-clause-version
+returns-in-Err-TitleAlone-clause-version c =
     λ asked. absurd (none_asked _ (taken_is_right c.in-Ok.command (map (λ s. s.now) c.args.words.now) c.in-Ok.ensures.app c.in-Ok-try_get_matches_from.ensures.kinds) asked)
 
 pub returns-clause-version : goal.returns-clause-version
@@ -105,3 +118,9 @@ returns-in-Err-BadDigest-clause-none c =
     let parse = c.in-Ok-try_get_matches_from in
     let same = matches_are_the_words c.in-Ok.command parse.matches (map (λ s. s.now) c.args.words.now) c.in-Ok.ensures.app parse.ensures.matches in
     ap meaning (sym same) ∙ c.in-Err-BadDigest.ensures.bad_digest (ap Err c.in-Err-BadDigest.field-0-is)
+
+pub returns-in-Err-TitleAlone-clause-none : goal.returns-in-Err-TitleAlone-clause-none
+returns-in-Err-TitleAlone-clause-none c =
+    let parse = c.in-Ok-try_get_matches_from in
+    let same = matches_are_the_words c.in-Ok.command parse.matches (map (λ s. s.now) c.args.words.now) c.in-Ok.ensures.app parse.ensures.matches in
+    ap meaning (sym same) ∙ c.in-Err-TitleAlone.ensures.title_alone (ap Err c.in-Err-TitleAlone.field-0-is)

@@ -1,4 +1,4 @@
--- What holds each time round the loop of `put_err_parts`, and what gets less.
+-- The invariant and the variant of the loop in `put_err_parts`.
 use Rattle.std.proofs.Common.{◌≡◌, ◌-◌, ◌≤◌, [], length, take}
 use Rattle.order_protocol.specs.Frames.{AreWhole, SaysMore}
 use Rattle.order_protocol.proofs.encoding.put_err_parts.Given as goal

@@ -1,4 +1,4 @@
--- What holds each time round the loop of `host_length`.
+-- The invariant of the loop in `host_length`.
 use Rattle.std.proofs.Common.{◌≡◌, ◌+◌, drop}
 use Rattle.std.specs.List.{prefix_len}
 use Rattle.origins.specs.Origins.{is_host_byte}

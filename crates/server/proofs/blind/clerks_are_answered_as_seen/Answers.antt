@@ -1,4 +1,4 @@
--- Why `clerks_are_answered_as_seen` keeps its promise.
+-- Proof that `clerks_are_answered_as_seen` meets its contract.
 use Rattle.sqlite.specs.Held.{state}
 use Rattle.register.specs.Machine.{after}
 use Rattle.register.specs.Offices.{empty_office}

@@ -1,4 +1,4 @@
--- Why `servers_answer_as_seen` keeps its promise.
+-- Proof that `servers_answer_as_seen` meets its contract.
 use Rattle.server.proofs.blind.servers_answer_as_seen.Goals as goal
 
 pub returns : goal.returns

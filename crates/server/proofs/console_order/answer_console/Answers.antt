@@ -1,4 +1,4 @@
--- Why `answer_console` keeps its promise.
+-- Proof that `answer_console` meets its contract.
 use Rattle.std.proofs.Common.{◌∙◌, Bor, List, [], ap, inl, inr, map, refl, subst, ℕ}
 use Rattle.tables.specs.declared.fault.Fault.TheVariants.{Memory}
 use Rattle.order_protocol.specs.Messages.{message_part_entries}
@@ -10,7 +10,7 @@ use Rattle.server.specs.declared.served_order.ServedOrder.TheVariants as asked
 use Rattle.server.proofs.console_order.answer_console.Goals as goal
 
 pub returns-in-Err : goal.returns-in-Err
-returns-in-Err g c = record { files = []; asked = asked.Refused (Office Memory); is = inr (refl, refl); tells = c.follow_none.ensures }
+returns-in-Err g c = record { files = []; asked = asked.Refused (Office Memory); is = inr (refl, refl); tells = c.reject_out_of_memory.ensures }
 
 pub returns : goal.returns
 returns g c =

@@ -1,4 +1,4 @@
--- Why `follow_asked` keeps its promise.
+-- Proof that `follow_asked` meets its contract.
 use Rattle.std.proofs.Common.{◌∙◌, Some, ap, sym}
 use Rattle.sqlite.specs.Held.{state}
 use Rattle.order_protocol.specs.Messages.{message_part_entries}

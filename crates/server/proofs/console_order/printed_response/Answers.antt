@@ -1,4 +1,4 @@
--- Why `printed_response` keeps its promise.
+-- Proof that `printed_response` meets its contract.
 use Rattle.server.proofs.ConsoleLemmas.{told_failed, told_printed}
 use Rattle.server.proofs.console_order.printed_response.Goals as goal
 

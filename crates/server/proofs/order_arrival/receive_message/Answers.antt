@@ -1,4 +1,4 @@
--- Why `receive_message` keeps its promise.
+-- Proof that `receive_message` meets its contract.
 use Rattle.connections.specs.Streams.{stream_of}
 use Rattle.connections.proofs.StreamLemmas.{gathers_then}
 use Rattle.server.proofs.order_arrival.receive_message.Goals as goal

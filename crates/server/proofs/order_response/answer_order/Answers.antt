@@ -1,4 +1,4 @@
--- Why `answer_order` keeps its promise.
+-- Proof that `answer_order` meets its contract.
 use Rattle.std.proofs.Common.{◌-◌, ◌∙◌, arith, drop, length, refl, sym, take}
 use Rattle.std.proofs.lemmas.List.{length-drop, take_all}
 use Rattle.sqlite.specs.Held.{state}

@@ -1,4 +1,4 @@
--- Why `copy_for_order` keeps its promise.
+-- Proof that `copy_for_order` meets its contract.
 use Rattle.std.proofs.Common.{inl, inr, refl}
 use Rattle.desk.specs.Pages.{failed}
 use Rattle.desk.specs.declared.lines.Failure.TheVariants.{CopyFailed}

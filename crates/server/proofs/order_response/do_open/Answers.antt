@@ -1,4 +1,4 @@
--- Why `do_open` keeps its promise.
+-- Proof that `do_open` meets its contract.
 use Rattle.std.proofs.Common.{refl}
 use Rattle.desk.specs.Pages.{failed}
 use Rattle.desk.proofs.PageLemmas.{error_shown}

@@ -1,4 +1,4 @@
--- Why `print_closed` keeps its promise.
+-- Proof that `print_closed` meets its contract.
 use Rattle.std.proofs.Common.{refl}
 use Rattle.desk.specs.Pages.{closed_page, failed}
 use Rattle.desk.proofs.PageLemmas.{error_shown}

@@ -1,4 +1,4 @@
--- Why `respond_to_asked` keeps its promise.
+-- Proof that `respond_to_asked` meets its contract.
 use Rattle.std.proofs.Common.{◌∙◌, Some, ap, sym}
 use Rattle.sqlite.specs.Held.{state}
 use Rattle.connections.specs.Streams.{stream_of}

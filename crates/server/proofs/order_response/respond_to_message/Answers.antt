@@ -1,4 +1,4 @@
--- Why `respond_to_message` keeps its promise.
+-- Proof that `respond_to_message` meets its contract.
 use Rattle.std.proofs.Common.{List, refl, subst, sym, ℕ}
 use Rattle.sqlite.specs.Held.{state}
 use Rattle.tables.specs.declared.fault.Fault.TheVariants.{Store}

@@ -1,4 +1,4 @@
--- Why `words_of` keeps its promise.
+-- Proof that `words_of` meets its contract.
 use Rattle.std.proofs.Common.{inr, refl}
 use Rattle.std.proofs.lemmas.Str.{IsUtf8-from_is_utf8}
 use Rattle.server.proofs.WordLemmas.{word_bad}

@@ -1,4 +1,4 @@
--- Why `answer_client` keeps its promise.
+-- Proof that `answer_client` meets its contract.
 use Rattle.std.proofs.Common.{◌∙◌, ap, inl, inr, option_map, refl, sym}
 use Rattle.sqlite.specs.Held.{state}
 use Rattle.connections.specs.declared.client.Listener.TheVariants.{Clients}
@@ -39,6 +39,6 @@ returns-clause-meets g c = λ number.
       free = sym {b = must_wait authentication c.args.due.moment (limit_entry c.args.kept.now.limit)} c.must_wait.ensures ∙ c.if-must_wait.false;
       serves = noted_asked (settings_in g.A.ServedFile.whole c.args.server_settings) (state g.S.Store) (served_office c.args.office.now (memory_entry c.args.kept.now)) exchange answered.new.office
           (memory_entry answered.new.kept)
-          (memory_entry c.note.new.self) c.note.ensures.reads (answered.ensures.served number c.args.due.moment);
-      noted = c.note.ensures.limit ∙ ap (limit_after authentication c.args.due.moment) answered.ensures.limit;
+          (memory_entry c.count_if_wrong.new.self) c.count_if_wrong.ensures.reads (answered.ensures.served number c.args.due.moment);
+      noted = c.count_if_wrong.ensures.limit ∙ ap (limit_after authentication c.args.due.moment) answered.ensures.limit;
     })

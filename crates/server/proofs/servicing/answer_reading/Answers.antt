@@ -1,4 +1,4 @@
--- Why `answer_reading` keeps its promise.
+-- Proof that `answer_reading` meets its contract.
 use Rattle.std.proofs.Common.{refl}
 use Rattle.sqlite.specs.Held.{state}
 use Rattle.codes.specs.RateLimits.{limit_entry}
@@ -19,10 +19,10 @@ returns-clause-served g c = λ its number moment got asks.
     let later : MemoryEntry = record { reads = reads_in c.keep.new.self; limit = limit_entry c.args.kept.now.limit } in
     served_anew its (state g.S.Store) c.args.office.now did.new.office kept later number moment got (reading c.args.what) did.result.0.items asks did.ensures.answers
     (keeps_more its (state g.S.Store) c.args.office.now did.new.office kept later got c.args.what did.result.0.items c.as_slice.result.now c.as_slice.ensures.value asks
-    (λ clean is_open s at. did.ensures.read (cc c.if-not-is_told.false) clean is_open s at c.args.what refl) (did.ensures.only tt) c.keep.ensures)
+    (λ clean is_open s at. did.ensures.read (cc c.if-not-is_cacheable.false) clean is_open s at c.args.what refl) (did.ensures.only tt) c.keep.ensures)
 
-pub returns-then-not-is_told-clause-served : goal.returns-then-not-is_told-clause-served
-returns-then-not-is_told-clause-served g c = λ its number moment got asks.
+pub returns-then-not-is_cacheable-clause-served : goal.returns-then-not-is_cacheable-clause-served
+returns-then-not-is_cacheable-clause-served g c = λ its number moment got asks.
     let kept = memory_entry c.args.kept.now in
     let did = c.response_to-bytes in
     served_anew its (state g.S.Store) c.args.office.now did.new.office kept kept number moment got (reading c.args.what) did.result.0.items asks did.ensures.answers

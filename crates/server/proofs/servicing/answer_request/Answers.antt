@@ -1,4 +1,4 @@
--- Why `answer_request` keeps its promise.
+-- Proof that `answer_request` meets its contract.
 use Rattle.std.proofs.Common.{inl, inr, refl, subst}
 use Rattle.sqlite.specs.Held.{state}
 use Rattle.codes.specs.RateLimits.{limit_entry}
@@ -54,13 +54,13 @@ returns-in-Denied-clause-served g c = λ number moment.
           (keeps_same its (state g.S.Store) c.args.office.now did.new.office kept c.args.got.now asked asks tt (did.ensures.only tt)),
     )
 
-pub returns-in-Shown-clause-served : goal.returns-in-Shown-clause-served
-returns-in-Shown-clause-served g c = λ number moment.
+pub returns-in-ClerkPage-clause-served : goal.returns-in-ClerkPage-clause-served
+returns-in-ClerkPage-clause-served g c = λ number moment.
     let its = settings_entry c.args.server_settings.http in
-    let did = c.response_to-bytes-in-Shown in
+    let did = c.response_to-bytes-in-ClerkPage in
     let kept = memory_entry c.args.kept.now in
-    let asked = http_request_entry (variant.Shown c.in-Shown.clerk c.in-Shown.show) in
-    let asks = subst (λ (a : HttpRequest). Asks its c.args.got.now (http_request_entry a)) c.in-Shown.is (c.in-Ok.ensures c.requires) in
+    let asked = http_request_entry (variant.ClerkPage c.in-ClerkPage.clerk c.in-ClerkPage.show) in
+    let asks = subst (λ (a : HttpRequest). Asks its c.args.got.now (http_request_entry a)) c.in-ClerkPage.is (c.in-Ok.ensures c.requires) in
     inl (
       asks_no_order its c.args.got.now asked asks refl,
       served_anew its (state g.S.Store) c.args.office.now did.new.office kept kept number moment c.args.got.now asked did.result.0.items asks did.ensures.answers
@@ -74,6 +74,19 @@ returns-in-ConsolePage-clause-served g c = λ number moment.
     let kept = memory_entry c.args.kept.now in
     let asked = http_request_entry (variant.ConsolePage c.in-ConsolePage.show) in
     let asks = subst (λ (a : HttpRequest). Asks its c.args.got.now (http_request_entry a)) c.in-ConsolePage.is (c.in-Ok.ensures c.requires) in
+    inl (
+      asks_no_order its c.args.got.now asked asks refl,
+      served_anew its (state g.S.Store) c.args.office.now did.new.office kept kept number moment c.args.got.now asked did.result.0.items asks did.ensures.answers
+          (keeps_same its (state g.S.Store) c.args.office.now did.new.office kept c.args.got.now asked asks tt (did.ensures.only tt)),
+    )
+
+pub returns-in-Public-clause-served : goal.returns-in-Public-clause-served
+returns-in-Public-clause-served g c = λ number moment.
+    let its = settings_entry c.args.server_settings.http in
+    let did = c.response_to-bytes-in-Public in
+    let kept = memory_entry c.args.kept.now in
+    let asked = http_request_entry (variant.Public c.in-Public.shown c.in-Public.what) in
+    let asks = subst (λ (a : HttpRequest). Asks its c.args.got.now (http_request_entry a)) c.in-Public.is (c.in-Ok.ensures c.requires) in
     inl (
       asks_no_order its c.args.got.now asked asks refl,
       served_anew its (state g.S.Store) c.args.office.now did.new.office kept kept number moment c.args.got.now asked did.result.0.items asks did.ensures.answers

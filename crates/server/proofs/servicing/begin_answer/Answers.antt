@@ -1,4 +1,4 @@
--- Why `begin_answer` keeps its promise.
+-- Proof that `begin_answer` meets its contract.
 use Rattle.std.proofs.Common.{◌∙◌}
 use Rattle.server.proofs.servicing.begin_answer.Goals as goal
 

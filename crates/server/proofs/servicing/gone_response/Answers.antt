@@ -1,4 +1,4 @@
--- Why `gone_response` keeps its promise.
+-- Proof that `gone_response` meets its contract.
 use Rattle.std.proofs.Common.{◌∙◌}
 use Rattle.connections.specs.Clients.{written_in}
 use Rattle.server.proofs.ServicingLemmas.{told_gone}

@@ -1,4 +1,4 @@
--- Why `is_without_file` keeps its promise.
+-- Proof that `is_without_file` meets its contract.
 use Rattle.std.proofs.Common.{◌∙◌, sym}
 use Rattle.server.proofs.ServicingLemmas.{known_gone, untrue}
 use Rattle.server.proofs.servicing.is_without_file.Goals as goal

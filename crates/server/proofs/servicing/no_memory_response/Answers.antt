@@ -1,4 +1,4 @@
--- Why `no_memory_response` keeps its promise.
+-- Proof that `no_memory_response` meets its contract.
 use Rattle.connections.specs.Clients.{written_in}
 use Rattle.server.proofs.ServicingLemmas.{told_first}
 use Rattle.server.proofs.servicing.no_memory_response.Goals as goal

@@ -1,4 +1,4 @@
--- Why `receive_body` keeps its promise.
+-- Proof that `receive_body` meets its contract.
 use Rattle.std.proofs.Common.{Ok, ap, length}
 use Rattle.connections.specs.Streams.{stream_of}
 use Rattle.server.proofs.ServicingLemmas.{come_ended, come_whole, parsed_on}

@@ -1,4 +1,4 @@
--- Why `receive_request` keeps its promise.
+-- Proof that `receive_request` meets its contract.
 use Rattle.std.proofs.Common.{List, Ok, ap, length, subst, ℕ}
 use Rattle.wire.specs.Gates.{settings_entry}
 use Rattle.wire.specs.Parsing.{IsParsed}

@@ -1,4 +1,4 @@
--- Why `response_to` keeps its promise.
+-- Proof that `response_to` meets its contract.
 use Rattle.sqlite.specs.Held.{state}
 use Rattle.connections.specs.Clients.{written_in}
 use Rattle.wire.specs.Requests.{http_request_entry}
@@ -15,7 +15,7 @@ pub returns-clause-read : goal.returns-clause-read
 returns-clause-read g c = λ told.
     let did = c.respond-served in
     call_read (state g.S.Store) c.args.office.now did.new.office (http_request_entry c.args.asked) (written_in c.new-writer.result) (written_in did.new.writer) c.into_bytes.result.items did.result
-    c.new-writer.ensures.bytes c.into_bytes.ensures (c.tells_no_fault-is_told.ensures told) did.ensures.served
+    c.new-writer.ensures.bytes c.into_bytes.ensures (c.may_be_cached-is_cacheable.ensures told) did.ensures.served
 
 pub returns-clause-only : goal.returns-clause-only
 returns-clause-only g c = λ still.

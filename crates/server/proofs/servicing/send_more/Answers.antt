@@ -1,4 +1,4 @@
--- Why `send_more` keeps its promise.
+-- Proof that `send_more` meets its contract.
 use Rattle.connections.specs.Streams.{stream_of}
 use Rattle.server.proofs.ServicingLemmas.{told_on}
 use Rattle.server.proofs.servicing.send_more.Goals as goal

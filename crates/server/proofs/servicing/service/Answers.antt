@@ -1,4 +1,4 @@
--- Why `service` keeps its promise.
+-- Proof that `service` meets its contract.
 use Rattle.std.proofs.Common.{◌∙◌, Err, List, [], Option, ap, refl, subst, sym, ℕ}
 use Rattle.sqlite.specs.Held.{state}
 use Rattle.connections.specs.Streams.{HasTaken, stream_of}
@@ -11,7 +11,7 @@ use Rattle.server.specs.Settings.{settings_in}
 use Rattle.server.specs.Servicing.{HasComeAt}
 use Rattle.server.specs.Exchanges.{RespondsToClient}
 use Rattle.server.proofs.AnswerLemmas.{told_zero}
-use Rattle.server.proofs.ServicingLemmas.{attends_none, attends_turn, ends_lost, has_turn, left_as, none_from}
+use Rattle.server.proofs.ServicingLemmas.{attends_none, attends_turn, ends_lost, has_turn, heard_on, left_as, none_from, of_heard}
 use Rattle.server.proofs.servicing.service.Goals as goal
 
 -- it has its response already, and gets more of it
@@ -69,6 +69,21 @@ returns-in-Ok-Some-clause-turn g c =
           (answered.ensures.meets mid.number),
       c.begin_answer.ensures.belongs,
     ))
+
+-- nothing is complete yet, or the client is gone: it was read
+pub returns-in-Ok-None-clause-is : goal.returns-in-Ok-None-clause-is
+returns-in-Ok-None-clause-is g c = λ start own.
+    let received = c.in-Ok-None.ensures in
+    of_heard (stream_of g.L.Stream.held g.L.Stream.taken g.L.Stream.failed) start c.receive_request.new.client received.same.1
+    (heard_on (stream_of g.L.Stream.held g.L.Stream.taken g.L.Stream.failed) start c.args.client c.receive_request.new.client
+    (none_from c.args.client.answer (sym c.is_some.ensures ∙ c.if-is_some.false)) received.receives own)
+
+pub returns-in-Err-clause-is : goal.returns-in-Err-clause-is
+returns-in-Err-clause-is g c = λ start own.
+    let received = c.receive_request.ensures in
+    of_heard (stream_of g.L.Stream.held g.L.Stream.taken g.L.Stream.failed) start c.receive_request.new.client received.same.1
+    (heard_on (stream_of g.L.Stream.held g.L.Stream.taken g.L.Stream.failed) start c.args.client c.receive_request.new.client
+    (none_from c.args.client.answer (sym c.is_some.ensures ∙ c.if-is_some.false)) received.receives own)
 
 pub returns-in-Err-clause-leaves : goal.returns-in-Err-clause-leaves
 returns-in-Err-clause-leaves g c = λ why is.

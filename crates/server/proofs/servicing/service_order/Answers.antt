@@ -1,10 +1,10 @@
--- Why `service_order` keeps its promise.
+-- Proof that `service_order` meets its contract.
 use Rattle.std.proofs.Common.{◌∙◌, Err, List, Ok, Option, [], ap, refl, subst, sym, ℕ}
 use Rattle.sqlite.specs.Held.{state}
 use Rattle.connections.specs.Streams.{HasTaken, stream_of}
 use Rattle.connections.specs.declared.client.Listener.{Listener}
 use Rattle.connections.specs.declared.client.Listener.TheVariants.{Orders}
-use Rattle.server.specs.ServedOrders.{FollowsOrder, HasCameWhole}
+use Rattle.server.specs.ServedOrders.{FollowsOrder, IsWholeMessage}
 use Rattle.codes.specs.RateLimits.{limit_entry}
 use Rattle.server.specs.Reads.{served_office, memory_entry, reads_in}
 use Rattle.server.specs.Settings.{settings_in}
@@ -15,7 +15,7 @@ use Rattle.server.proofs.servicing.service_order.Goals as goal
 -- its message arrived completely
 pub answer_order-stream-requires-clause-whole : goal.answer_order-stream-requires-clause-whole
 answer_order-stream-requires-clause-whole g c =
-    subst HasCameWhole (sym c.as_slice.ensures.value) (c.receive_message.ensures.come (c.in-Ok-true.is ∙ ap Ok c.in-Ok-true.field-0-test))
+    subst IsWholeMessage (sym c.as_slice.ensures.value) (c.receive_message.ensures.come (c.in-Ok-true.is ∙ ap Ok c.in-Ok-true.field-0-test))
 
 pub answer_order-stream-requires-clause-fresh : goal.answer_order-stream-requires-clause-fresh
 answer_order-stream-requires-clause-fresh g c = subst (λ (t : Option (List ℕ)). HasTaken t []) (sym c.receive_message.ensures.receives.untold) c.requires.fresh

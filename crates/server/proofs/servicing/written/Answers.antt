@@ -1,4 +1,4 @@
--- Why `written` keeps its promise.
+-- Proof that `written` meets its contract.
 use Rattle.connections.specs.Clients.{written_in}
 use Rattle.server.proofs.AnswerLemmas.{put_first}
 use Rattle.server.proofs.servicing.written.Goals as goal

@@ -1,4 +1,4 @@
--- Why `accept_pending` keeps its promise.
+-- Proof that `accept_pending` meets its contract.
 use Rattle.std.proofs.Common.{◌∙◌, [], Some, refl}
 use Rattle.connections.specs.Streams.{stream_of}
 use Rattle.connections.proofs.TraceLemmas.{trace_none, trace_then}

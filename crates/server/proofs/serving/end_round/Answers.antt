@@ -1,4 +1,4 @@
--- Why `end_round` keeps its promise.
+-- Proof that `end_round` meets its contract.
 use Rattle.std.proofs.Common.{Some}
 use Rattle.connections.specs.Closing.{IsClosedByRule, timeout_rule}
 use Rattle.connections.specs.Streams.{stream_of}

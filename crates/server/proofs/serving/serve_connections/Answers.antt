@@ -1,4 +1,4 @@
--- Why `serve_connections` keeps its promise.
+-- Proof that `serve_connections` meets its contract.
 use Rattle.sqlite.specs.Held.{state}
 use Rattle.connections.specs.Streams.{stream_of}
 use Rattle.server.specs.Reads.{served_office, memory_entry}

@@ -1,4 +1,4 @@
--- Why `serve_rounds` keeps its promise.
+-- Proof that `serve_rounds` meets its contract.
 use Rattle.std.proofs.Common.{◌∙◌, Bool, Ok, ap, arith, is_some, refl, subst}
 use Rattle.sqlite.specs.Held.{state}
 use Rattle.connections.specs.Streams.{one_more, stream_of}

@@ -1,17 +1,17 @@
--- What holds each time round the loop of `serve_rounds`.
+-- The loop invariant of `serve_rounds`.
 use Rattle.std.proofs.Common.{◌≡◌, ◌≤◌, ◌+◌, option_map}
 use Rattle.sqlite.specs.Held.{state}
 use Rattle.connections.specs.Closing.{IsWithin}
 use Rattle.connections.specs.Streams.{stream_of}
-use Rattle.server.specs.Servers.{ServesOn}
+use Rattle.server.specs.Servers.{ServesFrom}
 use Rattle.server.specs.Reads.{served_office, memory_entry}
 use Rattle.server.specs.Settings.{settings_in}
 use Rattle.server.proofs.serving.serve_rounds.Given as goal
 
--- so many rounds were gone through, a wait in each, and no call failed
+-- the given number of rounds have been completed, with one wait in each, and no call has failed
 abbrev pub invariant-loop-round : goal.invariant-loop-round
 invariant-loop-round g l = record {
-  goes_on : ServesOn (settings_in g.A.ServedFile.whole l.serving.server_settings) (stream_of g.D.Stream.Stream.held g.D.Stream.Stream.taken g.D.Stream.Stream.failed)
+  goes_on : ServesFrom (settings_in g.A.ServedFile.whole l.serving.server_settings) (stream_of g.D.Stream.Stream.held g.D.Stream.Stream.taken g.D.Stream.Stream.failed)
       (state g.S.Store) (g.D.Network.known l.fn.network) (g.D.Network.known l.network) l.fn.table l.table (served_office l.fn.office (memory_entry l.fn.kept))
       (served_office l.office (memory_entry l.kept));
   few : l.fn.table.counted ≤ l.serving.most → l.table.counted ≤ l.serving.most;

@@ -1,4 +1,4 @@
--- Why `service_ready` keeps its promise.
+-- Proof that `service_ready` meets its contract.
 use Rattle.std.proofs.Common.{◌<◌, ◌∙◌, List, Option, ap, is_some, length, map, refl, subst, sym, ℕ}
 use Rattle.std.specs.Prelude.{Err, Result}
 use Rattle.sqlite.specs.Held.{state}

@@ -1,17 +1,17 @@
--- What holds each time round the loop of `service_ready`.
+-- The loop invariant of `service_ready`.
 use Rattle.std.proofs.Common.{◌≡◌}
 use Rattle.sqlite.specs.Held.{state}
 use Rattle.connections.specs.Closing.{IsWithin}
 use Rattle.connections.specs.Streams.{stream_of}
-use Rattle.server.specs.Servers.{ServesOn, IsUnfailed}
+use Rattle.server.specs.Servers.{ServesFrom, IsUnfailed}
 use Rattle.server.specs.Reads.{served_office, memory_entry}
 use Rattle.server.specs.Settings.{settings_in}
 use Rattle.server.proofs.serving.service_ready.Given as goal
 
--- some were serviced so far
+-- connections have been serviced so far
 abbrev pub invariant-loop : goal.invariant-loop
 invariant-loop g l = record {
-  goes_on : ServesOn (settings_in g.A.ServedFile.whole l.server_settings) (stream_of g.D.Stream.Stream.held g.D.Stream.Stream.taken g.D.Stream.Stream.failed)
+  goes_on : ServesFrom (settings_in g.A.ServedFile.whole l.server_settings) (stream_of g.D.Stream.Stream.held g.D.Stream.Stream.taken g.D.Stream.Stream.failed)
       (state g.S.Store) (g.D.Network.known l.fn.network) (g.D.Network.known l.network) l.fn.table l.table (served_office l.fn.office (memory_entry l.fn.kept))
       (served_office l.office (memory_entry l.kept));
   came : l.table.came ≡ l.fn.table.came;

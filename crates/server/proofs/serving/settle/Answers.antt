@@ -1,4 +1,4 @@
--- Why `settle` keeps its promise.
+-- Proof that `settle` meets its contract.
 use Rattle.std.proofs.Common.{◌∙◌, Option, ap, refl, subst, sym}
 use Rattle.connections.specs.Closing.{IsClosedForBytes}
 use Rattle.connections.specs.Tables.{with_removed}

@@ -10,7 +10,7 @@ returns g c =
     let old = state g.S.Store c.args.conn.now in
     let new = state g.S.Store c.open_or_migrate.new.conn in
     let e = c.open_or_migrate.ensures in
-    let law = c.older_tables_tell_states.ensures in
+    let law = c.older_tables_determine_states.ensures in
     record {
       moved = λ clean form s older. moved_from r old new form s older (e.opened clean);
       stops = λ clean form s older. stops_from r old new form s older (λ trees is_open may. g.met.S.Store.settled c.args.conn.now.store trees is_open may) (e.leaves clean);

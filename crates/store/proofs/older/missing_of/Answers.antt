@@ -12,5 +12,6 @@ returns-then-are_about_thirds-clause-none c =
 pub returns-in-Ok-Some-clause-some : goal.returns-in-Ok-Some-clause-some
 returns-in-Ok-Some-clause-some c =
     let unasked : c.are_about_thirds.result ≡ false = search rules in
-    if_lacking c.lacking.result c.args.rows.now c.args.form (tabulation_entries c.in-Ok-Some.counted) (sym (rw c.deref.ensures.value at c.are_about_thirds.ensures) ∙ unasked) c.requires.bare
-    (rw c.in-Ok-Some.field-0-is at c.in-Ok-Some.ensures.some) c.lacking.ensures.some
+    if_lacking c.missing_tabulation.result c.args.rows.now c.args.form (tabulation_entries c.in-Ok-Some.counted)
+    (sym (rw c.deref.ensures.value at c.are_about_thirds.ensures) ∙ unasked) c.requires.bare
+    (rw c.in-Ok-Some.field-0-is at c.in-Ok-Some.ensures.some) c.missing_tabulation.ensures.some

@@ -2,7 +2,7 @@
 use Rattle.std.proofs.Common.{subst}
 use Rattle.std.proofs.lemmas.Result.{err_from_is_err_and}
 use Rattle.store.specs.EntryRows.{this_version}
-use Rattle.store.specs.Openings.{TellsRows}
+use Rattle.store.specs.Openings.{FaultOfRows}
 use Rattle.store.proofs.TellLemmas.{never_older, store_office, version_held, office_told}
 use Rattle.store.proofs.opening.check_office.Goals as goal
 
@@ -29,7 +29,7 @@ returns-in_err-rows-clause-fails g c clean db has rests =
 pub returns-in_err-check_rows-clause-fails : goal.returns-in_err-check_rows-clause-fails
 returns-in_err-check_rows-clause-fails g c clean db has rests =
     let p = err_from_is_err_and c.from_residual-in_err-check_rows.result c.from_residual-in_err-check_rows.ensures.1 in
-    rw (p.1, p.2) (λ store. absurd (subst (TellsRows c.deref.result.now) store c.in_err-check_rows.ensures.told))
+    rw (p.1, p.2) (λ store. absurd (subst (FaultOfRows c.deref.result.now) store c.in_err-check_rows.ensures.told))
 
 pub returns-in_err-rows-clause-older : goal.returns-in_err-rows-clause-older
 returns-in_err-rows-clause-older g c clean db has rests =

@@ -1,4 +1,4 @@
--- Of the proof of `put_all`: what holds at each round of its loop, and what gets less.
+-- The invariant and the variant of the loop in `put_all`.
 use Rattle.std.proofs.Common.{◌≡◌, ◌-◌, ◌≤◌, length, take}
 use Rattle.std.specs.Io.KnownBytes.{Appends}
 use Rattle.streams.proofs.streams.put_all.Given as goal

@@ -4,7 +4,7 @@ use Rattle.std.proofs.lemmas.Result.{err_from_is_err_and}
 use Rattle.sqlite.specs.Held.{state}
 use Rattle.tables.proofs.ReadLemmas.{only_reads_then}
 use Rattle.tables.proofs.CauseLemmas.{failed_by, if_fails_to_list, lists_later}
-use Rattle.tables.proofs.FaultLemmas.{query_cause, sorted_cause, if_listed_keyed, if_sorted_cause}
+use Rattle.tables.proofs.FaultLemmas.{query_cause, if_listed_keyed}
 use Rattle.tables.proofs.listing.keyed_rows.Goals as goal
 
 pub returns-then-not-changes_rows-clause-lists : goal.returns-then-not-changes_rows-clause-lists
@@ -13,7 +13,7 @@ returns-then-not-changes_rows-clause-lists g c clean db begins rests =
     (c.all_rows.ensures.lists clean db begins rests)
 
 pub returns-then-not-changes_rows-clause-cause : goal.returns-then-not-changes_rows-clause-cause
-returns-then-not-changes_rows-clause-cause g c clean db begins rests = if_sorted_cause _ _ _ _ c.all_rows.result c.all_rows.ensures.cause
+returns-then-not-changes_rows-clause-cause g c clean db begins rests = c.all_rows.ensures.cause
 
 pub returns-clause-lists : goal.returns-clause-lists
 returns-clause-lists g c clean db begins rests =
@@ -38,7 +38,7 @@ returns-in_err-check_rowids-clause-cause g c clean db begins rests =
 pub returns-in_err-rows-clause-cause : goal.returns-in_err-rows-clause-cause
 returns-in_err-rows-clause-cause g c clean db begins rests =
     let p = err_from_is_err_and c.from_residual-in_err-rows.result c.from_residual-in_err-rows.ensures.1 in
-    rw (p.1, p.2) (sorted_cause _ _ _ _ _ c.in_err-rows.ensures.cause)
+    rw (p.1, p.2) c.in_err-rows.ensures.cause
 
 pub returns-then-not-changes_rows-clause-fails : goal.returns-then-not-changes_rows-clause-fails
 returns-then-not-changes_rows-clause-fails g c clean db begins rests =

@@ -1,5 +1,4 @@
 -- Proof that `all_rows` meets its contract.
-use Rattle.std.proofs.Common.{inr}
 use Rattle.std.proofs.lemmas.Result.{err_from_is_err_and}
 use Rattle.tables.proofs.ListingLemmas.{in_order_listed}
 use Rattle.tables.proofs.reading.all_rows.Goals as goal
@@ -12,7 +11,7 @@ returns-in-Ok-clause-lists g c clean db begins rests =
 pub returns-in_err-rows-clause-cause : goal.returns-in_err-rows-clause-cause
 returns-in_err-rows-clause-cause g c =
     let p = err_from_is_err_and c.from_residual.result c.from_residual.ensures.1 in
-    rw (p.1, p.2) (inr c.in_err-rows.ensures.cause)
+    rw (p.1, p.2) c.in_err-rows.ensures.cause
 
 pub returns-in_err-rows-clause-fails : goal.returns-in_err-rows-clause-fails
 returns-in_err-rows-clause-fails g c clean db begins rests =

@@ -1,4 +1,4 @@
--- Why `answer_keying` keeps its promise.
+-- Proof that `answer_keying` meets its contract.
 use Rattle.std.proofs.Common.{refl}
 use Rattle.register.specs.declared.command.Command.TheVariants as command
 use Rattle.register.specs.declared.command.Request.{Request}

@@ -1,4 +1,4 @@
--- Why `answered` keeps its promise.
+-- Proof that `answered` meets its contract.
 use Rattle.std.proofs.Common.{◌∙◌, ap, subst, sym}
 use Rattle.office.specs.Answers.{told}
 use Rattle.wire.specs.Responses.{reply_response}

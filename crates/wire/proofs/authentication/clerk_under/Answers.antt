@@ -1,4 +1,4 @@
--- Why `clerk_under` keeps its promise.
+-- Proof that `clerk_under` meets its contract.
 use Rattle.std.proofs.Common.{◌-◌, drop, length, take}
 use Rattle.wire.proofs.AuthenticationLemmas.{digits-text}
 use Rattle.wire.proofs.authentication.clerk_under.Goals as goal

@@ -1,4 +1,4 @@
--- Why `fill` keeps its promise.
+-- Proof that `fill` meets its contract.
 use Rattle.std.proofs.Common.{rules}
 use Rattle.wire.proofs.HeadLemmas.{Consumes-more}
 use Rattle.wire.proofs.BodyLemmas.{HasRead-few}

@@ -1,4 +1,4 @@
--- What holds each time round the loop of `fill`, and what gets less.
+-- The loop invariant and the measure of `fill`.
 use Rattle.std.proofs.Common.{◌≡◌, ◌≤◌, ◌-◌, length, take}
 use Rattle.std.specs.Io.KnownBytes.{Consumes}
 use Rattle.wire.proofs.body.fill.Given as goal

@@ -1,4 +1,4 @@
--- Why `json_in` keeps its promise.
+-- Proof that `json_in` meets its contract.
 use Rattle.wire.proofs.TextLemmas.{json_in-none, json_in-some}
 use Rattle.wire.proofs.body.json_in.Goals as goal
 

@@ -1,4 +1,4 @@
--- Why `read_body` keeps its promise.
+-- Proof that `read_body` meets its contract.
 use Rattle.std.proofs.Common.{rules, ◌≡◌, ◌∙◌, ◌≤◌, ◌+◌, length, take, ap, sym}
 use Rattle.std.proofs.lemmas.List.{length-take-le}
 use Rattle.wire.proofs.BodyLemmas.{back_filled, body_in-cut, body_in-whole, one_of_min}

@@ -1,4 +1,4 @@
--- Why `texts_in` keeps its promise.
+-- Proof that `texts_in` meets its contract.
 use Rattle.std.proofs.Common.{rules, [], map, subst, sym}
 use Rattle.std.specs.Prelude.{string_bytes}
 use Rattle.std.proofs.lemmas.Iterator.Adapters.{YieldsList-from_vec}

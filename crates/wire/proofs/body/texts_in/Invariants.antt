@@ -1,4 +1,4 @@
--- What holds each time round the loop of `texts_in`.
+-- The loop invariant of `texts_in`.
 use Rattle.std.proofs.Common.{map}
 use Rattle.std.specs.Prelude.{string_bytes}
 use Rattle.serde_json.specs.View.{view}

@@ -1,4 +1,4 @@
--- What holds each time round the loop of `files_of`, and what gets less.
+-- The loop invariant and the measure of `files_of`.
 use Rattle.std.proofs.Common.{map, length}
 use Rattle.serde_json.specs.View.{members_view}
 use Rattle.wire.specs.ConsoleOrders.{console_file_entry}

@@ -1,4 +1,4 @@
--- Why `capped_value` keeps its promise.
+-- Proof that `capped_value` meets its contract.
 use Rattle.std.proofs.Common.{◌<◌, length, refl, arith}
 use Rattle.wire.proofs.DigitLemmas.{value_more}
 use Rattle.wire.proofs.digits.capped_value.Goals as goal

@@ -1,4 +1,4 @@
--- What holds each time round the loop of `capped_value`.
+-- The loop invariant of `capped_value`.
 use Rattle.std.proofs.Common.{◌≡◌, min, take}
 use Rattle.std.specs.Str.Parse.{digits_value}
 use Rattle.wire.proofs.digits.capped_value.Given as goal

@@ -1,4 +1,4 @@
--- What holds each time round the loop of `digits_length`.
+-- The loop invariant of `digits_length`.
 use Rattle.std.proofs.Common.{◌≡◌, ◌+◌, drop}
 use Rattle.std.specs.Char.{is_ascii_digit}
 use Rattle.std.specs.List.{prefix_len}

@@ -1,4 +1,4 @@
--- Why `number_in` keeps its promise.
+-- Proof that `number_in` meets its contract.
 use Rattle.std.proofs.Common.{◌∙◌, ap, sym}
 use Rattle.std.specs.Prelude.{slice_get, unwrap_or}
 use Rattle.wire.proofs.DigitLemmas.{number_read}

@@ -1,4 +1,4 @@
--- Why `number_of` keeps its promise.
+-- Proof that `number_of` meets its contract.
 use Rattle.std.proofs.Common.{sym}
 use Rattle.wire.proofs.DigitLemmas.{digits-utf8}
 use Rattle.wire.proofs.digits.number_of.Goals as goal

@@ -1,4 +1,4 @@
--- Why `read_head` keeps its promise.
+-- Proof that `read_head` meets its contract.
 use Rattle.std.proofs.Common.{rules, ◌≡◌, length, take, arith}
 use Rattle.std.proofs.lemmas.List.{length-take-le}
 use Rattle.wire.proofs.HeadLemmas.{Consumes-more, no_head-full}

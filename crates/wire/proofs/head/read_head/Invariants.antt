@@ -1,4 +1,4 @@
--- What holds each time round the loop of `read_head`, and what gets less.
+-- The loop invariant and the measure of `read_head`.
 use Rattle.std.proofs.Common.{◌≡◌, ◌≤◌, ◌-◌, length, take}
 use Rattle.std.specs.Io.KnownBytes.{Consumes}
 use Rattle.wire.proofs.head.read_head.Given as goal

@@ -1,4 +1,4 @@
--- Why `value_of` keeps its promise.
+-- Proof that `value_of` meets its contract.
 use Rattle.std.proofs.Common.{refl, ◌<◌, length, arith}
 use Rattle.wire.proofs.LengthLemmas.{several}
 use Rattle.wire.proofs.length.value_of.Goals as goal

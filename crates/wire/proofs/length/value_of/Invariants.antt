@@ -1,4 +1,4 @@
--- What holds each time round the loop of `value_of`.
+-- The loop invariant of `value_of`.
 use Rattle.std.proofs.Common.{◌≡◌, map, take}
 use Rattle.httparse.specs.Spans.{header_bytes}
 use Rattle.wire.specs.Lengths.{value_listed, values_of}

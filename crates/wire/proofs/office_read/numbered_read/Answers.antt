@@ -1,4 +1,4 @@
--- Why `numbered_read` keeps its promise.
+-- Proof that `numbered_read` meets its contract.
 use Rattle.std.proofs.Common.{sym}
 use Rattle.wire.proofs.OfficeTargetLemmas.{of-actor, of-batches, of-wards}
 use Rattle.wire.proofs.office_read.numbered_read.Goals as goal

@@ -1,4 +1,4 @@
--- Why `value_text` keeps its promise.
+-- Proof that `value_text` meets its contract.
 use Rattle.std.proofs.Common.{◌≡◌, ◌∙◌, ap}
 use Rattle.std.proofs.lemmas.Result.{IfOk-weaker}
 use Rattle.serde_json.specs.View.{view}

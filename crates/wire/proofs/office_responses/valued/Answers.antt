@@ -1,4 +1,4 @@
--- Why `valued` keeps its promise.
+-- Proof that `valued` meets its contract.
 use Rattle.std.specs.Prelude.{string_bytes}
 use Rattle.wire.proofs.ToldLemmas.{IsTold-data}
 use Rattle.wire.proofs.office_responses.valued.Goals as goal

@@ -1,4 +1,4 @@
--- Why `parse` keeps its promise.
+-- Proof that `parse` meets its contract.
 use Rattle.std.proofs.Common.{rules}
 use Rattle.wire.specs.Gates.{settings_entry}
 use Rattle.wire.proofs.ParsedLemmas.{head_lasts, headed, never_lasts, none_full, none_over, none_yet}

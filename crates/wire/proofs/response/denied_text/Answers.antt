@@ -1,4 +1,4 @@
--- Why `denied_text` keeps its promise.
+-- Proof that `denied_text` meets its contract.
 use Rattle.std.proofs.Common.{◌∙◌, ap, sym}
 use Rattle.wire.specs.Responses.{denied_response, response_bytes}
 use Rattle.wire.proofs.ResponseLemmas.{bad_request-told, forbidden-told, not_found-told, too_large-told}

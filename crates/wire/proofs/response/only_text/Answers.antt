@@ -1,4 +1,4 @@
--- Why `only_text` keeps its promise.
+-- Proof that `only_text` meets its contract.
 use Rattle.std.proofs.Common.{◌∙◌, ap, sym}
 use Rattle.wire.specs.Responses.{denied_response, response_bytes}
 use Rattle.wire.specs.declared.request_error.RequestError.TheVariants.{MethodNotAllowed}

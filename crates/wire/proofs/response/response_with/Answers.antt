@@ -1,4 +1,4 @@
--- Why `response_with` keeps its promise.
+-- Proof that `response_with` meets its contract.
 use Rattle.wire.specs.Responses.{lines_and_body}
 use Rattle.wire.proofs.response.response_with.Goals as goal
 

@@ -1,4 +1,4 @@
--- Why `respond` keeps its promise.
+-- Proof that `respond` meets its contract.
 use Rattle.wire.proofs.ServingLemmas.{IsServed-put, put-apart}
 use Rattle.wire.proofs.serving.respond.Goals as goal
 

@@ -1,4 +1,4 @@
--- Why `serve_one` keeps its promise.
+-- Proof that `serve_one` meets its contract.
 use Rattle.sqlite.specs.Held.{state}
 use Rattle.wire.specs.Requests.{http_request_entry}
 use Rattle.wire.specs.Gates.{settings_entry}

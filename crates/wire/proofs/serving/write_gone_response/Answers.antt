@@ -1,4 +1,4 @@
--- Why `write_gone_response` keeps its promise.
+-- Proof that `write_gone_response` meets its contract.
 use Rattle.wire.proofs.ServingLemmas.{IsServed-put}
 use Rattle.wire.proofs.serving.write_gone_response.Goals as goal
 

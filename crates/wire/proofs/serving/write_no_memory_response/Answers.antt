@@ -1,4 +1,4 @@
--- Why `write_no_memory_response` keeps its promise.
+-- Proof that `write_no_memory_response` meets its contract.
 use Rattle.wire.proofs.ServingLemmas.{IsServed-put}
 use Rattle.wire.proofs.serving.write_no_memory_response.Goals as goal
 

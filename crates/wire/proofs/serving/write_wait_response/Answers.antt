@@ -1,4 +1,4 @@
--- Why `write_wait_response` keeps its promise.
+-- Proof that `write_wait_response` meets its contract.
 use Rattle.wire.proofs.ServingLemmas.{IsServed-put}
 use Rattle.wire.proofs.serving.write_wait_response.Goals as goal
 

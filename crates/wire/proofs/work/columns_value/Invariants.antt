@@ -1,4 +1,4 @@
--- What holds each time round the loop of `columns_value`.
+-- The loop invariant of `columns_value`.
 use Rattle.std.proofs.Common.{◌≡◌, map, take}
 use Rattle.serde_json.specs.View.{view}
 use Rattle.wire.specs.Replies.{number_data}

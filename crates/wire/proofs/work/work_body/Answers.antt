@@ -1,4 +1,4 @@
--- Why `work_body` keeps its promise.
+-- Proof that `work_body` meets its contract.
 use Rattle.std.proofs.Common.{◌∙◌, ap, map}
 use Rattle.std.proofs.lemmas.Result.{IfOk-weaker}
 use Rattle.serde_json.specs.Written.{compact_text, has_float}

@@ -1,4 +1,4 @@
--- The invariant of the loop in `add_each`: those so far and the remaining words make up all of them.
+-- The invariant of the loop in `add_each`: the candidates so far and those in the remaining words make up all of them.
 use Rattle.std.proofs.Common.{◌≡◌, map, drop}
 use Rattle.paper.specs.Ranking.{IsRanking}
 use Rattle.checker.specs.Ranks.{with_each}

@@ -1,4 +1,4 @@
--- The invariant of the loop in `NamesByNumber::new`: the names of the numbers so far.
+-- The invariant of the loop in `NamesByNumber::new`: the table contains the names for the numbers so far.
 use Rattle.std.proofs.Common.{◌≡◌, map}
 use Rattle.std.specs.List.{range_with_len}
 use Rattle.register.specs.Offices.{candidate_entry}

@@ -14,16 +14,16 @@ returns-in-Ok-true-clause-leads g c clean blank =
     let same = rw c.into_connection-conn.ensures at c.has_rows-has.ensures.same in
     ok_then c.has_rows-has.result (λ yes same has. record { accepted = sym led.0; leads = same has }) (same clean _ led.1.at)
 
-pub returns-in-Ok-true-clause-strays : goal.returns-in-Ok-true-clause-strays
-returns-in-Ok-true-clause-strays g c clean blank =
+pub returns-in-Ok-true-clause-fails : goal.returns-in-Ok-true-clause-fails
+returns-in-Ok-true-clause-fails g c clean blank =
     let played = rw c.into_connection-conn.ensures at (c.has_rows-has.ensures.clean clean) in
     let made = c.in-Ok.ensures.made (c.accepts_all-accepted.ensures.clean played) blank in
     let led = rw (c.in-Ok-true.is, c.in-Ok-true.field-0-test) at (c.accepts_all-accepted.ensures.all played made.is_open empty_office made.at) in
     let other = rw c.into_connection-conn.ensures at c.has_rows-has.ensures.other in
     ok_then c.has_rows-has.result (λ yes other lacks lead. other lacks lead.leads) (other clean _ led.1.at)
 
-pub returns-in-Ok-false-clause-strays : goal.returns-in-Ok-false-clause-strays
-returns-in-Ok-false-clause-strays g c clean blank lacks lead =
+pub returns-in-Ok-false-clause-fails : goal.returns-in-Ok-false-clause-fails
+returns-in-Ok-false-clause-fails g c clean blank lacks lead =
     let played = rw c.into_connection-conn.ensures at clean in
     let made = c.in-Ok.ensures.made (c.accepts_all-accepted.ensures.clean played) blank in
     let led = rw (c.in-Ok-false.is, c.in-Ok-false.field-0-test) at (c.accepts_all-accepted.ensures.all played made.is_open empty_office made.at) in

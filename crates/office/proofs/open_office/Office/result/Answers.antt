@@ -8,7 +8,7 @@ use Rattle.register.specs.Elections.{election_of}
 use Rattle.register.specs.Tabulated.{IsCountedWard}
 use Rattle.store.specs.Elections.{IsCountedInFor}
 use Rattle.store.specs.StateTables.{IsAt}
-use Rattle.office.specs.declared.sheets.Text.TheVariants.{Declaration}
+use Rattle.office.specs.declared.sheets.WardText.TheVariants.{Declaration}
 use Rattle.office.specs.Values.{OfficeValue}
 use Rattle.office.proofs.StopLemmas.{if_of_memory}
 use Rattle.office.proofs.TextLemmas.{counted_found, textual_at, text_read}

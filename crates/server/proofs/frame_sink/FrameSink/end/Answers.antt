@@ -1,4 +1,4 @@
--- Why `end` keeps its promise.
+-- Proof that `end` meets its contract.
 use Rattle.std.proofs.Common.{inl, inr, refl}
 use Rattle.connections.specs.Streams.{stream_of}
 use Rattle.connections.specs.declared.client.PendingResponse.{PendingResponse}

@@ -1,4 +1,4 @@
--- Why `get` keeps its promise.
+-- Proof that `get` meets its contract.
 use Rattle.std.proofs.Common.{◌∙◌}
 use Rattle.server.proofs.ReadLemmas.{kept_has}
 use Rattle.server.proofs.read_cache.ReadCache.get.Goals as goal

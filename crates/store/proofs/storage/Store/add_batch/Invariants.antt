@@ -1,4 +1,4 @@
--- What the walk of `add_batch` begins with.
+-- What is known when the walk of `add_batch` starts.
 use Rattle.std.proofs.Common.{map}
 use Rattle.register.specs.Offices.{judged_entry}
 use Rattle.register.specs.Polls.{StandFor, ballots_by}

@@ -9,7 +9,7 @@ use Rattle.store.proofs.storage.Store.contested_count.Goals as goal
 pub returns-then-contest-ne0 : goal.returns-then-contest-ne0
 returns-then-contest-ne0 g c =
     let some : c.args.contest.ward.done ≡ 0 → ⊥ = search rules in
-    loads_told c.resumed_count.ensures (λ s found told there contested. told there (begun_stages (election_in s c.args.contest) contested some))
+    loads_told c.resume_count.ensures (λ s found told there contested. told there (begun_stages (election_in s c.args.contest) contested some))
 
 pub returns-in-Some : goal.returns-in-Some
 returns-in-Some g c =

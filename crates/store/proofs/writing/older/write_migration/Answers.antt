@@ -8,7 +8,7 @@ use Rattle.tables.proofs.SameLemmas.{sees_same}
 use Rattle.tables.proofs.AlterLemmas.{alters_told, alters_both, alters_failed, alters_cut}
 use Rattle.store.specs.StateTables.{SeesState}
 use Rattle.store.specs.Migrations.{older_tables, tabulation_in}
-use Rattle.store.proofs.MigrationLemmas.{lacks_filled, version_put}
+use Rattle.store.proofs.MigrationLemmas.{completed_filled, version_put}
 use Rattle.store.proofs.writing.older.write_migration.Goals as goal
 
 pub returns-in_err-create_missing : goal.returns-in_err-create_missing
@@ -27,4 +27,4 @@ returns g c =
     (rw (c.number.ensures, c.number-2.ensures) at c.in_ok-set_value.ensures.sets)
     (λ s told sees. (older_tables form s, sees, λ given. sees_same _ _ (state g.S.Store c.set_value.new.tx.conn.now) (version_put form s) given)))
     c.write_addition.ensures
-    (λ s told sees. ((s, tabulation_in form s), sees, λ given. subst (λ (x : Contents). Sees x (state g.S.Store c.write_addition.new.tx.conn.now)) (lacks_filled form s a told.0) given))
+    (λ s told sees. ((s, tabulation_in form s), sees, λ given. subst (λ (x : Contents). Sees x (state g.S.Store c.write_addition.new.tx.conn.now)) (completed_filled form s a told.0) given))

@@ -1,7 +1,7 @@
--- Why `asked` keeps its promise.
+-- Proof that `asked` meets its contract.
 use Rattle.std.proofs.Common.{subst}
 use Rattle.wire.specs.Gates.{settings_entry}
-use Rattle.wire.specs.Heads.{IsHeadWanting}
+use Rattle.wire.specs.Heads.{IsHeadIncomplete}
 use Rattle.wire.specs.Parsing.{IsParsed}
 use Rattle.wire.specs.declared.parsed.Parsed.{Parsed}
 use Rattle.wire.proofs.RequestLemmas.{rest_of}
@@ -16,7 +16,7 @@ returns-in-Head c = λ parsed.
 
 pub returns-in-Partial : goal.returns-in-Partial
 returns-in-Partial c = λ parsed.
-    let may : IsHeadWanting c.args.got.now = subst (λ (p : Parsed). IsParsed (settings_entry c.args.settings) c.args.got.now p) c.in-Partial.is parsed in
+    let may : IsHeadIncomplete c.args.got.now = subst (λ (p : Parsed). IsParsed (settings_entry c.args.settings) c.args.got.now p) c.in-Partial.is parsed in
     asks_none (settings_entry c.args.settings) c.args.got.now may.none
 
 pub returns-in-Malformed : goal.returns-in-Malformed

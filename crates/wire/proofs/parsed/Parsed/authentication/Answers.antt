@@ -1,6 +1,6 @@
--- Why `authentication` keeps its promise.
+-- Proof that `authentication` meets its contract.
 use Rattle.std.proofs.Common.{subst}
-use Rattle.wire.specs.Heads.{IsHeadWanting}
+use Rattle.wire.specs.Heads.{IsHeadIncomplete}
 use Rattle.wire.specs.Parsing.{IsParsed}
 use Rattle.wire.specs.declared.parsed.Parsed.{Parsed}
 use Rattle.wire.proofs.ParsedLemmas.{knocks_none, knocks_parsed, none_came}
@@ -11,7 +11,7 @@ returns-in-Head c = λ its got parsed. knocks_parsed its got c.in-Head.head (sub
 
 pub returns-in-Partial : goal.returns-in-Partial
 returns-in-Partial c = λ its got parsed.
-    let may : IsHeadWanting got = subst (λ (p : Parsed). IsParsed its got p) c.in-Partial.is parsed in
+    let may : IsHeadIncomplete got = subst (λ (p : Parsed). IsParsed its got p) c.in-Partial.is parsed in
     knocks_none its got may.none
 
 pub returns-in-Malformed : goal.returns-in-Malformed

@@ -1,4 +1,4 @@
--- Why `body_to_come` keeps its promise.
+-- Proof that `body_to_come` meets its contract.
 use Rattle.std.proofs.Common.{arith, subst}
 use Rattle.wire.specs.Parsing.{IsParsed}
 use Rattle.wire.specs.declared.parsed.Parsed.{Parsed}

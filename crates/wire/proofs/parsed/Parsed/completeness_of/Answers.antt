@@ -1,8 +1,8 @@
--- Why `completeness_of` keeps its promise.
+-- Proof that `completeness_of` meets its contract.
 use Rattle.std.proofs.Common.{◌≤◌, ◌<◌, arith, rules, subst, sym}
 use Rattle.wire.specs.Completeness.{IsCompletenessOf}
 use Rattle.wire.specs.Parsing.{IsHeadOf, IsParsed}
-use Rattle.wire.specs.Heads.{IsHeadWanting}
+use Rattle.wire.specs.Heads.{IsHeadIncomplete}
 use Rattle.wire.specs.declared.completeness.Completeness.TheVariants.{AtLeast}
 use Rattle.wire.specs.declared.parsed.Parsed.{Parsed}
 use Rattle.wire.proofs.ParsedLemmas.{lacks_bytes, lacks_head, one_more, whole_is, whole_none, whole_parsed}
@@ -26,7 +26,7 @@ returns-else-come-whole c = λ its got long parsed.
 
 pub returns-in-Partial : goal.returns-in-Partial
 returns-in-Partial c = λ its got long parsed.
-    let may : IsHeadWanting got = subst (λ (p : Parsed). IsParsed its got p) c.in-Partial.is parsed in
+    let may : IsHeadIncomplete got = subst (λ (p : Parsed). IsParsed its got p) c.in-Partial.is parsed in
     subst (λ n. IsCompletenessOf its got (AtLeast n)) (sym (one_more got c.args.come c.saturating_add.result long may c.saturating_add.ensures)) (lacks_head its got may)
 
 pub returns-in-Malformed : goal.returns-in-Malformed

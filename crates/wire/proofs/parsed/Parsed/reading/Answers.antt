@@ -1,7 +1,7 @@
--- Why `reading` keeps its promise.
+-- Proof that `reading` meets its contract.
 use Rattle.std.proofs.Common.{◌∙◌, Option, refl, subst, sym}
 use Rattle.std.specs.Prelude.{IfSome}
-use Rattle.wire.specs.Heads.{IsHeadWanting}
+use Rattle.wire.specs.Heads.{IsHeadIncomplete}
 use Rattle.wire.specs.Requests.{Asks, reading}
 use Rattle.wire.specs.Parsing.{IsParsed}
 use Rattle.wire.specs.declared.parsed.Parsed.{Parsed}
@@ -20,7 +20,7 @@ returns-in-Head-clause-each c = λ its got parsed what asks.
 
 pub returns-in-Partial-clause-each : goal.returns-in-Partial-clause-each
 returns-in-Partial-clause-each c = λ its got parsed what asks.
-    let may : IsHeadWanting got = subst (λ (p : Parsed). IsParsed its got p) c.in-Partial.is parsed in
+    let may : IsHeadIncomplete got = subst (λ (p : Parsed). IsParsed its got p) c.in-Partial.is parsed in
     absurd (reads_none its got what may.none asks)
 
 pub returns-in-Malformed-clause-each : goal.returns-in-Malformed-clause-each

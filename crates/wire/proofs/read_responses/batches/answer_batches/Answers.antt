@@ -1,4 +1,4 @@
--- Why `answer_batches` keeps its promise.
+-- Proof that `answer_batches` meets its contract.
 use Rattle.std.proofs.Common.{subst, sym}
 use Rattle.std.proofs.Common.{List, map}
 use Rattle.store.specs.Overviews.{BatchView, batch_view}

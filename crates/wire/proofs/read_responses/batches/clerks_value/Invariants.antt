@@ -1,4 +1,4 @@
--- What holds each time round the loop of `clerks_value`.
+-- The loop invariant of `clerks_value`.
 use Rattle.std.proofs.Common.{◌≡◌, map, take}
 use Rattle.serde_json.specs.View.{view}
 use Rattle.store.specs.Overviews.{clerk_view}

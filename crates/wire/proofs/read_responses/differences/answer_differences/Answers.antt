@@ -1,4 +1,4 @@
--- Why `answer_differences` keeps its promise.
+-- Proof that `answer_differences` meets its contract.
 use Rattle.std.proofs.Common.{subst, sym}
 use Rattle.store.specs.Overviews.{DifferencesView, differences_view}
 use Rattle.wire.specs.OfficeReplies.{differences_data}

@@ -1,4 +1,4 @@
--- Why `answer_doubtful` keeps its promise.
+-- Proof that `answer_doubtful` meets its contract.
 use Rattle.std.proofs.Common.{subst, sym}
 use Rattle.store.specs.Overviews.{DoubtfulPapersView, doubtful_papers_view}
 use Rattle.wire.specs.OfficeReplies.{doubtful_papers_data}

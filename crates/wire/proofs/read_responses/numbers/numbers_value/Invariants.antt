@@ -1,4 +1,4 @@
--- What holds each time round the loop of `numbers_value`.
+-- The loop invariant of `numbers_value`.
 use Rattle.std.proofs.Common.{◌≡◌, map, take}
 use Rattle.serde_json.specs.View.{view}
 use Rattle.wire.specs.Replies.{number_data}

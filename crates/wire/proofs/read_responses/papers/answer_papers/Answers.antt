@@ -1,4 +1,4 @@
--- Why `answer_papers` keeps its promise.
+-- Proof that `answer_papers` meets its contract.
 use Rattle.std.proofs.Common.{subst, sym}
 use Rattle.store.specs.Overviews.{PapersView, papers_view}
 use Rattle.wire.specs.OfficeReplies.{papers_data}

@@ -1,4 +1,4 @@
--- Why `answer_receipts` keeps its promise.
+-- Proof that `answer_receipts` meets its contract.
 use Rattle.std.proofs.Common.{subst, sym}
 use Rattle.std.proofs.Common.{List, map}
 use Rattle.register.specs.Offices.{ReceiptEntry, receipt_entry}

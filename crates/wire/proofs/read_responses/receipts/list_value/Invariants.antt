@@ -1,4 +1,4 @@
--- What holds each time round the loop of `list_value`.
+-- The loop invariant of `list_value`.
 use Rattle.std.proofs.Common.{◌≡◌, map, take}
 use Rattle.serde_json.specs.View.{view}
 use Rattle.register.specs.Offices.{receipt_entry}

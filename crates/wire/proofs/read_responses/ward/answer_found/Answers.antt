@@ -1,4 +1,4 @@
--- Why `answer_found` keeps its promise.
+-- Proof that `answer_found` meets its contract.
 use Rattle.std.proofs.Common.{Option, ap, map, subst, sym}
 use Rattle.std.specs.Prelude.{option_map}
 use Rattle.register.specs.NextSteps.{step_entry}

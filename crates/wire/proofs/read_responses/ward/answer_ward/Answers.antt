@@ -1,4 +1,4 @@
--- Why `answer_ward` keeps its promise.
+-- Proof that `answer_ward` meets its contract.
 use Rattle.std.proofs.Common.{◌==◌, ◌∙◌, Err, ap, map, subst, sym}
 use Rattle.std.specs.Prelude.{find}
 use Rattle.store.specs.Overviews.{WardView, ward_view}

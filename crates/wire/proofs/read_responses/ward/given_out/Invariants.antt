@@ -1,4 +1,4 @@
--- What holds each time round the loop of `given_out`.
+-- The loop invariant of `given_out`.
 use Rattle.std.proofs.Common.{◌≡◌, map, min, take}
 use Rattle.std.specs.List.{sum_by}
 use Rattle.store.specs.Overviews.{BatchView, batch_view}

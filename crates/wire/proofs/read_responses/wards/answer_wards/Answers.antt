@@ -1,4 +1,4 @@
--- Why `answer_wards` keeps its promise.
+-- Proof that `answer_wards` meets its contract.
 use Rattle.std.proofs.Common.{subst, sym}
 use Rattle.wire.specs.OfficeReads.{WardsReadView, wards_read_view}
 use Rattle.wire.specs.OfficeReplies.{wards_data}

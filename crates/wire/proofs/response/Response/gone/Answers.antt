@@ -1,4 +1,4 @@
--- Why `gone` keeps its promise.
+-- Proof that `gone` meets its contract.
 use Rattle.std.proofs.Common.{refl}
 use Rattle.wire.proofs.ResponseLemmas.{gone-told}
 use Rattle.wire.proofs.response.Response.gone.Goals as goal

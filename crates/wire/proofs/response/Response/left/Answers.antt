@@ -1,4 +1,4 @@
--- Why `left` keeps its promise.
+-- Proof that `left` meets its contract.
 use Rattle.std.proofs.Common.{refl}
 use Rattle.wire.proofs.ResponseLemmas.{left-told}
 use Rattle.wire.proofs.response.Response.left.Goals as goal

@@ -1,4 +1,4 @@
--- Why `no_memory` keeps its promise.
+-- Proof that `no_memory` meets its contract.
 use Rattle.std.proofs.Common.{refl}
 use Rattle.wire.proofs.ResponseLemmas.{no_memory-told}
 use Rattle.wire.proofs.response.Response.no_memory.Goals as goal

@@ -1,4 +1,4 @@
--- Why `waits` keeps its promise.
+-- Proof that `waits` meets its contract.
 use Rattle.std.proofs.Common.{refl}
 use Rattle.wire.proofs.ResponseLemmas.{waits-told}
 use Rattle.wire.proofs.response.Response.waits.Goals as goal

@@ -1,4 +1,4 @@
--- Why `routed_by` keeps its promise.
+-- Proof that `routed_by` meets its contract.
 use Rattle.std.proofs.Common.{◌∙◌, sym}
 use Rattle.std.proofs.lemmas.Str.{IsUtf8-from_ascii}
 use Rattle.wire.proofs.TargetLemmas.{route-found}
@@ -10,11 +10,11 @@ returns-in_default c = absurd (c.in_default.ensures.cases.0 (IsUtf8-from_ascii c
 pub named_at-requires : goal.named_at-requires
 named_at-requires c =
     (route-found c.args.self.now.router c.args.target.now c.in-Ok.text.now _ _ c.if-not-is_ascii.ensures.cases c.in-Ok.ensures.cases.0 c.in-Ok-at.ensures.path
-    c.args.self.now.seven c.in-Ok-at.ensures.found).0
+    c.args.self.now.eight c.in-Ok-at.ensures.found).0
 
 pub returns-in-Ok-at : goal.returns-in-Ok-at
 returns-in-Ok-at c =
     c.named_at.ensures
     ∙ sym
     (route-found c.args.self.now.router c.args.target.now c.in-Ok.text.now _ _ c.if-not-is_ascii.ensures.cases c.in-Ok.ensures.cases.0 c.in-Ok-at.ensures.path
-    c.args.self.now.seven c.in-Ok-at.ensures.found).1
+    c.args.self.now.eight c.in-Ok-at.ensures.found).1

@@ -1,7 +1,0 @@
--- The invariant of the loop in `fitting`: the pieces so far have a spelling.
-use Rattle.std.specs.List.{AllByRecursion}
-use Rattle.order_protocol.specs.Messages.{PieceFits, message_part_entries}
-use Rattle.count_office.proofs.order_client.fitting.Given as goal
-
-abbrev pub invariant-loop-part : goal.invariant-loop-part
-invariant-loop-part l = AllByRecursion PieceFits (message_part_entries l.pieces.items)

@@ -1,8 +1,0 @@
--- The invariant of the loop in `all_said`: the lines so far, followed by those that are left, are all lines.
-use Rattle.std.proofs.Common.{◌≡◌, ◌++◌, map, drop}
-use Rattle.desk.specs.Lexing.{line_entry, typed_line_entry}
-use Rattle.desk.specs.Scripts.{typed_line}
-use Rattle.desk.proofs.scripts.all_said.Given as goal
-
-abbrev pub invariant-loop-line : goal.invariant-loop-line
-invariant-loop-line l = map typed_line_entry l.all.items ++ map typed_line (map line_entry (drop l.line-index l.lines)) ≡ map typed_line (map line_entry l.lines)

@@ -1,0 +1,3 @@
+-- The page that a screen in the hall shows, and its policy.
+pub mod Policies
+pub mod Page

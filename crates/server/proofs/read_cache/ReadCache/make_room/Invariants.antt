@@ -1,7 +1,0 @@
--- The invariant of the loop in `make_room`: some were removed, the oldest first.
-use Rattle.std.proofs.Common.{◌≡◌, ◌++◌, List}
-use Rattle.server.specs.Reads.{ReadEntry, reads_in}
-use Rattle.server.proofs.read_cache.ReadCache.make_room.Given as goal
-
-abbrev pub invariant-loop : goal.invariant-loop
-invariant-loop l = (gone : List ReadEntry) × (reads_in l.fn.self ≡ gone ++ reads_in l.self)

@@ -1,0 +1,6 @@
+-- The invariant of the loop in `all_same`.
+use Rattle.std.proofs.Common.{◌≡◌, take}
+use Rattle.store.proofs.schemas.all_same.Given as goal
+
+abbrev pub invariant-loop-at : goal.invariant-loop-at
+invariant-loop-at g l = take l.at l.one ≡ take l.at l.other
