@@ -198,6 +198,7 @@ def play_one(folder, asked):
         (folder / FILE).unlink(missing_ok=True)
         if asked.file is not None:
             (folder / FILE).write_bytes(asked.file)
+            (folder / FILE).chmod(0o600)
         compare(asked, give(folder, asked.words()))
 
 

@@ -108,7 +108,8 @@ COPYING = Order(["copy", COPY])
 # Orders that change nothing, each with the number of the order before which it is tried.
 READS = [(number, Order(line.split())) for number, line in (
     (END, "status 7"), (END, "sheet 7"), (END, "result 7"), (18, "advance 7 --id a3"), (18, "next 7"), (0, "status 7"), (END, "wards"),
-    (END, "receipts"), (END, "journal"), (14, "batches 7"), (14, "doubtful 7"), (9, "differences 12"), (14, "papers 12"))]
+    (END, "receipts"), (END, "journal"), (14, "batches 7"), (14, "doubtful 7"), (9, "differences 12"), (14, "papers 12"),
+    (14, "forms covers 7"))]
 # The same of requests; the keying is that of the order 8.
 KEYING = '{"id":"k1","round":1,"papers":["1,2,,",%s"D"]}' % "".join(f'"{line.split(",", 1)[1]}",' for line in ELECTION[8].lines[2:-1])
 REQUESTS = [(number, Order([f"{'POST' if body else 'GET'} {target}"], sends=request(target, body=body))) for number, target, body in (

@@ -55,7 +55,7 @@ mod served_file;
 // the two outputs
 mod screen;
 
-use codes_file::{NewCodes, make_codes_file};
+use codes_file::{NewCodes, make_codes_file, print_slips};
 use copies::copy;
 use desk::perform::perform;
 use desk::{
@@ -191,6 +191,7 @@ fn dispatch_order<H: Host, S: Alter, O: Sink, E: Sink>(
             };
             (make_codes_file(rt, asked, out, err), conn)
         }
+        Order::Slips { path, address } => (print_slips(rt, path, *address, out, err), conn),
     }
 }
 
@@ -261,6 +262,8 @@ fn follow_words<O: Sink, E: Sink>(rt: &HostRuntime, words: &[&str], out: &mut O,
             };
             make_codes_file(rt, asked, out, err)
         }
+        // nor does printing slips
+        Ok(Order::Slips { path, address }) => print_slips(rt, path, address, out, err),
         Ok(order) => {
             let request = OrderRun {
                 rt: &*rt,

@@ -21,3 +21,4 @@ pub mod PaperLemmas
 mod LinesRead
 mod KeysRead
 mod OverviewLemmas
+mod FormLemmas

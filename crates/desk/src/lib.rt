@@ -12,7 +12,7 @@
 //! ```text
 //! match order(alloc, words) {
 //!     Ok(Order::Perform(task)) => perform(alloc, &task, conn, folder, out, err),    // the status and the connection
-//!     Ok(Order::Serve { .. } | Order::Copy { .. } | Order::Journal | Order::Codes { .. }) => ..,
+//!     Ok(Order::Serve { .. } | Order::Copy { .. } | Order::Journal | Order::Codes { .. } | Order::Slips { .. }) => ..,
 //!     Err(fault) => tell_words(&fault, out, err),
 //! }
 //! ```
@@ -49,7 +49,9 @@ mod printing;
 pub mod progress;
 mod sealing;
 mod sending;
+pub mod slips;
 mod steps;
+mod ward_forms;
 mod ward_status;
 
 pub use copying::{CopyState, copy_office, copy_open};
@@ -57,10 +59,11 @@ pub use folders::Folder;
 pub use journal_check::{journal_office, journal_open};
 pub use lines::{
     Failure, tell_codes_and_office_made, tell_codes_fault, tell_codes_made, tell_failure,
-    tell_words,
+    tell_slips, tell_words,
 };
 pub use order_running::follow;
-pub use orders::{Errand, ExpectedSeal, Job, KeyingFile, Order, Question, Task};
+pub use orders::{Errand, ExpectedSeal, Form, Job, KeyingFile, Order, Question, Task};
 pub use progress::ProgressSink;
 pub use script_files::files_named_in;
+pub use slips::slips_of;
 pub use words::{WordsFault, order};

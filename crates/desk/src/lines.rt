@@ -6,10 +6,10 @@ ghost use Rattle.keyfile.specs.Faults.{flaw_batch, flaw_between, flaw_clerk};
 ghost use Rattle.desk.specs.Pages.{IsErrorTold, IsPut, Shows, fronted, line_front, migrated_text, note_line, noted, numbered_line, outputs_of, printed, status_of_file};
 ghost use Rattle.codes.specs.Faults.{fault_line, fault_text as codes_text};
 ghost use Rattle.desk.specs.Pages.{codes_and_office_made_page, codes_made_page, codes_page, codes_place};
-ghost use Rattle.desk.specs.Pages.{failed, failure_number, failure_of, failure_text, page_of, refused, script_page, unjournalled, unread, unsealed, words_page};
+ghost use Rattle.desk.specs.Pages.{failed, failure_number, failure_of, failure_text, no_form_text, page_of, refused, script_page, unformed, unjournalled, unread, unsealed, words_page};
 
 use crate::scripts::ScriptFault;
-use crate::words::{BAD_DIGEST, BAD_ORIGIN, BAD_TITLE, WordsFault};
+use crate::words::{BAD_DIGEST, BAD_FORM, BAD_ORIGIN, BAD_TITLE, WordsFault};
 use codes::CodesFault;
 use itoa::Buffer;
 use keyfile::{FileFault, Flaw};
@@ -21,6 +21,15 @@ use thiserror::Error;
 /// The message if replaying the journal doesn't reproduce its office, for example because the receipts and the other tables don't
 /// match.
 const NO_JOURNAL: &str = "no journal: what was written does not make this office";
+
+/// Why there is no form.
+#[derive(Clone, Copy)]
+pub(crate) enum NoForm {
+    /// No lot is due in the ward.
+    NoLot,
+    /// The ward isn't declared, or there is none.
+    Undeclared,
+}
 
 /// The outcome of an order.
 #[derive(Drop)]
@@ -51,6 +60,8 @@ pub(crate) enum LineOutcome {
     Unjournalled,
     /// A ward wasn't sealed because the number of papers given out differs from the expected number.
     Unsealed { given_out: u128, expected: u32 },
+    /// There is no form.
+    Unformed(NoForm),
 }
 
 /// The reason why the program fails. 101 to 106 and 108 are faults of the office. 107 is an output that fails. 109 is a copy that
@@ -291,6 +302,15 @@ pub fn tell_codes_made<O: Sink, E: Sink>(count: u32, out: &mut O, err: &mut E) -
     tell_text(&pieces, out, err)
 }
 
+/// Prints the page of clerks' slips, and returns the status: 0, or 3 if the output fails.
+pub fn tell_slips<O: Sink, E: Sink>(page: &str, out: &mut O, err: &mut E) -> u8
+    requires out { O.failed out.old < 2 ^ 64 - 1 }
+    requires err { E.failed err.old < 2 ^ 64 - 1 }
+    ensures { let outputs = outputs_of O.taken O.failed E.taken E.failed in Shows (outputs out.old err.old) (outputs out.new err.new) (printed page.now) result }
+{
+    tell_text(&[page], out, err)
+}
+
 /// Prints that codes were made for `count` clerks, and one for the office. Returns 0, or 3 if the output fails.
 pub fn tell_codes_and_office_made<O: Sink, E: Sink>(count: u32, out: &mut O, err: &mut E) -> u8
     requires out { O.failed out.old < 2 ^ 64 - 1 }
@@ -328,6 +348,24 @@ fn tell_unsealed<E: Sink>(line: Option<usize>, given_out: u128, expected: u32, e
         " were expected\n",
     ];
     tell_error(line, &pieces, 1, err)
+}
+
+/// Returns why there is no form, in words.
+fn no_form_text(why: NoForm) -> &'static str
+    ensures { result.now ≡ no_form_text why }
+{
+    match why {
+        NoForm::NoLot => "no lot is due",
+        NoForm::Undeclared => "the ward is not declared",
+    }
+}
+
+/// Prints that there is no form, and returns the status: 1, or 3 if the error output fails.
+fn tell_unformed<E: Sink>(line: Option<usize>, why: NoForm, err: &mut E) -> u8
+    requires { E.failed err.old < 2 ^ 64 - 1 }
+    ensures { IsErrorTold E.taken E.failed err.old err.new (line_front line ++ (unformed why).err) 1 result }
+{
+    tell_error(line, &["no form: ", no_form_text(why), "\n"], 1, err)
 }
 
 /// Prints a failure and returns its status, 3.
@@ -456,6 +494,7 @@ pub(crate) fn tell<O: Sink, E: Sink>(
             given_out,
             expected,
         } => { tell_unsealed(line, *given_out, *expected, err) }
+        LineOutcome::Unformed(why) => tell_unformed(line, *why, err),
     }
 }
 
@@ -483,6 +522,7 @@ pub fn tell_words<O: Sink, E: Sink>(fault: &WordsFault, out: &mut O, err: &mut E
         WordsFault::Origin => tell_error(None, &[BAD_ORIGIN], 2, err),
         WordsFault::Digest => tell_error(None, &[BAD_DIGEST], 2, err),
         WordsFault::TitleAlone => tell_error(None, &[BAD_TITLE], 2, err),
+        WordsFault::Form => tell_error(None, &[BAD_FORM], 2, err),
         WordsFault::Words { text, status: 0 } => tell_text(&[text.as_str()], out, err),
         WordsFault::Words { text, status } => tell_error(None, &[text.as_str()], *status, err),
     }

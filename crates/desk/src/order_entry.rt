@@ -117,6 +117,15 @@ pub(crate) const STAGE: Word =
 pub(crate) const FILE: Word =
     word!(Text "FILE", "The path of an import file; docs/formats/files.md has its form");
 
+pub(crate) const FORM: Word =
+    word!(Text "FORM", "Which form: covers, adjudication, lots or declaration, of a ward; or slips");
+
+pub(crate) const SOURCE: Word =
+    word!(Text "SOURCE", "The ward's number, 1 to 99; for slips, the path of a file of codes");
+
+pub(crate) const ADDRESS: Word =
+    word!(Origin "address", "For slips, where clerks reach the office, as http://127.0.0.1:8080");
+
 pub(crate) const NEW: Word =
     word!(Text "NEW", "The path of the copy; there must be nothing at it yet");
 

@@ -29,6 +29,19 @@ pub struct ExpectedSeal<'a> {
     pub id: &'a str,
 }
 
+/// A form of a ward, to be printed and filled in.
+#[derive(Clone, Copy, Debug)]
+pub enum Form {
+    /// A cover for each batch.
+    Covers,
+    /// The doubtful papers, with room for the verdicts.
+    Adjudication,
+    /// The lot that the count waits for.
+    Lots,
+    /// The words of the declaration.
+    Declaration,
+}
+
 /// A question that only the office asks.
 #[derive(Clone, Copy, Debug)]
 pub enum Question {
@@ -44,6 +57,8 @@ pub enum Question {
     Papers { batch: u32 },
     /// The receipts of one actor, or of all actors.
     Receipts { actor: Option<u32> },
+    /// A form of a ward.
+    Form { form: Form, ward: u32 },
 }
 
 /// A task in an existing office. Numbers are kept as given, whether or not they are in range.
@@ -174,6 +189,11 @@ pub enum Order<'a> {
         path: &'a str,
         clerks: &'a str,
         with_office: bool,
+    },
+    /// Print a slip for each clerk of a file of codes, with the address at which the clerk reaches the office.
+    Slips {
+        path: &'a str,
+        address: Origin<'a>,
     },
     /// Serve connections on a port of this machine. If an origin is given, its pages are also served through a proxy. Serving ends
     /// after this many connections, or never if no number is given. Clerks need codes if the path of a file of codes is given. If a

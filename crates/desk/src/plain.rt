@@ -34,8 +34,8 @@ impl<R: Read + Drop> Folder for OneFile<R> {
 /// connection.
 ///
 /// `file` is `None` if the file couldn't be opened. This is [`perform`](crate::perform::perform) with a folder of that one file, so
-/// the import files that a script names can't be opened. It accepts any order except those to serve, to copy, to print a journal
-/// and to make codes.
+/// the import files that a script names can't be opened. It accepts any order except those to serve, to copy, to print a journal,
+/// to make codes and to print slips.
 pub fn perform<S: Alter, R: Read + Drop, O: Sink, E: Sink>(
     alloc: Global,
     order: &Order<'_>,
@@ -58,6 +58,7 @@ pub fn perform<S: Alter, R: Read + Drop, O: Sink, E: Sink>(
         Order::Copy { .. } => unreachable!(),
         Order::Journal => unreachable!(),
         Order::Codes { .. } => unreachable!(),
+        Order::Slips { .. } => unreachable!(),
         Order::Serve { .. } => unreachable!(),
     }
 }

@@ -67,6 +67,7 @@ IsForNone (order.Perform task.Init) = ⊤
 IsForNone (order.Perform task.Migrate) = ⊤
 IsForNone (order.Serve port connections origin codes public) = ⊤
 IsForNone (order.Codes path clerks with_office) = ⊤
+IsForNone (order.Slips path address) = ⊤
 IsForNone other = ⊥
 
 -- What the words of an order for this file ask for: a job, a copy, or the journal. Or why it isn't carried out: the words aren't an order; or the file is gone (and

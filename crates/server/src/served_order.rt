@@ -78,7 +78,10 @@ pub fn served_order_by<'w>(alloc: Global, words: &'w [&'w str]) -> ServedOrder<'
         Ok(Order::Copy { path }) => ServedOrder::Copy(path),
         Ok(Order::Journal) => ServedOrder::Journal,
         Ok(
-            Order::Perform(Task::Init | Task::Migrate) | Order::Serve { .. } | Order::Codes { .. },
+            Order::Perform(Task::Init | Task::Migrate)
+            | Order::Serve { .. }
+            | Order::Codes { .. }
+            | Order::Slips { .. },
         ) => { ServedOrder::Refused(Failure::BeingServed) }
         Err(fault) => ServedOrder::Misread(fault),
     }

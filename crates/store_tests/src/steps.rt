@@ -155,9 +155,13 @@ fn give<S: Alter + Drop, O: Sink, E: Sink>(
             };
             perform(alloc, &task, conn, &folder, out, err)
         }
-        Ok(Order::Serve { .. } | Order::Copy { .. } | Order::Journal | Order::Codes { .. }) => {
-            (tell_failure(Failure::Output, err), conn)
-        }
+        Ok(
+            Order::Serve { .. }
+            | Order::Copy { .. }
+            | Order::Journal
+            | Order::Codes { .. }
+            | Order::Slips { .. },
+        ) => { (tell_failure(Failure::Output, err), conn) }
         Err(fault) => (tell_words(&fault, out, err), conn),
     }
 }

@@ -1,6 +1,6 @@
 -- Proof that `tell` meets its contract.
 use Rattle.std.proofs.Common.{refl}
-use Rattle.desk.specs.Pages.{failed, refused, unjournalled, unread, unsealed}
+use Rattle.desk.specs.Pages.{failed, refused, unformed, unjournalled, unread, unsealed}
 use Rattle.desk.specs.declared.lines.Failure.TheVariants.{Office}
 use Rattle.desk.proofs.PageLemmas.{front_shown, printed_shown}
 use Rattle.desk.proofs.lines.tell.Goals as goal
@@ -46,3 +46,8 @@ pub returns-in-Unsealed : goal.returns-in-Unsealed
 returns-in-Unsealed g c =
     rw c.in-Unsealed.is (front_shown g.O.Sink.taken g.O.Sink.failed g.E.Sink.taken g.E.Sink.failed c.args.line _ _ _
     (unsealed c.in-Unsealed.given_out c.in-Unsealed.expected) c.tell_unsealed.result _ _ refl refl c.tell_unsealed.ensures)
+
+pub returns-in-Unformed : goal.returns-in-Unformed
+returns-in-Unformed g c =
+    rw c.in-Unformed.is (front_shown g.O.Sink.taken g.O.Sink.failed g.E.Sink.taken g.E.Sink.failed c.args.line _ _ _
+    (unformed c.in-Unformed.why) c.tell_unformed.result _ _ refl refl c.tell_unformed.ensures)
