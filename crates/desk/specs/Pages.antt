@@ -162,6 +162,10 @@ no_form_text no_form.Undeclared = codes "the ward is not declared"
 abbrev pub unformed : NoForm → Page
 unformed why = record { out = []; err = joined (codes "no form: " ∷ no_form_text why ∷ codes "\n" ∷ []); status = 1 }
 
+-- that no new office is made from the journal, and why
+abbrev pub unmended : Text → Page
+unmended text = record { out = []; err = text; status = 1 }
+
 -- the note that a request was accepted earlier, and that its content had no effect this time
 abbrev pub note_line : Text → Text
 note_line id = joined (codes "note: " ∷ id ∷ codes " was kept before with other words; nothing was changed\n" ∷ [])
@@ -225,6 +229,7 @@ page_of (outcome.Uncopied why) = failed (failure_of why)
 page_of outcome.Unjournalled = unjournalled
 page_of (outcome.Unsealed given_out expected) = unsealed given_out expected
 page_of (outcome.Unformed why) = unformed why
+page_of (outcome.Unmended text) = unmended (string_bytes text)
 
 -- the page that says why words aren't an order: help is printed on the output, and what is wrong with the words on the error output
 abbrev pub words_page : WordsFault → Page

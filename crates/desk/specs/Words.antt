@@ -59,6 +59,10 @@ number_option_rule numbers name = record (new_rule name) { long = Some name; val
 abbrev pub texts_rule : Text → Rule
 texts_rule name = record (new_rule name) { action = Some Append }
 
+-- any values, each after `--` and the word's name
+abbrev pub options_rule : Text → Rule
+options_rule name = record (new_rule name) { long = Some name; value_names = 1; action = Some Append }
+
 -- `--` and the word's name, without a value
 abbrev pub flag_rule : Text → Rule
 flag_rule name = record (new_rule name) { long = Some name; action = Some SetTrue }
@@ -78,6 +82,7 @@ rule_of_kind kind.Title = option_rule
 rule_of_kind kind.Digest = option_rule
 rule_of_kind kind.Papers = number_option_rule any_number
 rule_of_kind kind.Texts = texts_rule
+rule_of_kind kind.Options = options_rule
 rule_of_kind kind.Flag = flag_rule
 
 -- a command, with these words added
@@ -169,6 +174,7 @@ with_value kind.Title rows name means = means (text_at name rows)
 with_value kind.Digest rows name means = digested_by (digest_at name rows) means
 with_value kind.Papers rows name means = means (number_found name rows)
 with_value kind.Texts rows name means = means (texts_at name rows)
+with_value kind.Options rows name means = means (texts_at name rows)
 with_value kind.Flag rows name means = means (flag_at name rows)
 
 -- what the matched values of some words mean

@@ -5,14 +5,22 @@
 //! open. A [`Folder`](folders) opens the files that the order or its script names. [`lines`](lines) prints what is wrong with words
 //! that aren't an order, and other failures. [`copy_office`](copying) performs an order to copy the office, and
 //! [`journal_office`](journal_check) an order to print its journal, each on two connections; an order to serve is performed by the
-//! crate `server`. In an office that is already open, such as one that is being served, [`follow`](order_running) does a job, and
-//! `copy_open` and `journal_open` copy the office and print its journal. [`files_named_in`](script_files) returns which files a
-//! script names, for a client that sends them along with it. Which files, outputs and sockets these are is up to the program.
+//! crate `server`. In an office that is already open, such as one that is being served, [`follow`](order_running) does a job,
+//! `copy_open` and `journal_open` copy the office and print its journal, and [`mend_open`](mended_office) makes another office from
+//! that journal, with some orders left out and others replaced. [`files_named_in`](script_files) returns which files a script
+//! names, for a client that sends them along with it. Which files, outputs and sockets these are is up to the program.
 //!
 //! ```text
 //! match order(alloc, words) {
 //!     Ok(Order::Perform(task)) => perform(alloc, &task, conn, folder, out, err),    // the status and the connection
-//!     Ok(Order::Serve { .. } | Order::Copy { .. } | Order::Journal | Order::Codes { .. } | Order::Slips { .. }) => ..,
+//!     Ok(
+//!         Order::Serve { .. }
+//!         | Order::Copy { .. }
+//!         | Order::Journal
+//!         | Order::Mend(_)
+//!         | Order::Codes { .. }
+//!         | Order::Slips { .. },
+//!     ) => ..,
 //!     Err(fault) => tell_words(&fault, out, err),
 //! }
 //! ```
@@ -40,6 +48,7 @@ mod import;
 mod journal;
 pub mod journal_check;
 pub mod lines;
+pub mod mended_office;
 pub mod order_running;
 mod overviews;
 mod papers;
@@ -61,8 +70,11 @@ pub use lines::{
     Failure, tell_codes_and_office_made, tell_codes_fault, tell_codes_made, tell_failure,
     tell_slips, tell_words,
 };
+pub use mended_office::{MendTrial, mend_open};
 pub use order_running::follow;
-pub use orders::{Errand, ExpectedSeal, Form, Job, KeyingFile, Order, Question, Task};
+pub use orders::{
+    Errand, ExpectedSeal, Form, Job, KeyingFile, MendOrder, Order, Question, Task,
+};
 pub use progress::ProgressSink;
 pub use script_files::files_named_in;
 pub use slips::slips_of;

@@ -62,6 +62,8 @@ pub(crate) enum LineOutcome {
     Unsealed { given_out: u128, expected: u32 },
     /// There is no form.
     Unformed(NoForm),
+    /// No new office is made from the journal. This text, whose lines are terminated, says why.
+    Unmended(String),
 }
 
 /// The reason why the program fails. 101 to 106 and 108 are faults of the office. 107 is an output that fails. 109 is a copy that
@@ -464,9 +466,10 @@ fn tell_noted<O: Sink, E: Sink>(
 }
 
 /// Prints an outcome and returns its status. The status is 0 if the outcome is printed on the output. If it is printed on the error
-/// output, the status is 1 for the refusal of a request or a file and for an office without a journal, and 3 for a fault or a file
-/// that couldn't be read. The status is also 3 if either output fails, in which case only a prefix was written to it. If the
-/// outcome is that of a script's line, what is printed on the error output begins with the line number.
+/// output, the status is 1 for the refusal of a request, a file or a mending, for a form that there isn't, and for an office without
+/// a journal, and 3 for a fault or a file that couldn't be read. The status is also 3 if either output fails, in which case only a
+/// prefix was written to it. If the outcome is that of a script's line, what is printed on the error output begins with the line
+/// number.
 pub(crate) fn tell<O: Sink, E: Sink>(
     line: Option<usize>,
     outcome: &LineOutcome,
@@ -495,6 +498,7 @@ pub(crate) fn tell<O: Sink, E: Sink>(
             expected,
         } => { tell_unsealed(line, *given_out, *expected, err) }
         LineOutcome::Unformed(why) => tell_unformed(line, *why, err),
+        LineOutcome::Unmended(text) => tell_error(line, &[text.as_str()], 1, err),
     }
 }
 

@@ -16,11 +16,13 @@ ghost use Rattle.desk.specs.Words.{flag_at, public_at, texts_at};
 
 use crate::order_entry::{
     ACTOR, ADDRESS, BATCH, CANDIDATE, CLERK, CLERKS, CODES, CODES_FILE, CONNECTIONS, DIGEST, Entry,
-    FILE, FIRST_CLERK, FORM, Heading, ID, KEEP_GOING, MARKS, NAME, NEW, ORIGIN, PAPER, PAPERS,
-    PORT, PUBLIC, ROUND, SCRIPT, SEATS, SECOND_CLERK, SIZE, SOURCE, STAGE, TITLE, VERDICT, WARD,
-    WITH_OFFICE, Word,
+    FILE, FIRST_CLERK, FORM, Heading, ID, KEEP_GOING, MARKS, NAME, NEW, NEW_OFFICE, ORIGIN, PAPER,
+    PAPERS, PORT, PUBLIC, ROUND, SCRIPT, SEATS, SECOND_CLERK, SIZE, SOURCE, STAGE, TITLE, VERDICT,
+    WARD, WITH, WITH_OFFICE, WITHOUT, Word,
 };
-use crate::orders::{Errand, ExpectedSeal, Form, Job, KeyingFile, Order, Question, Task};
+use crate::orders::{
+    Errand, ExpectedSeal, Form, Job, KeyingFile, MendOrder, Order, Question, Task,
+};
 use crate::requests::{by_clerk, by_office};
 use crate::verdicts::verdict_in;
 use clap::ArgMatches;
@@ -70,7 +72,7 @@ const ORDERS_TO_SEAL: [Entry; 13] = [
 /// The other orders: those from the seal on, in the same order; then `migrate`; then those for the office alone; and then those for
 /// everyone.
 #[rattlefmt::skip]
-const ORDERS_FROM_SEAL: [Entry; 26] = [
+const ORDERS_FROM_SEAL: [Entry; 27] = [
     order!(Election "seal" [WARD, ID, PAPERS], "Seals a ward whose papers are all agreed and judged:\ncount-office town.db seal 7 --id s1"),
     order!(Election "advance" [WARD, ID], "Counts the one stage that is due in a sealed ward:\ncount-office town.db advance 7 --id a1"),
     order!(Election "count" [WARD, ID], "Counts a sealed ward up to a lot or the end, its first stage under ID-1:\ncount-office town.db count 7 --id a"),
@@ -91,6 +93,8 @@ const ORDERS_FROM_SEAL: [Entry; 26] = [
     order!(Office "journal" [], "Prints the accepted orders of the office as a script, whole:\ncount-office town.db journal"),
     order!(Office "replay" [SCRIPT, KEEP_GOING], "Sends the orders of a text file, one per line, up to a refusal:\ncount-office town.db replay evening.txt"),
     order!(Office "copy" [NEW], "Makes a copy of the office, in a file that isn't there yet:\ncount-office town.db copy evening.db"),
+    order!(Office "mend" [NEW_OFFICE, WITHOUT, WITH],
+        "Makes a new office from the journal, without some orders, or with others in their place:\ncount-office town.db mend new.db --with \"judge 13 6 reject:4 --id v2\""),
     order!(Office "codes" [CODES_FILE, CLERKS, WITH_OFFICE], "Writes a new file of codes, one for each of these clerks:\ncount-office town.db codes codes.txt 1-40"),
     order!(Office "forms" [FORM, SOURCE, ADDRESS], "Prints a form of a ward, or slips of clerks, as a page for a browser:\ncount-office town.db forms covers 7"),
     order!(Everyone "ballots" [WARD], "Prints the ballots of a sealed ward, in a form that counting programs read:\ncount-office town.db ballots 7"),
@@ -431,6 +435,18 @@ fn replay<'a>(matches: &ArgMatches<'a>) -> Order<'a>
     }))
 }
 
+/// Returns the order that makes a new office from the journal of this one.
+fn mending<'a>(alloc: Global, matches: &ArgMatches<'a>) -> Result<Order<'a>, NoOrder>
+    ensures ok { IfOk result (λ o. meaning_of (codes "mend") (rows_of (found_of matches.now)) ≡ Some (told o)) }
+    ensures err { IfErr result (λ why. why ≡ NoOrder.Memory) }
+{
+    Ok(Order::Mend(MendOrder {
+        path: text_in(matches, NEW_OFFICE),
+        without: texts_copied(alloc, matches, WITHOUT)?,
+        instead: texts_copied(alloc, matches, WITH)?,
+    }))
+}
+
 fn serve<'a>(matches: &ArgMatches<'a>) -> Result<Order<'a>, NoOrder>
     ensures ok { IfOk result (λ o. meaning_of (codes "serve") (rows_of (found_of matches.now)) ≡ Some (told o)) }
     ensures bad_origin { result ≡ Err NoOrder.BadOrigin → meaning_of (codes "serve") (rows_of (found_of matches.now)) ≡ Some no_origin }
@@ -607,6 +623,7 @@ fn order_named<'a>(
         "copy" => Ok(Order::Copy {
             path: text_in(matches, NEW),
         }),
+        "mend" => mending(alloc, matches),
         "codes" => Ok(Order::Codes {
             path: text_in(matches, CODES_FILE),
             clerks: text_in(matches, CLERKS),

@@ -173,6 +173,15 @@ impl<'a> Task<'a> {
     }
 }
 
+/// An order to mend: the path of the new office, the names of the orders that are left out, and the lines of those that take the place
+/// of others.
+#[derive(Debug, Drop)]
+pub struct MendOrder<'a> {
+    pub path: &'a str,
+    pub without: Vec<String>,
+    pub instead: Vec<String>,
+}
+
 /// What the program is to do.
 #[derive(Debug, Drop)]
 pub enum Order<'a> {
@@ -184,6 +193,8 @@ pub enum Order<'a> {
     },
     /// Print the journal of the office.
     Journal,
+    /// Make a new office, in a file that doesn't exist yet, from this one's journal, with some orders left out and others replaced.
+    Mend(MendOrder<'a>),
     /// Write a new file of codes, which must not exist yet, for the clerks that a word names, and for the office too if requested.
     Codes {
         path: &'a str,

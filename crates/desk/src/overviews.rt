@@ -256,6 +256,20 @@ fn lines_of<T: Lined>(alloc: Global, found: &[T]) -> Result<String, AllocError>
     Ok(text)
 }
 
+/// Returns the line on each ward, without its end.
+pub(crate) fn lines_on_wards(
+    alloc: Global,
+    wards: &[WardOverview],
+) -> Result<Vec<String>, AllocError>
+    ensures { IfOk result (λ lines. map string_bytes lines.items ≡ map (λ w. ward_line (ward_view w)) wards.now) }
+{
+    let mut lines = Vec::new(alloc);
+    for ward in wards {
+        lines.push(ward.line(alloc)?)?;
+    }
+    Ok(lines)
+}
+
 /// Returns what is printed for a read that was refused or failed.
 pub(crate) fn stopped(stop: ReadError) -> LineOutcome
     ensures { page_of result ≡ page_stopped stop }

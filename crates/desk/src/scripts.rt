@@ -166,7 +166,7 @@ fn errand_of(order: Order<'_>) -> Option<Errand<'_>>
         Order::Perform(Task::InOffice(Job::Run(errand))) => Some(errand),
         Order::Perform(Task::InOffice(Job::Replay { .. })) => None,
         Order::Perform(Task::Init | Task::Migrate) => None,
-        Order::Copy { .. } | Order::Journal | Order::Serve { .. } => None,
+        Order::Copy { .. } | Order::Journal | Order::Mend(_) | Order::Serve { .. } => None,
         Order::Codes { .. } | Order::Slips { .. } => None,
     }
 }

@@ -39,6 +39,7 @@ const END_OF_HELP: &str =
   journal            What was accepted, as a script of orders that makes the same office
   replay FILE        Sends the orders of a text file, one per line, up to a refusal
   copy NEW           Makes a copy of the office, in a file that isn't there yet
+  mend NEW           Makes a new office without some orders, or with others in their place
   codes FILE CLERKS  Writes a new file of codes for clerks, such as 1-40, to cut into slips
   forms FORM SOURCE  A form as a page to print (HTML): covers, adjudication, lots or declaration
                      of a ward, or slips of a file of codes
@@ -125,6 +126,10 @@ fn arg_of<'a>(alloc: Global, word: Word) -> Arg<'a>
             arg.value_parser(value_parser!(u32))
         }
         Kind::Texts => arg.action(ArgAction::Append),
+        Kind::Options => {
+            let value = arg.long(word.name).value_name("TEXT");
+            value.action(ArgAction::Append)
+        }
         Kind::Flag => arg.long(word.name).action(ArgAction::SetTrue),
     }
 }

@@ -8,7 +8,7 @@ ghost use Rattle.server.specs.ServedOrders.{AsksSo, IsForFile};
 
 use crate::server_settings::FileNumbers;
 use desk::version::VERSION;
-use desk::{Failure, Job, Order, Task, WordsFault, order};
+use desk::{Failure, Job, MendOrder, Order, Task, WordsFault, order};
 use order_protocol::{DecodeError, MessagePart, OrderMessage, decode_message};
 use std::alloc::Global;
 use store::Fault;
@@ -22,6 +22,8 @@ pub enum ServedOrder<'a> {
     Copy(&'a str),
     /// To print the journal of the office.
     Journal,
+    /// A new office from that journal, in a new file, with some orders left out and others replaced.
+    Mend(MendOrder<'a>),
     /// Nothing: the order isn't carried out, for this reason.
     Refused(Failure),
     /// Nothing: its words aren't an order.
@@ -77,6 +79,7 @@ pub fn served_order_by<'w>(alloc: Global, words: &'w [&'w str]) -> ServedOrder<'
         Ok(Order::Perform(Task::InOffice(job))) => ServedOrder::Do(job),
         Ok(Order::Copy { path }) => ServedOrder::Copy(path),
         Ok(Order::Journal) => ServedOrder::Journal,
+        Ok(Order::Mend(asked)) => ServedOrder::Mend(asked),
         Ok(
             Order::Perform(Task::Init | Task::Migrate)
             | Order::Serve { .. }

@@ -6,7 +6,7 @@ use super::clients::{Evening, LimitedWriter, Port, TestNetwork, joined, pages_of
 use super::loads::loads;
 use codes::Codes;
 use desk::perform::perform;
-use desk::{Failure, Folder, Order, copy_office, order, tell_failure, tell_words};
+use desk::{Failure, Folder, MendOrder, Order, copy_office, order, tell_failure, tell_words};
 use office::{Answer, Office, ReadError, RunOutcome, Work};
 use register::Request;
 use server::{Destination, FileNumbers, ServeError, ServedFile, ServerSettings, serve_connections};
@@ -159,6 +159,7 @@ fn give<S: Alter + Drop, O: Sink, E: Sink>(
             Order::Serve { .. }
             | Order::Copy { .. }
             | Order::Journal
+            | Order::Mend(_)
             | Order::Codes { .. }
             | Order::Slips { .. },
         ) => { (tell_failure(Failure::Output, err), conn) }
@@ -288,7 +289,7 @@ fn terms_of(held: &Option<Codes>) -> ServerSettings<'_, Unaided> {
     }
 }
 
-/// A file that can have neither a copy nor a journal.
+/// A file that can have no copy, no journal, and no new office made from it.
 #[derive(Clone, Copy)]
 pub struct Unaided;
 
@@ -316,6 +317,17 @@ impl ServedFile for Unaided {
         err: &mut E,
     ) -> u8 {
         tell_failure(Failure::Office(Fault::Memory), err)
+    }
+
+    fn mend<S: Alter, O: Sink, E: Sink>(
+        &self,
+        _office: &mut Office<S>,
+        _asked: &MendOrder<'_>,
+        _to: Destination<'_>,
+        _out: &mut O,
+        err: &mut E,
+    ) -> u8 {
+        tell_failure(Failure::CopyFailed, err)
     }
 }
 

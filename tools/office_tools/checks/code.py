@@ -16,8 +16,8 @@ QUOTED = "SC2016,SC1003"
 PARAMETERS, LINES, CHARACTERS = 5, 40, 200
 LARGE = {
     "checker": "flaw_remedy", "count": "figured lost_from", "sheet": "style write_page write_row", "tables": "select_text",
-    "desk": "replay run send_all run_script run_steps tell_numbered",
-    "count_office": "fill fill_open finish dispatch_order perform_locked", "store_tests": "are_refused give",
+    "desk": "mend_open replay run send_all run_script run_steps tell_numbered",
+    "count_office": "fill fill_mended fill_open finish mend_served dispatch_order perform_locked", "store_tests": "are_refused give",
 }
 PARAMETER, FIXED = re.compile(r"[(,]\s*(?:mut )?(?!alloc:)(?:\([^()]*\)|[a-z_]\w*):(?!:)"), re.compile(r'.*"[^"]{60,}')
 
