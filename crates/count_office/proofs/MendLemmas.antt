@@ -1,4 +1,4 @@
--- What is printed for a new office, and for its files, which are closed after it.
+-- What is printed for a new office, and for its files, which are closed afterwards.
 use Rattle.std.proofs.Common.{◌≡◌, ◌⊎◌, ◌∙◌, ℕ, Bool, true, false, true≢false, List, Option, inl, inr, refl, sym, ap, subst, arith, eqb-true}
 use Rattle.std.specs.Prelude.{◌==◌}
 use Rattle.sqlite.specs.Held.{Held}
@@ -41,11 +41,11 @@ module _ {O E : Type 0} (taken : O → Option (List ℕ)) (calls : O → ℕ) (t
       record { page = failed failure; cut = told.0; shown = told.1; is = is }
 
   module _ (P : Page → Type 0) where
-    -- a page, and perhaps after it that its files couldn't be closed
+    -- the page, possibly followed by the failure to close the files
     abbrev pub Ended : Page → Type 0
     Ended page = P page ⊎ ((made : Page) × P made × (page ≡ below made (failed CopyFailed)))
 
-    -- what is printed, and after it, with status 0, how its files are closed
+    -- what is printed, followed, with status 0, by the outcome of closing the files
     pub mend_closed : (out out_new : O) (err err_mid err_new : E) (status ends : ℕ) → Tells (outputs out err) (outputs out_new err_mid) status (λ cut page. P page)
         → (¬ (status ≡ 0) → (ends ≡ status) × (err_new ≡ err_mid)) → (status ≡ 0 → EndsCopy taken_err calls_err err_mid err_new ends)
         → Tells (outputs out err) (outputs out_new err_new) ends (λ cut page. Ended page)
@@ -81,7 +81,7 @@ module _ {O E : Type 0} (taken : O → Option (List ℕ)) (calls : O → ℕ) (t
         by true e = let zero = eqb-true status 0 e in at_zero zero (whole zero)
         by false e = let it = other (λ zero. true≢false (sym (ap (λ n. n == 0) zero) ∙ e)) in alone it.0 it.1
 
-  -- the pages for the new office of one that was open
+  -- the pages for a new office made from an open one
   pub mend_ended : {S : Type 0} (state_of : Held S → State) (old new : OfficeValue S) (m : MendOrder) (before after : Outputs) (ends : ℕ)
       → Tells before after ends (λ cut page. Ended (λ (p : Page). WhenOpenAt state_of old new (λ s. IsMendTold s m p)) page)
       → Tells before after ends (λ cut page. WhenOpenAt state_of old new (λ s. IsMendPage s m page))

@@ -34,11 +34,11 @@ made_for named clerks with_office count is counted =
 pub unmade_for : (named : Option ClerksEntry) (clerks : ClerksEntry) (with_office : Bool) (why : CodesError) → Some clerks ≡ named → IsPageOfNewCodes named with_office (untaken why)
 unmade_for named clerks with_office why is = subst (λ (n : Option ClerksEntry). IsPageOfNewCodes n with_office (untaken why)) is (inr (why, refl))
 
--- a page of the order for slips that was shown is told
+-- a page that was shown is printed, if it is one of the order for slips
 pub slips_told : (old new : Outputs) (status : ℕ) (origin : List ℕ) (page : Page) → Shows old new page status → IsPageOfSlips origin page
     → Tells old new status (λ _ page. IsPageOfSlips origin page)
 slips_told old new status origin page shown is = record { page = page; cut = shown.0; shown = shown.1; is = is }
 
--- the slips of the clerks of a file of codes
+-- the slips for the clerks of a file of codes are a page of that order
 pub slips_printed : (origin text page : List ℕ) → ((entries : List CodeEntry) × (codes_in text ≡ Ok entries) × (page ≡ slips_form origin entries)) → IsPageOfSlips origin (printed page)
 slips_printed origin text page found = inl (text, found.0, found.1, ap printed found.2)

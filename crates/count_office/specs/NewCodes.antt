@@ -24,7 +24,7 @@ abbrev pub IsPageOfNewCodes : Option ClerksEntry → Bool → Page → Type 0
 IsPageOfNewCodes None with_office page = page ≡ codes_page NoClerks
 IsPageOfNewCodes (Some clerks) with_office page = (page ≡ made_page with_office (clerks.last + 1 - clerks.first)) ⊎ ((why : CodesError) × (page ≡ untaken why))
 
--- What is printed of the order for slips, with the origin of the pages: the slips of the clerks of a file of codes; or why there are none.
+-- what the order for slips prints, given the origin of the keying pages: the slips for the clerks of a file of codes, or why there are none
 abbrev pub IsPageOfSlips : List ℕ → Page → Type 0
 IsPageOfSlips origin page =
     ((text : List ℕ) × (entries : List CodeEntry) × (codes_in text ≡ Ok entries) × (page ≡ printed (slips_form origin entries))) ⊎ ((why : CodesError) × (page ≡ untaken why))

@@ -1,4 +1,4 @@
-//! A file of clerks' codes: read, if its permissions let nobody else read it; or newly made; or printed as slips, to be cut.
+//! A file of clerks' codes: read, if its permissions let nobody else read it; newly made; or printed as slips, to be cut out.
 
 ghost use Rattle.std.specs.Prelude.{◌≡◌, ◌-◌, ◌^◌, ◌<◌, IfErr, IfOk, None, OnOk, string_bytes};
 ghost use Rattle.codes.specs.Drawing.{IsMadeByDraws, IsUnmadeByDraws};
@@ -108,8 +108,8 @@ pub fn tell_untaken<E: Sink>(why: CodesError, err: &mut E) -> u8
     }
 }
 
-/// Prints a page with a slip for each clerk of a file of codes, or why there is none, and returns the status: 0; 1 for a codes fault;
-/// 3 if an allocation or an output failed.
+/// Prints a page with a slip for each clerk of a file of codes, or why there is none. Returns 0; 1 for a codes fault; or 3 if an
+/// allocation or an output failed.
 pub fn print_slips<O: Sink, E: Sink>(
     rt: &HostRuntime,
     path: &str,

@@ -270,7 +270,7 @@ fn follow_words<O: Sink, E: Sink>(rt: &HostRuntime, words: &[&str], out: &mut O,
             };
             make_codes_file(rt, asked, out, err)
         }
-        // nor does printing slips
+        // Nor does printing slips.
         Ok(Order::Slips { path, address }) => print_slips(rt, path, address, out, err),
         Ok(order) => {
             let request = OrderRun {

@@ -1,5 +1,5 @@
-//! A new office from the journal of another, in new files of this machine: of an office that an order opened or of one that is being
-//! served.
+//! Makes a new office from the journal of another, in new files on this machine. The other is an office that an order opened, or one
+//! that is being served.
 
 ghost use Rattle.std.specs.Prelude.{◌-◌, ◌^◌, ◌<◌, IfOk};
 ghost use Rattle.sqlite.specs.Effect.{Database};
@@ -34,7 +34,7 @@ fn trial_in_memory(alloc: Global) -> Result<MendTrial<MemStore>, AllocError>
     Ok(MendTrial { journal, mended })
 }
 
-/// Makes a new office from the journal of an open one, which stays open, in files that were made for it, and closes them.
+/// Makes a new office from the journal of an open one, which stays open, in the files that were made for it. Closes those files.
 fn fill_mended<S: Alter, D: Disk + Drop, O: Sink, E: Sink>(
     rt: &HostRuntime,
     new_file: &NewFile,
@@ -69,7 +69,7 @@ fn fill_mended<S: Alter, D: Disk + Drop, O: Sink, E: Sink>(
     finish(rt, new_file, made, status, state, err)
 }
 
-/// Makes a new office from the journal of an open one, at a path where nothing exists yet. The open one stays open, and is only read.
+/// Makes a new office from the journal of an open one, at a path where nothing exists yet. The open one stays open and is only read.
 pub fn mend_served<S: Alter, O: Sink, E: Sink>(
     rt: &HostRuntime,
     office: &mut Office<S>,
@@ -101,7 +101,7 @@ pub fn mend_served<S: Alter, O: Sink, E: Sink>(
     }
 }
 
-/// Makes a new office from the journal of the one in a connection's database, which is only read.
+/// Makes a new office from the journal of the office in a connection's database, which is only read.
 pub fn mend<S: Alter, O: Sink, E: Sink>(
     rt: &HostRuntime,
     conn: Connection<S>,

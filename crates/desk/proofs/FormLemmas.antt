@@ -1,8 +1,8 @@
--- One more entry of a form.
+-- Adds one more entry to a form.
 use Rattle.std.proofs.Common.{◌≡◌, ℕ, ◌+◌, ◌<◌, List, [], ◌∷◌, ◌++◌, map, length, get_or, drop, suc, sym, ap, ◌∙◌, append_assoc, add-one, drop-cons}
 use Rattle.std.proofs.lemmas.List.{map-append}
 
--- if the entries so far, and those of what is left, are all, they are so with the next one
+-- if the entries so far, followed by those of the remaining items, are all entries, then this still holds with the next entry
 pub entry_more : {A B C V : Type 0} (shown : B → C) (of : V → C) (view : A → V) (xs : List A) (k : ℕ) (x : A) (before after : List B) (next : B) (all : List C) → k < length xs
     → x ≡ get_or xs k x → after ≡ before ++ next ∷ [] → shown next ≡ of (view x) → map shown before ++ map of (map view (drop k xs)) ≡ all
     → map shown after ++ map of (map view (drop (k + 1) xs)) ≡ all

@@ -41,13 +41,13 @@ pub stop_found : {X Y : Type 0} (view : Y → X) (shown : X → Page) (s : Offic
 stop_found view shown s told (Refused why) page closed old st read cause is = inl (is ∙ sym (ap (page_found shown) read.0), read.1)
 stop_found view shown s told (Fault fault) page closed old st read cause is = inr (fault, is, (cause, read))
 
--- the same of what a call returned, which says what it would have found
+-- the same for the result of a call, whose type also says what it would have found
 pub stop_found_of : {X Y : Type 0} (found : Result Y ReadError) (view : Y → X) (shown : X → Page) (s : OfficeState) (told : Result X Reason) (stop : ReadError) (page : Page)
     (closed : Bool) (old st : State) → Read view s told (Err stop) closed st → ReadFailsBy old st stop
     → page ≡ page_stopped stop → IsFound s shown told page closed old st
 stop_found_of found view shown s told stop page closed old st = stop_found view shown s told stop page closed old st
 
--- a form that was made of what was found, or the lack of memory for it, is printed
+-- the form made from what was found is printed, or that an allocation for it failed
 pub made_found : {X Y O E : Type 0} (view : Y → X) (shown : X → Page) (printed_of : O → Page) (s : OfficeState) (told : Result X Reason) (y : Y) (r : Result O E) (page : Page)
     (closed : Bool) (old st : State) → Read view s told (Ok y) closed st → IfOk r (λ o. printed_of o ≡ shown (view y)) → IfOk r (λ o. page ≡ printed_of o)
     → OnErr r (page ≡ failed (Office Memory)) → IsFound s shown told page closed old st

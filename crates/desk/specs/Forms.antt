@@ -1,4 +1,4 @@
--- The forms of a ward, by what the office has of it.
+-- The forms of a ward, given what the office knows about it, and the slips of clerks.
 use Rattle.std.specs.Prelude.{ℕ, ◌==◌, ◌-◌, List, [], ◌∷◌, codes, find, length, map, Option, Some, None}
 use Rattle.clap.specs.Words.{Text}
 use Rattle.codes.specs.Files.{CodeEntry}
@@ -22,11 +22,11 @@ use Rattle.desk.specs.declared.lines.NoForm.TheVariants.{NoLot, Undeclared}
 
 -- ---- what forms show
 
--- a candidate
+-- a candidate as a form shows it
 abbrev pub candidate_of : CandidateEntry → CandidateShown
 candidate_of c = record { number = c.number; name = c.name }
 
--- the candidate of some number
+-- the candidate with this number, as a form shows it
 abbrev pub candidate_numbered : List CandidateEntry → ℕ → CandidateShown
 candidate_numbered candidates number = record { number = number; name = name_of candidates number }
 
@@ -38,7 +38,7 @@ cover_of v = record { batch = v.batch.number; ward = v.batch.ward; size = v.batc
 abbrev pub doubtful_of : DoubtfulView → DoubtfulEntry
 doubtful_of v = record { batch = v.counted.batch; paper = v.counted.paper }
 
--- the slip of a clerk, with the origin of the pages
+-- the slip of a clerk, given the origin of the keying pages
 abbrev pub slip_of : Text → CodeEntry → SlipEntry
 slip_of origin entry = record { clerk = entry.clerk; code = entry.code; origin = origin }
 
@@ -49,7 +49,7 @@ purpose_of tied_for.Exclusion = purpose.Exclusion
 
 -- ---- the forms
 
--- the slips of clerks, with the origin of the pages
+-- the slips of clerks, given the origin of the keying pages
 abbrev pub slips_form : Text → List CodeEntry → Text
 slips_form origin entries = slips_page (map (slip_of origin) entries)
 
@@ -57,11 +57,11 @@ slips_form origin entries = slips_page (map (slip_of origin) entries)
 abbrev pub covers_form : List BatchView → Page
 covers_form views = printed (covers_page (map cover_of views))
 
--- the doubtful papers of a ward
+-- the form for adjudicating the doubtful papers of a ward
 abbrev pub adjudication_form : ℕ → DoubtfulPapersView → Page
 adjudication_form ward v = printed (verdicts_page ward (map candidate_of v.candidates) (map doubtful_of v.papers))
 
--- the lot that a count waits for
+-- the form for the lot that a count waits for, if it waits for one
 abbrev pub due_form : ℕ → List CandidateEntry → Due → Page
 due_form ward candidates (Act action) = unformed NoLot
 due_form ward candidates (Lot at kind tied) = printed (lot_page ward at (purpose_of kind) (map (candidate_numbered candidates) tied))
@@ -73,13 +73,13 @@ lots_form ward (papers_stand status) = unformed NoLot
 lots_form ward (count_goes stage due candidates) = due_form ward candidates due
 lots_form ward nothing_comes = unformed NoLot
 
--- the declaration of a ward, by those elected if it is declared
+-- the declaration of a ward, given who is elected if it is declared
 abbrev pub elected_form : WardView → Option (List ℕ) → Page
 elected_form v None = unformed Undeclared
 elected_form v (Some elected) =
     printed (declaration_page v.ward.number v.ward.name v.ward.seats (map (candidate_numbered v.candidates) elected) (v.ward.seats - length elected))
 
--- the declaration of the ward of some number among all wards
+-- the declaration of the ward with this number, among all wards
 abbrev pub found_form : Option WardView → Page
 found_form None = unformed Undeclared
 found_form (Some v) = elected_form v v.elected

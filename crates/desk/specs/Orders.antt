@@ -101,7 +101,7 @@ papers = record { name = codes "papers"; kind = kind.Papers }
 abbrev pub texts : Text → WordEntry
 texts name = record { name = name; kind = kind.Texts }
 
--- any texts, each after `--` and the name, zero or more
+-- zero or more texts, each after `--` and the word's name
 abbrev pub options : Text → WordEntry
 options name = record { name = name; kind = kind.Options }
 
@@ -163,7 +163,8 @@ by_clerk clerk id asked = record { actor = clerk; id = id; asked = asked }
 
 -- ---- what an order means
 
--- what is to be done; or nothing, because a verdict, an origin or a digest is invalid, a title is given although nothing is shown in public, or the words after `forms` name no form
+-- What is to be done; or nothing. Nothing is done if a verdict, an origin or a digest is invalid, if a title is given although nothing is shown in public, or if the
+-- words after `forms` name no form.
 pub data Meant : Type 0 where
   make : Meant
   migrate : Meant
@@ -298,7 +299,7 @@ abbrev pub seal : ℕ → Text → Option ℕ → Meant
 seal ward id None = send (by_office id (ward_to_seal ward))
 seal ward id (Some papers) = seal_expected ward papers id
 
--- the form of a ward that has a name
+-- the form of a ward with this name, if there is one
 abbrev pub ward_form_in : Text → Option Form
 ward_form_in name =
     if bytes_eq name (codes "covers") then Some form.Covers else (
@@ -306,13 +307,13 @@ ward_form_in name =
     if bytes_eq name (codes "lots") then Some form.Lots else (
     if bytes_eq name (codes "declaration") then Some form.Declaration else None)))
 
--- the office prints a form of the ward of a number
+-- the office prints the form of the ward with this number; or nothing, if either is missing
 abbrev pub form_of_ward : Option Form → Option ℕ → Meant
 form_of_ward None ward = no_form
 form_of_ward (Some form) None = no_form
 form_of_ward (Some form) (Some ward) = ask (question.Form form ward)
 
--- the form of a name, by the word after it, and an address: slips of a file of codes have one, and a form of a ward has none
+-- the form with this name, given the word after the name and the optional address: slips of a file of codes need an address, and a form of a ward has none
 abbrev pub form_meant : Text → Text → Option Text → Meant
 form_meant name word None = form_of_ward (ward_form_in name) (number_in word)
 form_meant name word (Some address) = if bytes_eq name (codes "slips") then print_slips word address else no_form

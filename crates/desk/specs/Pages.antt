@@ -153,16 +153,16 @@ unsealed given_out expected = record {
   status = 1;
 }
 
--- why there is no form, in words
+-- the reason why there is no form, in words
 abbrev pub no_form_text : NoForm → Text
 no_form_text no_form.NoLot = codes "no lot is due"
 no_form_text no_form.Undeclared = codes "the ward is not declared"
 
--- that there is no form
+-- the page that says that there is no form
 abbrev pub unformed : NoForm → Page
 unformed why = record { out = []; err = joined (codes "no form: " ∷ no_form_text why ∷ codes "\n" ∷ []); status = 1 }
 
--- that no new office is made from the journal, and why
+-- the page that says why no new office was made from the journal
 abbrev pub unmended : Text → Page
 unmended text = record { out = []; err = text; status = 1 }
 

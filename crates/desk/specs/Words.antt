@@ -59,7 +59,7 @@ number_option_rule numbers name = record (new_rule name) { long = Some name; val
 abbrev pub texts_rule : Text → Rule
 texts_rule name = record (new_rule name) { action = Some Append }
 
--- any values, each after `--` and the word's name
+-- zero or more values, each after `--` and the word's name
 abbrev pub options_rule : Text → Rule
 options_rule name = record (new_rule name) { long = Some name; value_names = 1; action = Some Append }
 
@@ -231,8 +231,8 @@ IsToldOf kinds words_fault.TitleAlone = kinds ≡ []
 IsToldOf kinds words_fault.Form = kinds ≡ []
 IsToldOf kinds (words_fault.Words text status) = (list_any (λ kind. status_of_kind kind == status) kinds ≡ true) × (string_bytes text ≢ [])
 
--- if it is reported that a verdict, an origin or a digest is invalid, that a title is given although nothing is shown in public, or that the words after `forms` name
--- no form, then this is what the words mean
+-- What is reported is what the words mean: that a verdict, an origin or a digest is invalid, that a title is given although nothing is shown in public, or that the
+-- words after `forms` name no form.
 abbrev pub IsNoneMeant : Option Meant → WordsFault → Type 0
 IsNoneMeant meant words_fault.Memory = ⊤
 IsNoneMeant meant words_fault.Verdict = meant ≡ Some no_verdict

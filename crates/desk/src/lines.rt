@@ -22,12 +22,12 @@ use thiserror::Error;
 /// match.
 const NO_JOURNAL: &str = "no journal: what was written does not make this office";
 
-/// Why there is no form.
+/// The reason why there is no form.
 #[derive(Clone, Copy)]
 pub(crate) enum NoForm {
     /// No lot is due in the ward.
     NoLot,
-    /// The ward isn't declared, or there is none.
+    /// The ward isn't declared, or doesn't exist.
     Undeclared,
 }
 
@@ -60,9 +60,9 @@ pub(crate) enum LineOutcome {
     Unjournalled,
     /// A ward wasn't sealed because the number of papers given out differs from the expected number.
     Unsealed { given_out: u128, expected: u32 },
-    /// There is no form.
+    /// The ward has no such form yet.
     Unformed(NoForm),
-    /// No new office is made from the journal. This text, whose lines are terminated, says why.
+    /// No new office was made from the journal. This text, whose lines are terminated, says why.
     Unmended(String),
 }
 
@@ -304,7 +304,7 @@ pub fn tell_codes_made<O: Sink, E: Sink>(count: u32, out: &mut O, err: &mut E) -
     tell_text(&pieces, out, err)
 }
 
-/// Prints the page of clerks' slips, and returns the status: 0, or 3 if the output fails.
+/// Prints the page with clerks' slips. Returns 0, or 3 if the output fails.
 pub fn tell_slips<O: Sink, E: Sink>(page: &str, out: &mut O, err: &mut E) -> u8
     requires out { O.failed out.old < 2 ^ 64 - 1 }
     requires err { E.failed err.old < 2 ^ 64 - 1 }
@@ -352,7 +352,7 @@ fn tell_unsealed<E: Sink>(line: Option<usize>, given_out: u128, expected: u32, e
     tell_error(line, &pieces, 1, err)
 }
 
-/// Returns why there is no form, in words.
+/// Returns the reason why there is no form, in words.
 fn no_form_text(why: NoForm) -> &'static str
     ensures { result.now ≡ no_form_text why }
 {
@@ -362,7 +362,7 @@ fn no_form_text(why: NoForm) -> &'static str
     }
 }
 
-/// Prints that there is no form, and returns the status: 1, or 3 if the error output fails.
+/// Prints that there is no form. Returns 1, or 3 if the error output fails.
 fn tell_unformed<E: Sink>(line: Option<usize>, why: NoForm, err: &mut E) -> u8
     requires { E.failed err.old < 2 ^ 64 - 1 }
     ensures { IsErrorTold E.taken E.failed err.old err.new (line_front line ++ (unformed why).err) 1 result }
@@ -466,8 +466,8 @@ fn tell_noted<O: Sink, E: Sink>(
 }
 
 /// Prints an outcome and returns its status. The status is 0 if the outcome is printed on the output. If it is printed on the error
-/// output, the status is 1 for the refusal of a request, a file or a mending, for a form that there isn't, and for an office without
-/// a journal, and 3 for a fault or a file that couldn't be read. The status is also 3 if either output fails, in which case only a
+/// output, the status is 3 for a fault or a file that couldn't be read, and 1 otherwise: for a refusal of a request or a file, and for
+/// a seal, a form, a journal or a mended office that there isn't. The status is also 3 if either output fails, in which case only a
 /// prefix was written to it. If the outcome is that of a script's line, what is printed on the error output begins with the line
 /// number.
 pub(crate) fn tell<O: Sink, E: Sink>(

@@ -1,7 +1,7 @@
-//! A new office from the journal of another, with some orders left out and others in the place of some.
+//! Makes a new office from the journal of another, with some orders left out and others replaced.
 //!
-//! The journal's orders are read back and replayed in an empty office, as for `journal`. Then they are sent to another empty office
-//! with the changes. That office is copied to the new database, whole or not at all. The first one is only read.
+//! The orders of the journal are read back and replayed in an empty office, as for `journal`. Then they are sent, with the changes, to
+//! another empty office, which is copied to the new database, whole or not at all. The existing office is only read.
 
 ghost use Rattle.std.specs.Prelude.{◌≡◌, ◌⊎◌, ◌++◌, ◌-◌, ◌^◌, ◌<◌, false, codes, map, string_bytes, IfErr, IfOk};
 ghost use Rattle.std.specs.List.{list_any};
@@ -38,24 +38,25 @@ use std::alloc::{AllocError, Global};
 use store::Fault;
 use streams::Sink;
 
-/// What is printed if the words after `--with` are no orders to send.
+/// What is printed if the texts after `--with` aren't orders that can be sent.
 const UNSENT: &str =
     "not mended: each --with is an order that is sent, as a line of a script, and that names no file\n";
 
-/// Two connections to empty databases: in one the journal is replayed, in the other the new office is made before it is written.
+/// Two connections to empty databases: one in which the journal is replayed, and one in which the new office is made before it is
+/// copied.
 pub struct MendTrial<T: Alter> {
     pub journal: Connection<T>,
     pub mended: Connection<T>,
 }
 
-/// The orders of an office, as its journal has them, and the line on each of its wards.
+/// The orders of an office, as in its journal, and the line on each of its wards.
 #[derive(Drop)]
 struct Journalled {
     orders: Vec<Request>,
     wards: Vec<String>,
 }
 
-// ---- the orders that are to take a place
+// ---- the orders that replace others
 
 /// Appends a line.
 fn put_line(text: &mut String, words: &str) -> Result<(), AllocError>
@@ -65,7 +66,7 @@ fn put_line(text: &mut String, words: &str) -> Result<(), AllocError>
     text.push_str("\n")
 }
 
-/// Returns a script of these lines.
+/// Returns the script with these lines.
 fn script_of(alloc: Global, lines: &[String]) -> Result<String, AllocError>
     ensures { IfOk result (λ text. string_bytes text ≡ script_of (map string_bytes lines.now)) }
 {
@@ -76,7 +77,7 @@ fn script_of(alloc: Global, lines: &[String]) -> Result<String, AllocError>
     Ok(text)
 }
 
-/// Returns that the words after `--with` are no orders to send.
+/// Returns the outcome for texts after `--with` that aren't orders that can be sent.
 fn unsent(alloc: Global) -> LineOutcome
     ensures { (page_of result ≡ unmended unsent_text) ⊎ IsUnread (page_of result) }
 {
@@ -86,7 +87,7 @@ fn unsent(alloc: Global) -> LineOutcome
     }
 }
 
-/// Returns the orders of these lines, or why there are none.
+/// Parses these lines into orders, or returns the outcome if they aren't orders that can be sent or if an allocation fails.
 fn orders_in(alloc: Global, lines: &[String]) -> Result<Vec<Request>, LineOutcome>
     ensures ok { IfOk result (λ orders. IsScriptOf (script_of (map string_bytes lines.now)) orders.items) }
     ensures err { IfErr result (λ outcome. (page_of outcome ≡ unmended unsent_text) ⊎ IsUnread (page_of outcome)) }
@@ -101,10 +102,10 @@ fn orders_in(alloc: Global, lines: &[String]) -> Result<Vec<Request>, LineOutcom
     }
 }
 
-// ---- the office before
+// ---- the existing office
 
-/// Returns the orders of the journal of the office of these rows, or why there are none. They are replayed in the empty database of a
-/// connection, which is returned.
+/// Returns the orders in the journal of the office with these rows, or the outcome if there are none. Replays them in the empty
+/// database of a connection, which is returned.
 fn orders_of<T: Alter>(
     alloc: Global,
     rows: &Rows,
@@ -146,8 +147,8 @@ fn wards_of<S: Alter>(alloc: Global, office: &mut Office<S>) -> Result<Vec<Strin
     }
 }
 
-/// Returns the orders of an open office, which stays open, and the line on each of its wards; or why there are none. The orders are
-/// replayed in the empty database of a connection, which is returned.
+/// Returns the orders of an open office, which stays open, and the line on each of its wards; or the outcome if there are none.
+/// Replays the orders in the empty database of a connection, which is returned.
 fn orders_and_wards<S: Alter, T: Alter>(
     alloc: Global,
     office: &mut Office<S>,
@@ -176,7 +177,7 @@ fn orders_and_wards<S: Alter, T: Alter>(
 
 // ---- what is printed
 
-/// Returns whether one of these lines is this one.
+/// Returns whether this line is among the lines.
 fn has_line(lines: &[String], words: &str) -> bool
     ensures { result ≡ list_any (bytes_eq words.now) (map string_bytes lines.now) }
 {
@@ -188,7 +189,7 @@ fn has_line(lines: &[String], words: &str) -> bool
     false
 }
 
-/// Appends a line after a mark, unless others have it.
+/// Appends a mark and a line, unless the line is one of the others.
 fn put_missing(
     text: &mut String,
     others: &[String],
@@ -204,7 +205,7 @@ fn put_missing(
     put_line(text, words)
 }
 
-/// Appends those of some lines that others don't have, each after a mark.
+/// Appends those of our lines that theirs don't include, each after a mark.
 fn put_differing(
     text: &mut String,
     mark: &str,
@@ -219,7 +220,7 @@ fn put_differing(
     Ok(())
 }
 
-/// Returns what is printed of a new office, by the lines on wards of the office before and of the new one.
+/// Returns what is printed about a new office, given the lines on wards of the old office and of the new one.
 fn text_of(
     alloc: Global,
     mended: &Mended,
@@ -239,7 +240,7 @@ fn text_of(
 
 // ---- the new office
 
-/// The new office, before it is copied to its file.
+/// The new office before it is copied to its file.
 struct NewOffice<T: Alter> {
     office: Office<T>,
 }
@@ -263,7 +264,7 @@ impl<T: Alter> Recipient for NewOffice<T> {
     }
 }
 
-/// Returns the fault that ends an order to mend.
+/// Returns the corresponding fault of the office.
 fn fault_of(fault: MendFault) -> Fault {
     match fault {
         MendFault::Memory => Fault::Memory,
@@ -271,8 +272,8 @@ fn fault_of(fault: MendFault) -> Fault {
     }
 }
 
-/// Sends the orders with the changes to an empty office, and returns what is printed of it. These are the lines on wards of the office
-/// before.
+/// Sends the orders, with the changes, to an empty office, and returns what is printed about it. `before` has the lines on wards of
+/// the old office.
 fn report<T: Alter>(
     alloc: Global,
     new: &mut NewOffice<T>,
@@ -296,7 +297,7 @@ fn report<T: Alter>(
     }
 }
 
-/// Makes the office of the orders with the changes in an empty office, and copies it to the new database.
+/// Sends the orders, with the changes, to an empty office, and copies the result to the new database.
 fn copied<T: Alter, N: Alter>(
     alloc: Global,
     made: &mut NewOffice<T>,
@@ -322,8 +323,8 @@ fn copied<T: Alter, N: Alter>(
     }
 }
 
-/// Makes the office of the orders with the changes in the empty database of a connection, which is returned, and copies it to the new
-/// database.
+/// Makes the office that results from the orders, with the changes, in the empty database of a connection, which is returned. Copies
+/// it to the new database.
 fn made<T: Alter, N: Alter>(
     alloc: Global,
     blank: Connection<T>,
@@ -349,7 +350,7 @@ fn made<T: Alter, N: Alter>(
     }
 }
 
-/// Makes the new office, unless the changes can't be made to the orders.
+/// Makes the new office if the changes can be made to the orders.
 fn checked<T: Alter, N: Alter>(
     alloc: Global,
     blank: Connection<T>,
@@ -381,7 +382,8 @@ fn checked<T: Alter, N: Alter>(
     }
 }
 
-/// Makes a new office from the journal of an open one, which stays open, and returns the outcome and what the new database contains.
+/// Makes a new office from the journal of an open one, which stays open. Returns the outcome, what the new database contains, and the
+/// connections.
 fn mended_open<S: Alter, T: Alter, N: Alter>(
     alloc: Global,
     office: &mut Office<S>,
@@ -423,17 +425,18 @@ fn mended_open<S: Alter, T: Alter, N: Alter>(
     (outcome, state, MendTrial { journal, mended })
 }
 
-/// Makes a new office from the journal of an open one, which stays open, in the empty database of another connection. Prints what was
-/// left out, what was replaced, and how the wards differ. Returns the status and what the new database contains. The connections
-/// aren't closed.
+/// Makes a new office from the journal of an open one, which stays open, in the empty database of another connection. Prints which
+/// orders were left out, which were replaced, and how the wards differ. Returns the status, what the new database contains, and the
+/// connections of the trial, which aren't closed.
 ///
-/// The orders are those of the journal, in its sequence, which lead to the very state of the office: they are replayed in the first
-/// database of the trial. Then they are sent to an empty office in the second one, as [`mend`](mending) says. The new database gets that
-/// office in one transaction, whole or not at all. So it is at the state that the resulting list of orders leads to, each of which was
-/// accepted, and every order of the office is one of them, unless a line is printed that it was left out or replaced.
+/// The orders are those of the journal, in its sequence. They are replayed in the first database of the trial, to check that they lead
+/// to exactly the state of the office. Then they are sent, with the changes, to an empty office in the second one, as specified by
+/// [`mend`](mending). That office is copied to the new database in one transaction, whole or not at all. So the new database has the
+/// state that the resulting list of orders leads to, and each order in that list was accepted. Every order of the old office is in
+/// that list unless a line says that it was left out or replaced.
 ///
-/// If a name is that of no order, or an order is to take the place of none or of several, the page says so, with status 1, and nothing
-/// is made. The office is only read, whatever the outcome. A new database that can't be written is 110.
+/// If a name isn't that of an order, or an order after `--with` doesn't replace exactly one, the page says so with status 1, and no
+/// office is made. The old office is only read, whatever the outcome. If the new database can't be written, the failure is 110.
 pub fn mend_open<S: Alter, T: Alter, N: Alter, O: Sink, E: Sink>(
     alloc: Global,
     office: &mut Office<S>,

@@ -29,7 +29,7 @@ pub(crate) enum Kind {
     Papers,
     /// Zero or more texts, after the other words.
     Texts,
-    /// Any texts, each after `--` and the name, zero or more.
+    /// Zero or more texts, each after `--` and the name.
     Options,
     /// A flag: `--` followed by its name; optional.
     Flag,

@@ -435,7 +435,7 @@ fn replay<'a>(matches: &ArgMatches<'a>) -> Order<'a>
     }))
 }
 
-/// Returns the order that makes a new office from the journal of this one.
+/// Returns the order that makes a new office from this one's journal.
 fn mending<'a>(alloc: Global, matches: &ArgMatches<'a>) -> Result<Order<'a>, NoOrder>
     ensures ok { IfOk result (λ o. meaning_of (codes "mend") (rows_of (found_of matches.now)) ≡ Some (told o)) }
     ensures err { IfErr result (λ why. why ≡ NoOrder.Memory) }
@@ -492,7 +492,7 @@ fn asking<'a>(question: Question) -> Order<'a>
     in_office(Errand::Ask(question))
 }
 
-/// Returns the form of a ward that has a name.
+/// Returns the form of a ward with this name, if there is one.
 fn ward_form_in(name: &str) -> Option<Form>
     ensures { result ≡ ward_form_in name.now }
 {
@@ -505,7 +505,7 @@ fn ward_form_in(name: &str) -> Option<Form>
     }
 }
 
-/// Parses a number.
+/// Parses a number; `None` if the text isn't one.
 fn number_of(text: &str) -> Option<u32>
     ensures { result ≡ number_of text.now }
 {
@@ -515,7 +515,7 @@ fn number_of(text: &str) -> Option<u32>
     }
 }
 
-/// Returns the order for a form of the ward of a number.
+/// Returns the order that prints the form of the ward with this number, if there are both.
 fn form_of_ward<'a>(form: Option<Form>, ward: Option<u32>) -> Result<Order<'a>, NoOrder>
     ensures ok { IfOk result (λ o. told o ≡ form_of_ward form ward) }
     ensures err { IfErr result (λ why. (why ≡ NoOrder.BadForm) × (form_of_ward form ward ≡ no_form)) }
@@ -529,7 +529,7 @@ fn form_of_ward<'a>(form: Option<Form>, ward: Option<u32>) -> Result<Order<'a>, 
     }
 }
 
-/// Returns the order for the form of a name without an address, by the word after the name.
+/// Returns the order for the form with this name, given the word after the name, if there is no address.
 fn form_named<'a>(name: &str, word: &str) -> Result<Order<'a>, NoOrder>
     ensures ok { IfOk result (λ o. told o ≡ form_meant name.now word.now None) }
     ensures err { IfErr result (λ why. (why ≡ NoOrder.BadForm) × (form_meant name.now word.now None ≡ no_form)) }
@@ -537,7 +537,7 @@ fn form_named<'a>(name: &str, word: &str) -> Result<Order<'a>, NoOrder>
     form_of_ward(ward_form_in(name), number_of(word))
 }
 
-/// Returns the order for the form of a name with an address, by the word after the name.
+/// Returns the order for the form with this name, given the word after the name and an address.
 fn form_with_address<'a>(
     name: &str,
     word: &'a str,
@@ -556,6 +556,7 @@ fn form_with_address<'a>(
     }
 }
 
+/// Returns the order that prints a form of a ward, or slips of a file of codes.
 fn forms<'a>(matches: &ArgMatches<'a>) -> Result<Order<'a>, NoOrder>
     ensures ok { IfOk result (λ o. meaning_of (codes "forms") (rows_of (found_of matches.now)) ≡ Some (told o)) }
     ensures bad_origin { result ≡ Err NoOrder.BadOrigin → meaning_of (codes "forms") (rows_of (found_of matches.now)) ≡ Some no_origin }

@@ -29,7 +29,7 @@ pub struct ExpectedSeal<'a> {
     pub id: &'a str,
 }
 
-/// A form of a ward, to be printed and filled in.
+/// A form of a ward, to be printed and filled in by hand.
 #[derive(Clone, Copy, Debug)]
 pub enum Form {
     /// A cover for each batch.
@@ -38,7 +38,7 @@ pub enum Form {
     Adjudication,
     /// The lot that the count waits for.
     Lots,
-    /// The words of the declaration.
+    /// The wording of the declaration.
     Declaration,
 }
 
@@ -173,8 +173,8 @@ impl<'a> Task<'a> {
     }
 }
 
-/// An order to mend: the path of the new office, the names of the orders that are left out, and the lines of those that take the place
-/// of others.
+/// An order to mend: the path of the new office, the names of the orders to leave out, and the orders that replace others, each as a
+/// line of a script.
 #[derive(Debug, Drop)]
 pub struct MendOrder<'a> {
     pub path: &'a str,

@@ -256,7 +256,7 @@ fn lines_of<T: Lined>(alloc: Global, found: &[T]) -> Result<String, AllocError>
     Ok(text)
 }
 
-/// Returns the line on each ward, without its end.
+/// Returns the line on each ward, without its terminator.
 pub(crate) fn lines_on_wards(
     alloc: Global,
     wards: &[WardOverview],

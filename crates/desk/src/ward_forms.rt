@@ -32,7 +32,7 @@ use store::{BatchOverview, DoubtfulPaper, DoubtfulPapers, Fault, WardOverview};
 
 // ---- what forms show
 
-/// Returns all candidates, as a form shows them.
+/// Returns all candidates as a form shows them.
 fn candidates_of<'a>(
     alloc: Global,
     candidates: &'a [Candidate],
@@ -49,7 +49,7 @@ fn candidates_of<'a>(
     Ok(shown)
 }
 
-/// Returns the candidates of some numbers, as a form shows them.
+/// Returns the candidates with these numbers as a form shows them.
 fn numbered_of<'a>(
     alloc: Global,
     candidates: &'a [Candidate],
@@ -68,7 +68,7 @@ fn numbered_of<'a>(
     Ok(shown)
 }
 
-/// Returns the covers of batches.
+/// Returns the covers of the batches.
 fn covers_of(alloc: Global, batches: &[BatchOverview]) -> Result<Vec<Cover>, AllocError>
     ensures { IfOk result (λ covers. map cover_entry covers.items ≡ map cover_of (map batch_view batches.now)) }
 {
@@ -85,7 +85,7 @@ fn covers_of(alloc: Global, batches: &[BatchOverview]) -> Result<Vec<Cover>, All
     Ok(covers)
 }
 
-/// Returns the rows of doubtful papers.
+/// Returns the rows of the doubtful papers.
 fn rows_of(alloc: Global, papers: &[DoubtfulPaper]) -> Result<Vec<DoubtfulRow>, AllocError>
     ensures { IfOk result (λ rows. map doubtful_entry rows.items ≡ map doubtful_of (map doubtful_view papers.now)) }
 {
@@ -111,7 +111,7 @@ fn purpose_of(kind: TiedFor) -> LotPurpose
 
 // ---- the forms
 
-/// Returns the page with the covers of a ward's batches.
+/// Returns the page with the covers of a ward's batches, to be printed.
 fn covers_form(alloc: Global, batches: &[BatchOverview]) -> Result<LineOutcome, AllocError>
     ensures { IfOk result (λ outcome. page_of outcome ≡ covers_form (map batch_view batches.now)) }
 {
@@ -119,7 +119,7 @@ fn covers_form(alloc: Global, batches: &[BatchOverview]) -> Result<LineOutcome, 
     Ok(LineOutcome::Printed(covers_page(alloc, &covers)?))
 }
 
-/// Returns the page for the adjudication of a ward.
+/// Returns the page for adjudicating a ward's doubtful papers.
 fn adjudication_form(
     alloc: Global,
     ward: u32,
@@ -133,7 +133,7 @@ fn adjudication_form(
     Ok(LineOutcome::Printed(page))
 }
 
-/// Returns the page for the lot that a count waits for, if it waits for one.
+/// Returns the page for the lot that a count waits for, or that no lot is due.
 fn due_form(
     alloc: Global,
     ward: u32,
@@ -152,7 +152,7 @@ fn due_form(
     }
 }
 
-/// Returns the page for the lot that comes next in a ward, if one does.
+/// Returns the page for the lot that comes next in a ward, or that no lot is due.
 fn lots_form(alloc: Global, ward: u32, step: &NextStep) -> Result<LineOutcome, AllocError>
     ensures { IfOk result (λ outcome. page_of outcome ≡ lots_form ward (step_entry step.now)) }
 {
@@ -168,7 +168,7 @@ fn lots_form(alloc: Global, ward: u32, step: &NextStep) -> Result<LineOutcome, A
     }
 }
 
-/// Returns the page with the declaration of a ward, if it is declared.
+/// Returns the page with the declaration of a ward, or that the ward isn't declared.
 fn elected_form(alloc: Global, ward: &WardOverview) -> Result<LineOutcome, AllocError>
     ensures { IfOk result (λ outcome. page_of outcome ≡ elected_form (ward_view ward.now) (ward_view ward.now).elected) }
 {
@@ -182,7 +182,7 @@ fn elected_form(alloc: Global, ward: &WardOverview) -> Result<LineOutcome, Alloc
     Ok(LineOutcome::Printed(page))
 }
 
-/// Returns the page with the declaration of the ward of some number, if there is one that is declared.
+/// Returns the page with the declaration of the ward with this number, or that there is no such declared ward.
 fn declaration_form(
     alloc: Global,
     ward: u32,
@@ -198,7 +198,7 @@ fn declaration_form(
     Ok(LineOutcome::Unformed(NoForm::Undeclared))
 }
 
-/// Returns a form that was made; or that an allocation failed.
+/// Returns the outcome with the form, or that an allocation failed.
 fn made(form: Result<LineOutcome, AllocError>) -> LineOutcome
     ensures ok { IfOk form (λ outcome. page_of result ≡ page_of outcome) }
     ensures err { OnErr form (page_of result ≡ failed (Failure.Office Fault.Memory)) }
@@ -209,7 +209,7 @@ fn made(form: Result<LineOutcome, AllocError>) -> LineOutcome
     }
 }
 
-/// Returns the covers of a ward's batches, or why there are none.
+/// Reads a ward's batches from the office, and returns their covers, or why there are none.
 fn covers_asked<S: Alter>(alloc: Global, office: &mut Office<S>, ward: u32) -> LineOutcome
     ensures found { WhenOpenAt (state S.Store) office.old office.new
         (λ s. IsAskedOf s (Question.Form Form.Covers ward) (page_of result) office.new.closed (state S.Store office.old.held) (state S.Store office.new.held)) }
@@ -221,7 +221,7 @@ fn covers_asked<S: Alter>(alloc: Global, office: &mut Office<S>, ward: u32) -> L
     }
 }
 
-/// Returns the form for the adjudication of a ward, or why there is none.
+/// Reads a ward's doubtful papers from the office, and returns the form for adjudicating them, or why there is none.
 fn adjudication_asked<S: Alter>(alloc: Global, office: &mut Office<S>, ward: u32) -> LineOutcome
     ensures found { WhenOpenAt (state S.Store) office.old office.new
         (λ s. IsAskedOf s (Question.Form Form.Adjudication ward) (page_of result) office.new.closed (state S.Store office.old.held) (state S.Store office.new.held)) }
@@ -233,7 +233,7 @@ fn adjudication_asked<S: Alter>(alloc: Global, office: &mut Office<S>, ward: u32
     }
 }
 
-/// Returns the form for the lot that is due in a ward, or why there is none.
+/// Reads from the office what comes next in a ward, and returns the form for the lot that is due, or why there is none.
 fn lot_asked<S: Alter>(alloc: Global, office: &mut Office<S>, ward: u32) -> LineOutcome
     ensures found { WhenOpenAt (state S.Store) office.old office.new
         (λ s. IsAskedOf s (Question.Form Form.Lots ward) (page_of result) office.new.closed (state S.Store office.old.held) (state S.Store office.new.held)) }
@@ -245,7 +245,7 @@ fn lot_asked<S: Alter>(alloc: Global, office: &mut Office<S>, ward: u32) -> Line
     }
 }
 
-/// Returns the declaration of a ward, or why there is none.
+/// Reads the wards from the office, and returns the declaration of one of them, or why there is none.
 fn declaration_asked<S: Alter>(alloc: Global, office: &mut Office<S>, ward: u32) -> LineOutcome
     ensures found { WhenOpenAt (state S.Store) office.old office.new
         (λ s. IsAskedOf s (Question.Form Form.Declaration ward) (page_of result) office.new.closed (state S.Store office.old.held) (state S.Store office.new.held)) }
@@ -257,7 +257,7 @@ fn declaration_asked<S: Alter>(alloc: Global, office: &mut Office<S>, ward: u32)
     }
 }
 
-/// Returns a form of a ward, or why there is none.
+/// Returns a form of a ward, filled in from the office, or why there is none.
 pub(crate) fn form_of<S: Alter>(
     alloc: Global,
     office: &mut Office<S>,

@@ -1,1 +1,1 @@
--- What the proofs of the forms share.
+-- Shared lemmas of the proofs for the forms.

@@ -1,11 +1,11 @@
--- The cover of a batch, which goes with its pile: what the batch is, and room for what becomes of it.
+-- The cover of a batch, which stays with its pile: a description of the batch, and room to record each round of keying.
 use Rattle.std.specs.Prelude.{ℕ, List, ◌++◌, codes}
 use Rattle.std.specs.Fmt.{decimal}
 use Rattle.std.specs.List.{flat_map}
 use Rattle.forms.specs.Pages.{Text, page}
 use Rattle.forms.specs.declared.covers.Cover.{Cover}
 
--- a batch: its number, its ward, how many papers it has, and the two clerks that key it
+-- a batch: its number, its ward, its number of papers, and the two clerks who key it
 pub record CoverEntry : Type 0 where
   pub batch : ℕ
   pub ward : ℕ
@@ -16,7 +16,7 @@ pub record CoverEntry : Type 0 where
 abbrev pub cover_entry : Cover → CoverEntry
 cover_entry c = record { batch = c.batch; ward = c.ward; size = c.size; first_clerk = c.first_clerk; second_clerk = c.second_clerk }
 
--- the batch, its ward, and how many papers it has
+-- the head of a cover: the batch, its ward, and its number of papers
 unfoldable pub cover_head : CoverEntry → Text
 cover_head c =
     codes "<section class=\"sheet\">\n<h1>Batch " ++ (decimal c.batch ++ (codes "</h1>\n<p class=\"large\">Ward " ++ (decimal c.ward ++ (
@@ -26,7 +26,7 @@ cover_head c =
 abbrev pub round_row : Text → Text
 round_row round = codes "<tr><th scope=\"row\">Round " ++ (round ++ codes "</th><td></td><td></td><td></td></tr>\n")
 
--- the boxes of four rounds: those of the two clerks, and of a third one if there will be one
+-- the boxes for four rounds: one for each of the two clerks, and one for a third clerk if there is one
 unfoldable pub round_boxes : CoverEntry → Text
 round_boxes c =
     codes "<table class=\"rounds\">\n<tr><th></th><th scope=\"col\">Clerk " ++ (decimal c.first_clerk ++ (codes "</th><th scope=\"col\">Clerk " ++ (decimal c.second_clerk ++ (
@@ -36,7 +36,7 @@ round_boxes c =
 unfoldable pub cover : CoverEntry → Text
 cover c = cover_head c ++ (round_boxes c ++ codes "<p>Each clerk signs the box of a round once the batch is keyed and sent. The papers stay in their order.</p>\n</section>\n")
 
--- the covers of batches, a sheet each
+-- the covers of batches, one per sheet
 unfoldable pub all_covers : List CoverEntry → Text
 all_covers covers = flat_map cover covers
 

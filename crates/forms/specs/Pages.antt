@@ -1,4 +1,4 @@
--- What all forms share: a text that is never markup, a name that keeps its writing direction to itself, and the page around a form.
+-- What all forms share: escaped texts, names whose writing direction is isolated, and the page that contains a form.
 use Rattle.std.specs.Prelude.{ℕ, ◌==◌, if◌then◌else◌, List, ◌++◌, codes}
 use Rattle.std.specs.Char.{encode_utf8}
 use Rattle.std.specs.Fmt.{decimal}
@@ -9,7 +9,7 @@ use Rattle.std.specs.Str.{chars}
 abbrev pub Text : Type 0
 Text = List ℕ
 
--- a character of a text on a page: the five that could be markup (`&`, `<`, `>`, `"`, `'`) as their entities, every other one as it is
+-- a character of a text on a page: an entity for each of the five that could be markup (`&`, `<`, `>`, `"`, `'`), and otherwise the character itself
 abbrev pub escaped_character : ℕ → Text
 escaped_character c =
     if c == 38 then codes "&amp;" else (
@@ -18,19 +18,19 @@ escaped_character c =
     if c == 34 then codes "&quot;" else (
     if c == 39 then codes "&#39;" else encode_utf8 c))))
 
--- a text on a page, escaped so that it is never markup
+-- a text on a page, escaped so that it is never treated as markup
 abbrev pub escaped : Text → Text
 escaped text = flat_map escaped_character (chars text)
 
--- a text of ASCII on a page, likewise
+-- an ASCII text on a page, escaped in the same way
 abbrev pub escaped_ascii : Text → Text
 escaped_ascii text = flat_map escaped_character text
 
--- `7 <bdi>Harbour</bdi>`: a number and a name; the name's own writing direction doesn't affect the text around it
+-- a number and a name, such as `7 <bdi>Harbour</bdi>`; the writing direction of the name doesn't affect the surrounding text
 unfoldable pub named : ℕ → Text → Text
 named number name = decimal number ++ (codes " <bdi>" ++ (escaped name ++ codes "</bdi>"))
 
--- the look of a form: A4, black on white, without external resources
+-- the style sheet of a form: A4, black on white, without external resources
 unfoldable pub style : Text
 style =
     codes "@page { size: A4; margin: 15mm; }\n" ++ (
@@ -56,7 +56,7 @@ style =
     codes ".code { font: bold 15pt monospace; }\n" ++ (
     codes ".line { border-bottom: 1pt solid #000; margin: 0; padding: 11mm 0 1mm; break-inside: avoid; }\n")))))))))))))))))))))
 
--- a page with a form, under a title for the browser
+-- a page that contains a form, with a title for the browser
 unfoldable pub page : Text → Text → Text
 page title body =
     codes "<!DOCTYPE html>\n<html lang=\"en\">\n<head>\n<meta charset=\"utf-8\">\n<title>" ++ (title ++ (codes "</title>\n<style>\n" ++ (style ++ (

@@ -1,23 +1,23 @@
-//! Parts of a page that are alike, one after the other.
+//! Repeated parts of a page, one after another.
 
 ghost use Rattle.std.specs.Prelude.{◌≡◌, IfOk, string_bytes};
 ghost use Rattle.std.specs.List.{flat_map};
 
 use std::alloc::{AllocError, Global};
 
-/// Something that a page has several of.
+/// A part that a page repeats.
 pub(crate) trait Block {
     ghost use Rattle.forms.specs.Pages.{Text};
 
-    /// What the page has for it.
+    /// The text of the part on the page.
     ghost text: { Self → Text };
 
-    /// Returns what the page has for it.
+    /// Returns the text of the part on the page.
     fn block(&self, alloc: Global) -> Result<String, AllocError>
         ensures { IfOk result (λ told. string_bytes told ≡ text self.now) };
 }
 
-/// Returns what the page has for each of them, in order.
+/// Returns the texts of the parts, concatenated in order.
 pub(crate) fn blocks<T: Block>(alloc: Global, all: &[T]) -> Result<String, AllocError>
     ensures { IfOk result (λ text. string_bytes text ≡ flat_map T.text all.now) }
 {

@@ -1,4 +1,4 @@
-//! Candidates in a list.
+//! Lists of candidates.
 
 ghost use Rattle.std.specs.Prelude.{◌≡◌, IfOk, map, string_bytes};
 ghost use Rattle.forms.specs.Lots.{candidate_item, candidate_items, candidate_shown};
@@ -18,7 +18,7 @@ impl Block for NamedCandidate<'_> {
     ghost text = { λ c. candidate_item (candidate_shown c) };
 
     #[tactic(auto, unfolding(crate::specs::Lots::candidate_item))]
-    /// Returns the candidate's item in a list.
+    /// Returns the candidate as a list item.
     fn block(&self, alloc: Global) -> Result<String, AllocError> {
         let named = named(alloc, self.number, self.name)?;
         format!(in alloc; "<li>{named}</li>\n")
@@ -26,7 +26,7 @@ impl Block for NamedCandidate<'_> {
 }
 
 #[tactic(auto, unfolding(crate::specs::Lots::candidate_items))]
-/// Returns the items of candidates in a list.
+/// Returns the candidates as list items.
 pub(crate) fn candidate_items(
     alloc: Global,
     candidates: &[NamedCandidate<'_>],

@@ -7,7 +7,7 @@ use crate::blocks::{Block, blocks};
 use crate::page::page;
 use std::alloc::{AllocError, Global};
 
-/// A batch whose cover is printed: its number, its ward, how many papers it has, and its two clerks.
+/// The cover of a batch: the batch number, its ward, its number of papers, and its two clerks.
 #[derive(Clone, Copy)]
 pub struct Cover {
     pub batch: u32,
@@ -18,7 +18,7 @@ pub struct Cover {
 }
 
 #[tactic(auto, unfolding(crate::specs::Covers::cover_head))]
-/// Returns the batch, its ward, and how many papers it has.
+/// Returns the head of a cover: the batch, its ward, and its number of papers.
 fn cover_head(alloc: Global, cover: &Cover) -> Result<String, AllocError>
     ensures { IfOk result (λ text. string_bytes text ≡ cover_head (cover_entry cover.now)) }
 {
@@ -29,7 +29,7 @@ fn cover_head(alloc: Global, cover: &Cover) -> Result<String, AllocError>
 }
 
 #[tactic(auto, unfolding(crate::specs::Covers::round_boxes))]
-/// Returns the boxes of four rounds.
+/// Returns the table with a box for each clerk in each of four rounds.
 fn round_boxes(alloc: Global, cover: &Cover) -> Result<String, AllocError>
     ensures { IfOk result (λ text. string_bytes text ≡ round_boxes (cover_entry cover.now)) }
 {
@@ -56,7 +56,7 @@ impl Block for Cover {
 }
 
 #[tactic(auto, unfolding(crate::specs::Covers::all_covers))]
-/// Returns the covers of batches, one after the other.
+/// Returns the covers, one after another.
 fn all_covers(alloc: Global, covers: &[Cover]) -> Result<String, AllocError>
     ensures { IfOk result (λ text. string_bytes text ≡ all_covers (map cover_entry covers.now)) }
 {
@@ -65,7 +65,7 @@ fn all_covers(alloc: Global, covers: &[Cover]) -> Result<String, AllocError>
 }
 
 #[tactic(auto, unfolding(crate::specs::Covers::covers_page))]
-/// Returns the covers of batches, each on a sheet of its own.
+/// Returns a page with the covers of batches, one per sheet.
 pub fn covers_page(alloc: Global, covers: &[Cover]) -> Result<String, AllocError>
     ensures { IfOk result (λ text. string_bytes text ≡ covers_page (map cover_entry covers.now)) }
 {

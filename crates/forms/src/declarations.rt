@@ -1,4 +1,4 @@
-//! The words of a declaration.
+//! The wording of a declaration.
 
 ghost use Rattle.std.specs.Prelude.{◌≡◌, IfOk, map, string_bytes};
 ghost use Rattle.forms.specs.Declarations.{declaration_body, declaration_head, declaration_page, vacancy_words};
@@ -10,7 +10,7 @@ use crate::page::page;
 use std::alloc::{AllocError, Global};
 
 #[tactic(auto, unfolding(crate::specs::Declarations::vacancy_words))]
-/// Returns how many seats stay vacant, in words.
+/// Returns the sentence that says how many seats remain vacant.
 fn vacancy_words(alloc: Global, vacant: usize) -> Result<String, AllocError>
     ensures { IfOk result (λ text. string_bytes text ≡ vacancy_words vacant) }
 {
@@ -21,7 +21,7 @@ fn vacancy_words(alloc: Global, vacant: usize) -> Result<String, AllocError>
 }
 
 #[tactic(auto, unfolding(crate::specs::Declarations::declaration_head))]
-/// Returns the ward and its seats, up to the elected candidates.
+/// Returns the beginning of the declaration, with the ward and its seats, up to the elected candidates.
 fn declaration_head(alloc: Global, ward: u32, name: &str, seats: u32) -> Result<String, AllocError>
     ensures { IfOk result (λ text. string_bytes text ≡ declaration_head ward name.now seats) }
 {
@@ -32,7 +32,7 @@ fn declaration_head(alloc: Global, ward: u32, name: &str, seats: u32) -> Result<
 }
 
 #[tactic(auto, unfolding(crate::specs::Declarations::declaration_body))]
-/// Returns what is declared of a ward.
+/// Returns the body of the declaration of a ward.
 fn declaration_body(
     alloc: Global,
     ward: u32,
@@ -52,7 +52,7 @@ fn declaration_body(
 }
 
 #[tactic(auto, unfolding(crate::specs::Declarations::declaration_page))]
-/// Returns the words of the declaration of a ward: who is elected to its seats, and how many of these stay vacant.
+/// Returns a page with the declaration of a ward: who is elected to its seats, and how many seats remain vacant.
 pub fn declaration_page(
     alloc: Global,
     ward: u32,

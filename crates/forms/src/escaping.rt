@@ -1,11 +1,11 @@
-//! Texts on a page, escaped so that they are never markup.
+//! Escapes texts so that a page never treats them as markup.
 
 ghost use Rattle.std.specs.Prelude.{◌≡◌, ◌++◌, IfOk, OnOk, string_bytes};
 ghost use Rattle.forms.specs.Pages.{escaped, escaped_ascii, escaped_character, named};
 
 use std::alloc::{AllocError, Global};
 
-/// Appends a character of a text: if it could be markup, as its entity.
+/// Appends a character, as an entity if it could be markup.
 fn put_escaped(character: char, text: &mut String) -> Result<(), AllocError>
     ensures { OnOk result (string_bytes text.new ≡ string_bytes text.old ++ escaped_character character) }
 {
@@ -19,7 +19,7 @@ fn put_escaped(character: char, text: &mut String) -> Result<(), AllocError>
     }
 }
 
-/// Returns a text as it is put on a page.
+/// Returns a text, escaped for a page.
 pub(crate) fn escaped(alloc: Global, text: &str) -> Result<String, AllocError>
     ensures { IfOk result (λ escaped_text. string_bytes escaped_text ≡ escaped text.now) }
 {
@@ -30,7 +30,7 @@ pub(crate) fn escaped(alloc: Global, text: &str) -> Result<String, AllocError>
     Ok(escaped_text)
 }
 
-/// Returns a text of ASCII as it is put on a page.
+/// Returns an ASCII text, escaped for a page.
 pub(crate) fn escaped_ascii(alloc: Global, text: &[u8]) -> Result<String, AllocError>
     ensures { IfOk result (λ escaped_text. string_bytes escaped_text ≡ escaped_ascii text.now) }
 {
@@ -42,7 +42,7 @@ pub(crate) fn escaped_ascii(alloc: Global, text: &[u8]) -> Result<String, AllocE
 }
 
 #[tactic(auto, unfolding(crate::specs::Pages::named))]
-/// Returns a number and a name as they are put on a page: `7 <bdi>Harbour</bdi>`.
+/// Returns a number and an escaped name for a page, such as `7 <bdi>Harbour</bdi>`.
 pub(crate) fn named(alloc: Global, number: u32, name: &str) -> Result<String, AllocError>
     ensures { IfOk result (λ text. string_bytes text ≡ named number name.now) }
 {

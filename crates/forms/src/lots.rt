@@ -28,7 +28,7 @@ fn purpose_words(purpose: LotPurpose) -> &'static str
 }
 
 #[tactic(auto, unfolding(crate::specs::Lots::lot_head))]
-/// Returns the ward, the stage, and what is decided.
+/// Returns the head of the form: the ward, the stage, and what the lot decides.
 fn lot_head(alloc: Global, ward: u32, stage: u64, purpose: LotPurpose) -> Result<String, AllocError>
     ensures { IfOk result (λ text. string_bytes text ≡ lot_head ward stage purpose) }
 {
@@ -39,7 +39,7 @@ fn lot_head(alloc: Global, ward: u32, stage: u64, purpose: LotPurpose) -> Result
 }
 
 #[tactic(auto, unfolding(crate::specs::Lots::lot_body))]
-/// Returns what the form has: the lot, the candidates, and lines to fill in.
+/// Returns the body of the form: the lot, the candidates, and lines to fill in.
 fn lot_body(
     alloc: Global,
     ward: u32,
@@ -58,7 +58,7 @@ fn lot_body(
 }
 
 #[tactic(auto, unfolding(crate::specs::Lots::lot_page))]
-/// Returns the form of the lot for a stage of a ward, among these candidates.
+/// Returns the form for a lot at a stage of the count in a ward, among these candidates.
 pub fn lot_page(
     alloc: Global,
     ward: u32,

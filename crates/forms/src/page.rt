@@ -5,7 +5,7 @@ ghost use Rattle.forms.specs.Pages.{page, style as style_text};
 
 use std::alloc::{AllocError, Global};
 
-/// Returns the look of a form.
+/// Returns the style sheet of a form.
 fn style() -> &'static str
     ensures { result.now ≡ style_text }
 {
@@ -36,7 +36,7 @@ li { break-inside: avoid; }
 }
 
 #[tactic(auto, unfolding(crate::specs::Pages::page))]
-/// Returns a page with a form, under a title for the browser.
+/// Returns a page that contains a form, with a title for the browser.
 pub(crate) fn page(alloc: Global, title: &str, body: &str) -> Result<String, AllocError>
     ensures { IfOk result (λ text. string_bytes text ≡ page title.now body.now) }
 {

@@ -8,7 +8,7 @@ use crate::escaping::{escaped, escaped_ascii};
 use crate::page::page;
 use std::alloc::{AllocError, Global};
 
-/// A clerk's slip: the number, the code, which is ASCII, and the origin of the pages on which clerks key.
+/// A clerk's slip: the clerk's number and code, which is ASCII, and the origin of the keying pages.
 #[derive(Clone, Copy)]
 pub struct Slip<'a> {
     pub clerk: u32,
@@ -17,7 +17,7 @@ pub struct Slip<'a> {
 }
 
 #[tactic(auto, unfolding(crate::specs::Slips::slip_head))]
-/// Returns the clerk's number and code.
+/// Returns the part of a slip with the clerk's number and code.
 fn slip_head(alloc: Global, slip: &Slip<'_>) -> Result<String, AllocError>
     ensures { IfOk result (λ text. string_bytes text ≡ slip_head (slip_entry slip.now)) }
 {
@@ -29,7 +29,7 @@ fn slip_head(alloc: Global, slip: &Slip<'_>) -> Result<String, AllocError>
 }
 
 #[tactic(auto, unfolding(crate::specs::Slips::slip_address))]
-/// Returns the address of the clerk's page.
+/// Returns the part of a slip with the address of the clerk's page.
 fn slip_address(alloc: Global, slip: &Slip<'_>) -> Result<String, AllocError>
     ensures { IfOk result (λ text. string_bytes text ≡ slip_address (slip_entry slip.now)) }
 {
@@ -53,7 +53,7 @@ impl Block for Slip<'_> {
 }
 
 #[tactic(auto, unfolding(crate::specs::Slips::all_slips))]
-/// Returns the slips of clerks, one after the other.
+/// Returns the slips, one after another.
 fn all_slips(alloc: Global, slips: &[Slip<'_>]) -> Result<String, AllocError>
     ensures { IfOk result (λ text. string_bytes text ≡ all_slips (map slip_entry slips.now)) }
 {
@@ -62,7 +62,7 @@ fn all_slips(alloc: Global, slips: &[Slip<'_>]) -> Result<String, AllocError>
 }
 
 #[tactic(auto, unfolding(crate::specs::Slips::slips_body))]
-/// Returns the slips of clerks, side by side.
+/// Returns the slips, laid out in columns.
 fn slips_body(alloc: Global, slips: &[Slip<'_>]) -> Result<String, AllocError>
     ensures { IfOk result (λ text. string_bytes text ≡ slips_body (map slip_entry slips.now)) }
 {
@@ -71,7 +71,7 @@ fn slips_body(alloc: Global, slips: &[Slip<'_>]) -> Result<String, AllocError>
 }
 
 #[tactic(auto, unfolding(crate::specs::Slips::slips_page))]
-/// Returns the slips of clerks, to be cut.
+/// Returns a page with the slips of clerks, to be cut out.
 pub fn slips_page(alloc: Global, slips: &[Slip<'_>]) -> Result<String, AllocError>
     ensures { IfOk result (λ text. string_bytes text ≡ slips_page (map slip_entry slips.now)) }
 {

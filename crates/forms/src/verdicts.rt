@@ -9,7 +9,7 @@ use crate::candidates::{NamedCandidate, candidate_items};
 use crate::page::page;
 use std::alloc::{AllocError, Global};
 
-/// A doubtful paper, by its batch and its number there.
+/// A doubtful paper, identified by its batch and its number in the batch.
 #[derive(Clone, Copy)]
 pub struct DoubtfulRow {
     pub batch: u32,
@@ -20,7 +20,7 @@ impl Block for DoubtfulRow {
     ghost text = { λ d. verdict_row (doubtful_entry d) };
 
     #[tactic(auto, unfolding(crate::specs::Verdicts::verdict_row))]
-    /// Returns the row of the paper, with room for the verdict.
+    /// Returns the paper's row, with room for the verdict.
     fn block(&self, alloc: Global) -> Result<String, AllocError> {
         let (batch, paper) = (self.batch, self.paper);
         format!(in alloc;
@@ -30,7 +30,7 @@ impl Block for DoubtfulRow {
 }
 
 #[tactic(auto, unfolding(crate::specs::Verdicts::verdicts_head))]
-/// Returns the ward, with the list of its candidates.
+/// Returns the head of the form: the ward and a list of its candidates.
 fn verdicts_head(
     alloc: Global,
     ward: u32,
@@ -43,7 +43,7 @@ fn verdicts_head(
 }
 
 #[tactic(auto, unfolding(crate::specs::Verdicts::verdicts_table))]
-/// Returns the codes of a rejection, and the heads of the columns.
+/// Returns the codes for a rejection and the column headings.
 fn verdicts_table() -> &'static str
     ensures { result.now ≡ table_text }
 {
@@ -52,7 +52,7 @@ fn verdicts_table() -> &'static str
 }
 
 #[tactic(auto, unfolding(crate::specs::Verdicts::verdict_rows))]
-/// Returns the rows of papers.
+/// Returns the rows of the papers.
 fn verdict_rows(alloc: Global, papers: &[DoubtfulRow]) -> Result<String, AllocError>
     ensures { IfOk result (λ text. string_bytes text ≡ verdict_rows (map doubtful_entry papers.now)) }
 {
@@ -61,7 +61,7 @@ fn verdict_rows(alloc: Global, papers: &[DoubtfulRow]) -> Result<String, AllocEr
 }
 
 #[tactic(auto, unfolding(crate::specs::Verdicts::verdicts_body))]
-/// Returns what the form has: the candidates, the papers, and lines to sign.
+/// Returns the body of the form: the candidates, the papers, and lines to sign.
 fn verdicts_body(
     alloc: Global,
     ward: u32,
@@ -79,7 +79,7 @@ fn verdicts_body(
 }
 
 #[tactic(auto, unfolding(crate::specs::Verdicts::verdicts_page))]
-/// Returns the form for the adjudication of a ward's doubtful papers, by its candidates.
+/// Returns the form for adjudicating a ward's doubtful papers, with a list of its candidates.
 pub fn verdicts_page(
     alloc: Global,
     ward: u32,

@@ -1,4 +1,4 @@
--- The orders in turn: each that is sent and accepted is one of the list, and every order has its turn, with its reason.
+-- The orders in turn: each order that is sent and accepted is in the list, and every order has a turn with its reason.
 use Rattle.std.proofs.Common.{◌≡◌, ◌+◌, ℕ, Bool, true, false, cond, List, [], ◌∷◌, ◌++◌, Option, Some, None, map, refl, sym, ap, subst, ◌∙◌, arith, inl, inr}
 use Rattle.std.proofs.lemmas.List.{append-nil, append_assoc}
 use Rattle.std.proofs.lemmas.List.Concat.{flat_map-append}
@@ -9,7 +9,8 @@ use Rattle.register.specs.Offices.{OfficeState, empty_office}
 use Rattle.register.specs.declared.command.Request.{Request}
 use Rattle.mending.specs.Changes.{in_place_of, is_named, names_of, ward_changed, wards_about}
 use Rattle.mending.specs.Mending.{MendPoint, after_other, after_sent, by_turn, mend_all, mend_one, mended, moved, sent_of, start}
-use Rattle.mending.specs.Accounts.{AreJust, Fate, IsDue, IsJust, IsMended, Turn, goes, is_kept, is_left_out, is_replaced, lines_on, list_of, makes_way, orders_from, state_of, stays, text_of, wards_changed, wards_of}
+use Rattle.mending.specs.Accounts.{AreJust, Fate, IsDue, IsJust, IsMended, Turn, goes, is_kept, is_left_out, is_replaced, lines_on, list_of}
+use Rattle.mending.specs.Accounts.{makes_way, orders_from, state_of, stays, text_of, wards_changed, wards_of}
 use Rattle.mending.specs.declared.changes.Changes.{Changes}
 use Rattle.mending.specs.Reports.{left_line}
 use Rattle.mending.specs.declared.reports.Cause.{Cause}
@@ -30,7 +31,7 @@ accepted_push s (x ∷ rs) r is = go (is_accepted (step_of s x)) (accepted_push 
     go true later = ap (λ l. x ∷ l) later
     go false later = later
 
--- these turns are what a point has come to
+-- these turns lead to this point
 record IsSo (changes : Changes) (turns : List Turn) (p : MendPoint) : Type 0 where
   sent : p.sent ≡ list_of turns
   accepted : accepted_of empty_office p.sent ≡ p.sent
@@ -48,7 +49,7 @@ at_turns changes turns p so = so.leads ∙ ap (after empty_office) so.sent
 count_push : (test : Turn → Bool) (turns : List Turn) (t : Turn) → count_by test (turns ++ t ∷ []) ≡ count_by test turns + cond (test t) 1 0
 count_push test turns t = sum_by-append (λ (x : Turn). cond (test x) 1 0) turns (t ∷ []) ∙ omega arith
 
--- one more turn, by what it adds
+-- one more turn, given what it adds
 so_push : (changes : Changes) (turns : List Turn) (p q : MendPoint) (r : Request) (fate : Fate) → IsSo changes turns p
     → q.sent ≡ p.sent ++ orders_from r fate → accepted_of empty_office q.sent ≡ q.sent → q.state ≡ after empty_office q.sent → q.told ≡ p.told ++ lines_on r fate
     → q.changed ≡ p.changed ++ wards_changed changes.orders.now r fate → q.kept_orders ≡ p.kept_orders + cond (is_kept fate) 1 0
@@ -68,17 +69,17 @@ so_push changes turns p q r fate so sent taken leads told changed kept_orders re
       left_orders = left_orders ∙ ap (λ n. n + cond (is_left_out fate) 1 0) so.left_orders ∙ sym (count_push (λ (x : Turn). is_left_out x.fate) turns t);
     }
 
--- a turn that an order had, with its reason
+-- the turn of an order, with its reason
 record HasTurn (changes : Changes) (turns : List Turn) (r : Request) (q : MendPoint) : Type 0 where
   fate : Fate
   just : IsJust changes turns r fate
   so : IsSo changes (turns ++ (record { order = r; fate = fate }) ∷ []) q
 
--- the machine's outcome at a point is that at the state of its turns
+-- the outcome of the machine at a point is its outcome at the state of the point's turns
 at_state : (changes : Changes) (turns : List Turn) (p : MendPoint) (r : Request) (o : Outcome) → IsSo changes turns p → step_of p.state r ≡ o → step_of (state_of turns) r ≡ o
 at_state changes turns p r o so is = ap (λ x. step_of x r) (sym (at_turns changes turns p so)) ∙ is
 
--- the list is accepted, and leads to the next state, with one more order that is accepted
+-- with one more accepted order, the list is still accepted, and it leads to the next state
 accepted_more : (changes : Changes) (turns : List Turn) (p : MendPoint) (r : Request) (next : OfficeState) (reply : List ℕ) → IsSo changes turns p → step_of p.state r ≡ accepted next reply
     → accepted_of empty_office (p.sent ++ r ∷ []) ≡ p.sent ++ r ∷ []
 accepted_more changes turns p r next reply so is =
@@ -89,7 +90,7 @@ leads_more : (changes : Changes) (turns : List Turn) (p : MendPoint) (r : Reques
 leads_more changes turns p r next reply so is =
     sym (fold_push after_one empty_office p.sent r ∙ ap (λ x. state_after x (step_of x r)) (sym so.leads) ∙ ap (state_after p.state) is)
 
--- an order is left out: nothing of the list or its state changes
+-- if an order is left out, the list and its state stay the same
 so_left : (changes : Changes) (turns : List Turn) (p q : MendPoint) (r : Request) (cause : Cause) → IsSo changes turns p → q.sent ≡ p.sent → q.state ≡ p.state
     → q.told ≡ p.told ++ left_line r cause → q.changed ≡ p.changed ++ wards_about changes.orders.now r.command → q.kept_orders ≡ p.kept_orders
     → q.replaced_orders ≡ p.replaced_orders → q.left_orders ≡ p.left_orders + 1 → IsSo changes (turns ++ (record { order = r; fate = goes cause }) ∷ []) q
@@ -161,7 +162,7 @@ so_one changes turns p r so =
 
 -- ---- all
 
--- the turns that some orders had
+-- the turns of several orders
 record HaveTurns (changes : Changes) (before : List Turn) (rs : List Request) (q : MendPoint) : Type 0 where
   turns : List Turn
   each : map (λ (t : Turn). t.order) turns ≡ rs
@@ -181,7 +182,7 @@ so_all changes (r ∷ rs) before p so =
       so = subst (λ (l : List Turn). IsSo changes l (mend_all changes p (r ∷ rs))) (append_assoc before (t ∷ []) rest.turns) rest.so;
     }
 
--- what a list has come to is accounted for
+-- the result of mending a list is accounted for
 pub mended_is : (changes : Changes) → IsMended changes (mended changes)
 mended_is changes =
     let begun : IsSo changes [] (start empty_office) =

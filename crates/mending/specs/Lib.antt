@@ -1,4 +1,4 @@
--- Orders that an office accepted, with some left out and some replaced.
+-- The orders that an office accepted, with some left out and others replaced.
 pub mod Names
 pub mod Changes
 pub mod Mending

@@ -2,23 +2,23 @@
 
 use register::Request;
 
-/// The orders of an office, those of them that are left out, by their names, and others that take the place of those of the same
-/// actor and subject.
+/// The orders of an office, the names of those to leave out, and the orders that replace others. An order replaces the one with the
+/// same actor and subject.
 #[derive(Clone, Copy)]
 pub struct Changes<'a> {
     pub orders: &'a [Request],
-    /// Each is the id of an order of the office; of a clerk's, the clerk's number, a colon, and its id.
+    /// Each name is an order's id, preceded by the clerk's number and a colon if a clerk sent the order.
     pub without: &'a [String],
     pub instead: &'a [Request],
 }
 
-/// Why the changes can't be made.
+/// The reason why the changes can't be made.
 #[derive(Drop)]
 pub enum Flaw {
     /// No order has this name.
     NoSuchOrder(String),
-    /// Not one order, but so many, have the subject of an order that is to take a place.
+    /// This many orders, rather than exactly one, could be replaced by the order with this subject.
     NotOne(usize, String),
-    /// Several orders, so many, are to take the place of the one with this subject.
+    /// This many orders are to replace the single order with this subject.
     Several(usize, String),
 }

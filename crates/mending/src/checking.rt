@@ -1,4 +1,4 @@
-//! Whether changes can be made to the orders of an office.
+//! Checks whether changes can be made to the orders of an office.
 
 ghost use Rattle.std.specs.Prelude.{◌≡◌, ◌==◌, IfOk, IfNone, IfSome, map, string_bytes, true};
 ghost use Rattle.std.specs.List.{list_all};
@@ -21,7 +21,7 @@ fn is_name_of_one(alloc: Global, orders: &[Request], name: &str) -> Result<bool,
     Ok(false)
 }
 
-/// Returns how many of the orders another may take the place of.
+/// Returns how many of the orders the other order could replace.
 fn places_for(alloc: Global, orders: &[Request], other: &Request) -> Result<usize, AllocError>
     ensures { IfOk result (λ count. count ≡ places_for orders.now other.now) }
 {
@@ -34,7 +34,7 @@ fn places_for(alloc: Global, orders: &[Request], other: &Request) -> Result<usiz
     Ok(count)
 }
 
-/// Returns a name that none of the orders has, if one of the names isn't theirs.
+/// Returns a flaw if one of the names isn't the name of any order.
 fn flaw_of_names(alloc: Global, changes: Changes<'_>) -> Result<Option<Flaw>, AllocError>
     ensures none { IfOk result (λ found. IfNone found (list_all (is_name_of_one changes.entry.orders.now) (map string_bytes changes.entry.without.now) ≡ true)) }
     ensures some { IfOk result (λ found. IfSome found (IsFlawOf changes.entry)) }
@@ -47,7 +47,7 @@ fn flaw_of_names(alloc: Global, changes: Changes<'_>) -> Result<Option<Flaw>, Al
     Ok(None)
 }
 
-/// Returns why one of the orders can't take the place of just one, if that is so.
+/// Returns a flaw if one of the replacing orders could replace no order, or more than one.
 fn flaw_of_places(alloc: Global, changes: Changes<'_>) -> Result<Option<Flaw>, AllocError>
     ensures none { IfOk result (λ found. IfNone found (list_all (λ other. places_for changes.entry.orders.now other == 1) changes.entry.instead.now ≡ true)) }
     ensures some { IfOk result (λ found. IfSome found (IsFlawOf changes.entry)) }
@@ -61,7 +61,7 @@ fn flaw_of_places(alloc: Global, changes: Changes<'_>) -> Result<Option<Flaw>, A
     Ok(None)
 }
 
-/// Returns why two of the orders are to take the same place, if that is so.
+/// Returns a flaw if two of the replacing orders would replace the same order.
 fn flaw_of_others(alloc: Global, changes: Changes<'_>) -> Result<Option<Flaw>, AllocError>
     ensures none { IfOk result (λ found. IfNone found (list_all (λ other. places_for changes.entry.instead.now other == 1) changes.entry.instead.now ≡ true)) }
     ensures some { IfOk result (λ found. IfSome found (IsFlawOf changes.entry)) }
@@ -75,8 +75,8 @@ fn flaw_of_others(alloc: Global, changes: Changes<'_>) -> Result<Option<Flaw>, A
     Ok(None)
 }
 
-/// Returns why the changes can't be made to the orders of the office, if they can't: no order has one of the names, or one of the
-/// orders doesn't take the place of just one, or two take the same.
+/// Returns why the changes can't be made to the orders of the office; `None` if they can. Either no order has one of the names, or
+/// one of the replacing orders doesn't match exactly one order, or two of them match the same one.
 pub fn flaw_in(alloc: Global, changes: Changes<'_>) -> Result<Option<Flaw>, AllocError>
     ensures none { IfOk result (λ found. IfNone found (CanBeMade changes.entry)) }
     ensures some { IfOk result (λ found. IfSome found (IsFlawOf changes.entry)) }

@@ -1,9 +1,10 @@
-//! The orders that an office accepted, with some left out and others in the place of some.
+//! The orders that an office accepted, with some left out and others replaced.
 //!
-//! [`Changes`] says which; [`flaw_in`] says why they can't be made. [`mend`] sends the orders that result to an empty office. What
-//! is refused there, because it depended on an order that is gone, is left out too. So is each stage, lot and declaration of a ward
-//! of which an order was left out or replaced: a lot that was drawn over other papers isn't one of this count. The text of
-//! [`Mended`] names each order that was left out, with its reason, and each that was replaced; every other order is kept.
+//! [`Changes`] says which ones, and [`flaw_in`] returns why the changes can't be made. [`mend`] sends the resulting orders to an empty
+//! office. An order that is refused there, because it depended on an order that is gone, is left out too. So is each stage, lot and
+//! declaration of a ward if an earlier order on that ward was left out or replaced: a lot that was drawn for other papers isn't a lot
+//! of this count. The text of [`Mended`] names each order that was left out, with the reason, and each that was replaced. Every other
+//! order is kept.
 //!
 //! ```text
 //! match flaw_in(alloc, changes)? {
@@ -13,13 +14,13 @@
 //! ```
 #![tactic(auto)]
 
-// An order by its name and its subject, and what it is about.
+// the name and the subject of an order, and the ward or batch that it is about
 mod names;
 mod places;
-// The changes, and why they can't be made.
+// the changes, and why they can't be made
 pub mod changes;
 mod checking;
-// The orders in turn, to whom they are sent, and what is printed of them.
+// the orders in turn, the office that they are sent to, and what is printed about them
 pub mod mended;
 pub mod recipients;
 pub mod reports;

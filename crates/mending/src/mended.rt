@@ -1,4 +1,4 @@
-//! The orders of an office in turn, sent to an empty office, with some left out and some replaced.
+//! Sends the orders of an office, one by one, to an empty office, leaving some out and replacing others.
 
 ghost use Rattle.std.specs.Prelude.{◌≡◌, ◌+◌, ◌-◌, ◌^◌, ◌<◌, find, map, option_map, string_bytes, IfOk, OnOk};
 ghost use Rattle.std.specs.List.{list_any};
@@ -18,8 +18,8 @@ use crate::reports::{Cause, end_line, left_line, replaced_line};
 use register::Request;
 use std::alloc::{AllocError, Global};
 
-/// What became of the orders: a line for each that was replaced or left out, the wards that these were about, and how many orders
-/// were kept, replaced and left out.
+/// The outcome for the orders: a line for each one that was replaced or left out, the wards that those were about, and how many
+/// orders were kept, replaced and left out.
 #[derive(Drop)]
 pub struct Mended {
     pub text: String,
@@ -29,7 +29,7 @@ pub struct Mended {
     pub left_out: usize,
 }
 
-/// Returns the order that takes the place of another, if one does.
+/// Returns the order that replaces the given one, if any.
 fn in_place_of<'a>(
     alloc: Global,
     instead: &'a [Request],
@@ -45,7 +45,7 @@ fn in_place_of<'a>(
     Ok(None)
 }
 
-/// Returns whether one of the names is this one.
+/// Returns whether this name is among the names.
 fn has_name(names: &[String], own: &str) -> bool
     ensures { result ≡ list_any (bytes_eq own.now) (map string_bytes names.now) }
 {
@@ -57,7 +57,7 @@ fn has_name(names: &[String], own: &str) -> bool
     false
 }
 
-/// Returns whether an order is among those named.
+/// Returns whether the name of an order is among the names.
 fn is_named(alloc: Global, names: &[String], order: &Request) -> Result<bool, AllocError>
     ensures { IfOk result (λ is. is ≡ is_named (map string_bytes names.now) order.now) }
 {
@@ -66,7 +66,7 @@ fn is_named(alloc: Global, names: &[String], order: &Request) -> Result<bool, Al
 }
 
 impl Mended {
-    /// Returns that no order had its turn yet.
+    /// Returns the outcome before the first order.
     fn new(alloc: Global) -> Mended
         ensures point { IsPoint (start empty_office) result }
         ensures turns { turns_of result ≡ 0 }
@@ -89,7 +89,7 @@ impl Mended {
         self.kept += 1;
     }
 
-    /// Leaves an order out.
+    /// Records that an order is left out.
     fn leave(
         &mut self,
         alloc: Global,
@@ -108,7 +108,7 @@ impl Mended {
         Ok(())
     }
 
-    /// Replaces an order by another.
+    /// Records that an order is replaced by another.
     fn replace(
         &mut self,
         alloc: Global,
@@ -128,7 +128,7 @@ impl Mended {
         Ok(())
     }
 
-    /// Keeps an order that was sent, if it was accepted, and else leaves it out.
+    /// Records the outcome of an order that was sent: it is kept if it was accepted, and left out otherwise.
     fn put_sent(
         &mut self,
         alloc: Global,
@@ -150,7 +150,8 @@ impl Mended {
         }
     }
 
-    /// Replaces an order by another that was sent, if that was accepted, and else leaves it out.
+    /// Records the outcome of another order that was sent in place of this one: this one is replaced if the other was accepted, and left
+    /// out otherwise.
     fn put_other(
         &mut self,
         alloc: Global,
@@ -171,8 +172,8 @@ impl Mended {
     }
 
     #[tactic(auto, unfolding(crate::specs::Mending::mend_one))]
-    /// Has an order its turn: another that takes its place is sent; else it is left out if it is named, or if it counts a ward of
-    /// which an order before it was left out or replaced; and else it is sent.
+    /// Processes an order. If another replaces it, that one is sent. Otherwise it is left out if it is named, or if it counts a ward and
+    /// an earlier order on that ward was left out or replaced. Otherwise it is sent.
     fn take_turn<R: Recipient>(
         &mut self,
         alloc: Global,
@@ -213,11 +214,11 @@ impl Mended {
 }
 
 #[tactic(auto, using(crate::proofs::TurnLemmas::mended_is))]
-/// Sends the orders of an office, with changes, to an empty office, and returns what became of each.
+/// Sends the orders of an office, with the changes, to an empty office, and returns the outcome.
 ///
-/// Afterwards the office is that of the list that results. Each order of that list was accepted. Each order of the office is one of the list,
-/// unless the text has a line for it, in the sequence of the orders: it was replaced by another, or left out, for a reason that holds. After
-/// an error nothing is known of the office.
+/// Afterwards the new office has the state to which the resulting list of orders leads, and each order in that list was accepted. Each
+/// order of the original office is in that list unless the text has a line for it: it was replaced by another, or left out for a reason
+/// that holds. The lines are in the sequence of the orders. After an error, nothing is known about the new office.
 pub fn mend<R: Recipient>(
     alloc: Global,
     office: &mut R,

@@ -17,7 +17,7 @@ use std::alloc::{AllocError, Global};
 const OFFICE: u32 = 0;
 
 #[tactic(auto, unfolding(crate::specs::Names::order_name))]
-/// Returns the name of an order: its id, after the number of a clerk and a colon if a clerk sent it.
+/// Returns the name of an order: its id, preceded by the clerk's number and a colon if a clerk sent it.
 pub(crate) fn order_name(alloc: Global, order: &Request) -> Result<String, AllocError>
     ensures { IfOk result (λ name. string_bytes name ≡ order_name order.now) }
 {
@@ -82,7 +82,7 @@ fn count_subject(alloc: Global, command: &CountCommand) -> Result<String, AllocE
 }
 
 #[tactic(auto, unfolding(register::specs::Keyings::subject_of, register::specs::Verdicts::subject_of))]
-/// Returns the subject of a command, which the receipt of its order has.
+/// Returns the subject of a command, as in the receipt of its order.
 pub(crate) fn subject_of(alloc: Global, command: &Command) -> Result<String, AllocError>
     ensures { IfOk result (λ text. string_bytes text ≡ subject_of command.now) }
 {
@@ -102,7 +102,7 @@ pub(crate) fn subject_of(alloc: Global, command: &Command) -> Result<String, All
     }
 }
 
-/// Returns whether an order may take the place of another: both have the same actor and the same subject.
+/// Returns whether the other order may replace this one: both must have the same actor and the same subject.
 pub(crate) fn takes_place_of(
     alloc: Global,
     order: &Request,

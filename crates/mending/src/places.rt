@@ -7,14 +7,14 @@ ghost use Rattle.mending.specs.Changes.{place_of, ward_changed, ward_counted, wa
 use register::{BatchCommand, CandidateCommand, Command, CountCommand, Request, WardCommand};
 use std::alloc::AllocError;
 
-/// What a command is about: a ward, or a batch, whose ward its words don't name.
+/// What a command is about: a ward, or a batch whose ward the command doesn't name.
 #[derive(Clone, Copy)]
 pub(crate) enum Place {
     Ward(u32),
     Batch(u32),
 }
 
-/// Returns what a command for a ward, a candidate or a count is about.
+/// Returns the ward or batch that a command is about.
 fn place_of(command: &Command) -> Place
     ensures { result ≡ place_of command.now }
 {
@@ -40,7 +40,7 @@ fn place_of(command: &Command) -> Place
     }
 }
 
-/// Returns the ward of which a command gives out a batch, if it gives out this one.
+/// Returns the ward of this batch if the command gives it out.
 fn ward_given(number: u32, command: &Command) -> Option<u32>
     ensures { result ≡ ward_given number command.now }
 {
@@ -50,7 +50,7 @@ fn ward_given(number: u32, command: &Command) -> Option<u32>
     }
 }
 
-/// Appends the wards of which orders give out a batch.
+/// Appends the wards for which the orders give out this batch.
 fn put_wards_given(wards: &mut Vec<u32>, orders: &[Request], batch: u32) -> Result<(), AllocError>
     ensures { IfOk result (λ _. wards.new.items ≡ wards.old.items ++ wards_given orders.now batch) }
 {
@@ -62,7 +62,7 @@ fn put_wards_given(wards: &mut Vec<u32>, orders: &[Request], batch: u32) -> Resu
     Ok(())
 }
 
-/// Appends the wards that a command is about. A batch is of the ward of which one of the orders gives it out.
+/// Appends the wards that a command is about. For a batch, these are the wards for which the orders give it out.
 pub(crate) fn put_wards_about(
     wards: &mut Vec<u32>,
     orders: &[Request],
@@ -79,7 +79,7 @@ pub(crate) fn put_wards_about(
     }
 }
 
-/// Returns the ward of which a command counts a stage, records a lot or declares the result, if it does.
+/// Returns the ward in which a command counts a stage, records a lot or declares the result, if it does one of these.
 fn ward_counted(command: &Command) -> Option<u32>
     ensures { result ≡ ward_counted command.now }
 {
@@ -93,14 +93,14 @@ fn ward_counted(command: &Command) -> Option<u32>
     }
 }
 
-/// Returns whether a ward is one of these.
+/// Returns whether a ward is among these wards.
 fn is_one_of(wards: &[u32], ward: u32) -> bool
     ensures { result ≡ list_any (λ w. w == ward) wards.now }
 {
     wards.iter().any(|other| *other == ward)
 }
 
-/// Returns the ward that a command counts, if that is among those that changed.
+/// Returns the ward that a command counts, if that ward is among those that changed.
 pub(crate) fn ward_changed(changed: &[u32], command: &Command) -> Option<u32>
     ensures { result ≡ ward_changed changed.now command.now }
 {

@@ -1,4 +1,4 @@
-//! An office to which orders are sent one by one.
+//! The office that orders are sent to, one by one.
 
 ghost use Rattle.std.specs.Prelude.{◌≡◌, IfOk};
 ghost use Rattle.register.specs.Machine.{state_after, step_of};
@@ -11,15 +11,15 @@ use std::alloc::AllocError;
 /// The outcome of an order that was sent.
 #[derive(Drop)]
 pub enum Sent {
-    /// It was accepted just now.
+    /// The order was accepted.
     Accepted,
-    /// It had been accepted before, under the same id.
+    /// An order with this id was accepted earlier.
     Known,
-    /// It was refused.
+    /// The order was refused.
     Denied(Refusal),
 }
 
-/// Why an office wasn't mended.
+/// The reason why the new office couldn't be made.
 #[derive(Clone, Copy)]
 pub enum MendFault {
     /// An allocation failed.
@@ -38,12 +38,12 @@ impl From<AllocError> for MendFault {
     }
 }
 
-/// An office to which orders are sent.
+/// An office that orders are sent to.
 pub trait Recipient {
-    // It is open at this state.
+    // The office is open at this state.
     ghost is_at: { Self → OfficeState → Type 0 };
 
-    // What it was kept on has not failed so far.
+    // The store of the office has not failed so far.
     ghost is_sound: { Self → Type 0 };
 
     /// Sends an order, and returns its outcome.

@@ -1,4 +1,4 @@
-//! What is printed of orders that are left out and replaced.
+//! What is printed about orders that are left out or replaced.
 
 ghost use Rattle.std.specs.Prelude.{◌≡◌, IfOk, string_bytes};
 ghost use Rattle.mending.specs.Reports.{cause_words, count_text, end_line, flaw_text, left_line, order_words, refusal_words, replaced_line};
@@ -8,23 +8,23 @@ use crate::names::{order_name, subject_of};
 use register::{Refusal, Request};
 use std::alloc::{AllocError, Global};
 
-/// Why an order is left out.
+/// The reason why an order is left out.
 #[derive(Drop)]
 pub(crate) enum Cause {
     /// The changes name it.
     Asked,
-    /// It counts this ward, of which an order before it was left out or replaced.
+    /// It counts this ward, and an earlier order on the ward was left out or replaced.
     Changed(u32),
-    /// It is refused.
+    /// It was refused.
     Refused(Refusal),
-    /// The order in its place is refused.
+    /// The order that was to replace it was refused.
     Unaccepted(Refusal),
-    /// It, or the order in its place, has an id that was used before.
+    /// Its id, or that of the order that was to replace it, was already used.
     Repeated,
 }
 
 #[tactic(auto, unfolding(crate::specs::Reports::refusal_words))]
-/// Returns a refusal in words.
+/// Returns the text of a refusal.
 fn refusal_words(alloc: Global, refusal: &Refusal) -> Result<String, AllocError>
     ensures { IfOk result (λ text. string_bytes text ≡ refusal_words refusal.now) }
 {
@@ -33,7 +33,7 @@ fn refusal_words(alloc: Global, refusal: &Refusal) -> Result<String, AllocError>
 }
 
 #[tactic(auto, unfolding(crate::specs::Reports::cause_words))]
-/// Returns why an order is left out, in words.
+/// Returns the text that says why an order is left out.
 fn cause_words(alloc: Global, cause: &Cause) -> Result<String, AllocError>
     ensures { IfOk result (λ text. string_bytes text ≡ cause_words cause.now) }
 {
@@ -50,7 +50,7 @@ fn cause_words(alloc: Global, cause: &Cause) -> Result<String, AllocError>
 }
 
 #[tactic(auto, unfolding(crate::specs::Reports::order_words))]
-/// Returns an order by its name and its subject.
+/// Returns the name and the subject of an order.
 fn order_words(alloc: Global, order: &Request) -> Result<String, AllocError>
     ensures { IfOk result (λ text. string_bytes text ≡ order_words order.now) }
 {
@@ -60,7 +60,7 @@ fn order_words(alloc: Global, order: &Request) -> Result<String, AllocError>
 }
 
 #[tactic(auto, unfolding(crate::specs::Reports::left_line))]
-/// Returns the line of an order that is left out.
+/// Returns the line for an order that is left out.
 pub(crate) fn left_line(alloc: Global, order: &Request, cause: &Cause) -> Result<String, AllocError>
     ensures { IfOk result (λ text. string_bytes text ≡ left_line order.now cause.now) }
 {
@@ -69,7 +69,7 @@ pub(crate) fn left_line(alloc: Global, order: &Request, cause: &Cause) -> Result
 }
 
 #[tactic(auto, unfolding(crate::specs::Reports::replaced_line))]
-/// Returns the line of an order that is replaced by another.
+/// Returns the line for an order that is replaced by another.
 pub(crate) fn replaced_line(
     alloc: Global,
     order: &Request,
@@ -95,7 +95,7 @@ pub(crate) fn end_line(
 }
 
 #[tactic(auto, unfolding(crate::specs::Reports::count_text))]
-/// Returns a number of orders, and what is wrong with it.
+/// Returns the line that says what is wrong with a number of orders.
 fn count_text(alloc: Global, count: usize, words: &str, subject: &str) -> Result<String, AllocError>
     ensures { IfOk result (λ text. string_bytes text ≡ count_text count words.now subject.now) }
 {
@@ -104,7 +104,7 @@ fn count_text(alloc: Global, count: usize, words: &str, subject: &str) -> Result
 
 impl Flaw {
     #[tactic(auto, unfolding(crate::specs::Reports::flaw_text))]
-    /// Returns why the changes can't be made, in a line.
+    /// Returns the line that says why the changes can't be made.
     pub fn text(&self, alloc: Global) -> Result<String, AllocError>
         ensures { IfOk result (λ text. string_bytes text ≡ flaw_text self.now) }
     {

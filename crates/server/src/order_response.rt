@@ -139,8 +139,8 @@ fn copy_for_order<A: ServedFile, S: Alter, O: Sink, E: Sink>(
     }
 }
 
-/// Makes a new office from the journal, at the order's destination, and returns the status. If there is no such path, that is
-/// printed.
+/// Makes a new office from the journal, at the order's destination, and returns the status. If there is no such path, prints a
+/// failure.
 fn mend_for_order<A: ServedFile, S: Alter, O: Sink, E: Sink>(
     order: &OrderContext<'_, A>,
     mending: &MendOrder<'_>,

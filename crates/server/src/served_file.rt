@@ -63,7 +63,7 @@ pub trait ServedFile {
         ensures stays { WhenOpenAt (state S.Store) office.old office.new (λ s. IsReadAt s office.new.closed (state S.Store office.new.held)) }
         ensures clean { HasCleanDisk (state S.Store office.new.held) → HasCleanDisk (state S.Store office.old.held) };
 
-    /// Makes a new office from the journal of the office, in a new file, and prints how it differs.
+    /// Makes a new office from the journal of the open one, in a new file, and prints how it differs.
     fn mend<S: Alter, O: Sink, E: Sink>(
         &self,
         office: &mut Office<S>,

@@ -289,7 +289,7 @@ fn terms_of(held: &Option<Codes>) -> ServerSettings<'_, Unaided> {
     }
 }
 
-/// A file that can have no copy, no journal, and no new office made from it.
+/// A file that can have no copy and no journal, and from which no new office can be made.
 #[derive(Clone, Copy)]
 pub struct Unaided;
 

@@ -1,4 +1,4 @@
--- Why `print_slips` keeps its promise.
+-- Proof that `print_slips` meets its contract.
 use Rattle.std.proofs.Common.{inr, refl}
 use Rattle.codes.specs.declared.fault.CodesError.TheVariants.{Fault}
 use Rattle.desk.specs.Pages.{codes_page}

@@ -1,4 +1,4 @@
--- The invariant of the loop in `has_line`: none of the lines so far is this one.
+-- The invariant of the loop in `has_line`: none of the lines so far is the given one.
 use Rattle.std.proofs.Common.{◌≡◌, drop, map, string_bytes}
 use Rattle.std.specs.List.{list_any}
 use Rattle.std.specs.Str.{bytes_eq}

@@ -1,4 +1,4 @@
--- The invariant of the loop in `put_differing`: the lines so far, and those that are left, are all.
+-- The invariant of the loop in `put_differing`: the text so far, followed by the differences of the remaining lines, is the text with all differences.
 use Rattle.std.proofs.Common.{◌≡◌, ◌++◌, drop, map, string_bytes}
 use Rattle.desk.specs.Mends.{differing}
 use Rattle.desk.proofs.mended_office.put_differing.Given as goal

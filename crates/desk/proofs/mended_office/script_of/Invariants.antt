@@ -1,4 +1,4 @@
--- The invariant of the loop in `script_of`: the lines so far, and those that are left, are all.
+-- The invariant of the loop in `script_of`: the text so far, followed by the remaining lines, is the whole script.
 use Rattle.std.proofs.Common.{◌≡◌, ◌++◌, drop, map, string_bytes}
 use Rattle.desk.specs.Mends.{script_of}
 use Rattle.desk.proofs.mended_office.script_of.Given as goal

@@ -1,4 +1,4 @@
--- The invariant of the loop in `lines_on_wards`: the lines so far, and those that are left, are all.
+-- The invariant of the loop in `lines_on_wards`: the lines so far, followed by those of the remaining wards, are all lines.
 use Rattle.std.proofs.Common.{◌≡◌, ◌++◌, drop, map, string_bytes}
 use Rattle.store.specs.Overviews.{ward_view}
 use Rattle.desk.specs.Overviews.{ward_line}

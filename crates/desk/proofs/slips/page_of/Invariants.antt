@@ -1,4 +1,4 @@
--- The invariant of the loop in `page_of`: the slips so far, and what is left, are all.
+-- The invariant of the loop in `page_of`: the slips so far, followed by those of the remaining lines, are all slips.
 use Rattle.std.proofs.Common.{◌≡◌, ◌++◌, drop, map}
 use Rattle.codes.specs.Files.{code_entry}
 use Rattle.forms.specs.Slips.{slip_entry}

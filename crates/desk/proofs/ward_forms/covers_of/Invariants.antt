@@ -1,4 +1,4 @@
--- The invariant of the loop in `covers_of`: what is shown so far, and what is left, are all.
+-- The invariant of the loop in `covers_of`: the covers so far, followed by those of the remaining batches, are all covers.
 use Rattle.std.proofs.Common.{◌≡◌, ◌++◌, drop, map}
 use Rattle.store.specs.Overviews.{batch_view}
 use Rattle.forms.specs.Covers.{cover_entry}

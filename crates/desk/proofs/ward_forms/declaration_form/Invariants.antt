@@ -1,4 +1,4 @@
--- The invariant of the loop in `declaration_form`: none of the wards so far has the number.
+-- The invariant of the loop in `declaration_form`: none of the wards so far has this number.
 use Rattle.std.proofs.Common.{◌≡◌, drop, map}
 use Rattle.store.specs.Overviews.{ward_view}
 use Rattle.desk.specs.Forms.{declaration_form}

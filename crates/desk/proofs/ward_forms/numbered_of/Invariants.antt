@@ -1,4 +1,4 @@
--- The invariant of the loop in `numbered_of`: what is shown so far, and what is left, are all.
+-- The invariant of the loop in `numbered_of`: the candidates so far, followed by those of the remaining numbers, are all candidates.
 use Rattle.std.proofs.Common.{◌≡◌, ◌++◌, drop, map}
 use Rattle.register.specs.Offices.{candidate_entry}
 use Rattle.forms.specs.Lots.{candidate_shown}

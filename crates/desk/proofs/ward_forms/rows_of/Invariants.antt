@@ -1,4 +1,4 @@
--- The invariant of the loop in `rows_of`: what is shown so far, and what is left, are all.
+-- The invariant of the loop in `rows_of`: the rows so far, followed by those of the remaining papers, are all rows.
 use Rattle.std.proofs.Common.{◌≡◌, ◌++◌, drop, map}
 use Rattle.store.specs.Overviews.{doubtful_view}
 use Rattle.forms.specs.Verdicts.{doubtful_entry}

@@ -1,4 +1,4 @@
--- The invariant of the loop in `blocks`: the text so far, and what is left, are all.
+-- The invariant of the loop in `blocks`: the text so far, followed by the remaining blocks, is the text of all blocks.
 use Rattle.std.proofs.Common.{◌≡◌, ◌++◌, drop, string_bytes}
 use Rattle.std.specs.List.{flat_map}
 use Rattle.forms.proofs.blocks.blocks.Given as goal

@@ -1,4 +1,4 @@
--- The invariant of the loop in `escaped`: the text contains the characters so far.
+-- The invariant of the loop in `escaped`: the text so far consists of the characters so far, escaped.
 use Rattle.std.proofs.Common.{◌≡◌, flat_map}
 use Rattle.std.specs.Prelude.{string_bytes}
 use Rattle.forms.specs.Pages.{escaped_character}

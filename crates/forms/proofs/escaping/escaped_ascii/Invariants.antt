@@ -1,4 +1,4 @@
--- The invariant of the loop in `escaped_ascii`: the text so far, and what is left, are the whole text escaped.
+-- The invariant of the loop in `escaped_ascii`: the text so far, followed by the remaining bytes escaped, is the whole text escaped.
 use Rattle.std.proofs.Common.{◌≡◌, ◌++◌, drop, flat_map}
 use Rattle.std.specs.Prelude.{string_bytes}
 use Rattle.forms.specs.Pages.{escaped_character}

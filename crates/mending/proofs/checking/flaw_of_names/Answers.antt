@@ -1,4 +1,4 @@
--- Proof that `flaw_of_names` meets its contract: the name is one of those given, and no order has it.
+-- Proof that `flaw_of_names` meets its contract: the flaw names one of the given names, which no order has.
 use Rattle.std.proofs.Common.{◌≡◌, false, rules, get_or, map, sym, ap, ◌∙◌, string_bytes, arith}
 use Rattle.std.proofs.lemmas.List.{length-map}
 use Rattle.std.proofs.Math.ListN.{get_or-map}

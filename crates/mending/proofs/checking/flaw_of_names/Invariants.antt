@@ -1,4 +1,4 @@
--- The invariant of the loop in `flaw_of_names`: each name so far is that of an order, so the names that are left decide.
+-- The invariant of the loop in `flaw_of_names`: each name so far is that of an order, so the remaining names decide.
 use Rattle.std.proofs.Common.{◌≡◌, drop, map, string_bytes}
 use Rattle.std.specs.List.{list_all}
 use Rattle.mending.specs.Changes.{is_name_of_one}

@@ -1,4 +1,4 @@
--- The invariant of the loop in `flaw_of_others`: each of the orders so far is the only one to take its place, so those that are left decide.
+-- The invariant of the loop in `flaw_of_others`: each order so far is the only one in its place, so the remaining orders decide.
 use Rattle.std.proofs.Common.{◌≡◌, ◌==◌, drop}
 use Rattle.std.specs.List.{list_all}
 use Rattle.mending.specs.Changes.{places_for}

@@ -1,4 +1,4 @@
--- Proof that `flaw_of_places` meets its contract: the order is one of those given, with its number of places and its subject.
+-- Proof that `flaw_of_places` meets its contract: the flaw names one of the given orders, by its subject, and its number of matches.
 use Rattle.std.proofs.Common.{sym, arith}
 use Rattle.mending.proofs.checking.flaw_of_places.Goals as goal
 

@@ -1,4 +1,4 @@
--- The invariant of the loop in `flaw_of_places`: each of the orders so far finds just one place, so those that are left decide.
+-- The invariant of the loop in `flaw_of_places`: each order so far matches exactly one, so the remaining orders decide.
 use Rattle.std.proofs.Common.{◌≡◌, ◌==◌, drop}
 use Rattle.std.specs.List.{list_all}
 use Rattle.mending.specs.Changes.{places_for}

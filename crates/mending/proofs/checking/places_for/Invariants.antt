@@ -1,4 +1,4 @@
--- The invariant of the loop in `places_for`: the orders so far, and those that are left, are all.
+-- The invariant of the loop in `places_for`: the number so far, plus that of the remaining orders, is the number for all orders.
 use Rattle.std.proofs.Common.{◌≡◌, ◌+◌, ◌≤◌, drop}
 use Rattle.mending.specs.Changes.{places_for}
 use Rattle.mending.proofs.checking.places_for.Given as goal

@@ -1,4 +1,4 @@
--- The invariant of the loop in `in_place_of`: none of the orders so far takes the place.
+-- The invariant of the loop in `in_place_of`: none of the orders so far replaces the given one.
 use Rattle.std.proofs.Common.{◌≡◌, drop}
 use Rattle.mending.specs.Changes.{in_place_of}
 use Rattle.mending.proofs.mended.in_place_of.Given as goal

@@ -1,4 +1,4 @@
--- The invariant of the loop in `mend`: from where the orders so far have come to, those that are left lead to where all do.
+-- The invariant of the loop in `mend`: from the point of the orders so far, the remaining orders lead to the point of all orders.
 use Rattle.std.proofs.Common.{◌≡◌, drop}
 use Rattle.register.specs.Offices.{empty_office}
 use Rattle.mending.specs.Mending.{IsPoint, MendPoint, mend_all, mended, turns_of}

@@ -1,4 +1,4 @@
--- The invariant of the loop in `put_wards_given`: the wards so far, and those of the orders that are left, are all.
+-- The invariant of the loop in `put_wards_given`: the wards so far, followed by those of the remaining orders, are all wards.
 use Rattle.std.proofs.Common.{◌≡◌, ◌++◌, drop}
 use Rattle.mending.specs.Changes.{wards_given}
 use Rattle.mending.proofs.places.put_wards_given.Given as goal

@@ -1,4 +1,4 @@
--- Why it is told that no new office can be made.
+-- Proof that the failure to make a new office is printed.
 use Rattle.std.proofs.Common.{inl, inr, refl}
 use Rattle.desk.specs.Pages.{failed}
 use Rattle.desk.specs.declared.lines.Failure.TheVariants.{CopyFailed}
