@@ -466,10 +466,9 @@ fn tell_noted<O: Sink, E: Sink>(
 }
 
 /// Prints an outcome and returns its status. The status is 0 if the outcome is printed on the output. If it is printed on the error
-/// output, the status is 3 for a fault or a file that couldn't be read, and 1 otherwise: for a refusal of a request or a file, and for
-/// a seal, a form, a journal or a mended office that there isn't. The status is also 3 if either output fails, in which case only a
-/// prefix was written to it. If the outcome is that of a script's line, what is printed on the error output begins with the line
-/// number.
+/// output, the status is 3 for a fault or a file that couldn't be read, and 1 otherwise. That is a refusal of a request or a file, or
+/// the lack of a seal, a form, a journal or a mended office. The status is also 3 if either output fails, in which case only a prefix
+/// was written to it. If the outcome is that of a script's line, what is printed on the error output begins with the line number.
 pub(crate) fn tell<O: Sink, E: Sink>(
     line: Option<usize>,
     outcome: &LineOutcome,

@@ -1,17 +1,18 @@
 //! The table of orders, and the meaning of matched words.
 //!
 //! To add an order, add an entry to [`ORDERS_TO_SEAL`] or [`ORDERS_FROM_SEAL`] and a match arm that returns what its words mean.
-//! The arm goes in [`command_named`] if the order sends a command, and in [`order_named`] otherwise; it may also need a new variant
-//! of [`Errand`](crate::orders::Errand). The meaning of the order is defined by an entry of `orders` in specs/Orders.antt.
+//! The arm goes in [`command_named`] if the order sends a command, in [`question_named`] if it asks a question, and in
+//! [`order_named`] otherwise; it may also need a new variant of [`Errand`](crate::orders::Errand). The meaning of the order is
+//! defined by an entry of `orders` in specs/Orders.antt.
 #![tactic(auto, unfolding(crate::specs::Orders::orders))]
 
-ghost use Rattle.std.specs.Prelude.{◌≡◌, ◌⊎◌, false, Err, None, Some, codes, drop, map, take, IfErr, IfOk, option_map, string_bytes};
+ghost use Rattle.std.specs.Prelude.{◌≡◌, ◌⊎◌, false, Err, None, Some, codes, drop, map, take, IfErr, IfOk, IfSome, option_map, string_bytes};
 ghost use Rattle.clap.specs.Words.{all_of, first_of, found_of, rows_of, subcommand_rows_of};
 ghost use Rattle.desk.specs.Orders.{ask, form_meant, form_of_ward, no_digest, no_form, no_origin, no_verdict, orders, print, title_alone, told, told_errand, told_text, ward_form_in, words_of};
 ghost use Rattle.desk.specs.Numbers.{number_in as number_of};
 ghost use Rattle.keyfile.specs.Digests.{digest_bytes};
 ghost use Rattle.origins.specs.Origins.{origin_text};
-ghost use Rattle.desk.specs.Words.{digest_at, is_command_name, is_order_name, meaning, meaning_of, names_order, number_at, number_found, origin_at, sent, text_at};
+ghost use Rattle.desk.specs.Words.{digest_at, is_command_name, is_order_name, is_question_name, meaning, meaning_of, names_order, number_at, number_found, origin_at, sent, text_at};
 ghost use Rattle.desk.specs.Words.{flag_at, public_at, texts_at};
 
 use crate::order_entry::{
@@ -577,6 +578,25 @@ fn forms<'a>(matches: &ArgMatches<'a>) -> Result<Order<'a>, NoOrder>
     }
 }
 
+/// Returns the question that the order of this name asks, with the matched values; `None` if it asks none.
+fn question_named(name: &str, matches: &ArgMatches<'_>) -> Option<Question>
+    ensures some { IfSome result (λ question. meaning_of name.now (rows_of (found_of matches.now)) ≡ Some (ask question)) }
+    ensures none { result ≡ None → is_question_name name.now ≡ false }
+{
+    let ward = number_in(matches, WARD);
+    let batch = number_in(matches, BATCH);
+    let actor = number_found_in(matches, ACTOR);
+    match name {
+        "wards" => Some(Question::Wards),
+        "batches" => Some(Question::Batches { ward }),
+        "doubtful" => Some(Question::Doubtful { ward }),
+        "differences" => Some(Question::Differences { batch }),
+        "papers" => Some(Question::Papers { batch }),
+        "receipts" => Some(Question::Receipts { actor }),
+        _ => None,
+    }
+}
+
 /// Returns the order of this name, with the matched values.
 fn order_named<'a>(
     alloc: Global,
@@ -592,8 +612,6 @@ fn order_named<'a>(
     ensures bad_form { result ≡ Err NoOrder.BadForm → meaning_of name.now (rows_of (found_of matches.now)) ≡ Some no_form }
 {
     let ward = number_in(matches, WARD);
-    let batch = number_in(matches, BATCH);
-    let actor = number_found_in(matches, ACTOR);
     match name {
         "init" => Ok(Order::Perform(Task::Init)),
         "migrate" => Ok(Order::Perform(Task::Migrate)),
@@ -612,12 +630,6 @@ fn order_named<'a>(
         "table" => Ok(printing(matches, WardText::Table)),
         "index" => Ok(index(matches)),
         "serve" => serve(matches),
-        "wards" => Ok(asking(Question::Wards)),
-        "batches" => Ok(asking(Question::Batches { ward })),
-        "doubtful" => Ok(asking(Question::Doubtful { ward })),
-        "differences" => Ok(asking(Question::Differences { batch })),
-        "papers" => Ok(asking(Question::Papers { batch })),
-        "receipts" => Ok(asking(Question::Receipts { actor })),
         "forms" => forms(matches),
         "journal" => Ok(Order::Journal),
         "replay" => Ok(replay(matches)),
@@ -630,7 +642,10 @@ fn order_named<'a>(
             clerks: text_in(matches, CLERKS),
             with_office: flag_in(matches, WITH_OFFICE),
         }),
-        _ => sending(alloc, matches, command_named(alloc, name, matches)?),
+        _ => match question_named(name, matches) {
+            Some(question) => Ok(asking(question)),
+            None => sending(alloc, matches, command_named(alloc, name, matches)?),
+        },
     }
 }
 
