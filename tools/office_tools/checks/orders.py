@@ -6,6 +6,7 @@ election of tools/try, which has each order that a script may have. Which these 
 """
 import re
 import shlex
+from itertools import takewhile
 
 from office_tools.election import ELECTION, READS, REPLAY
 from office_tools.office import ROOT, SCRIPT, Office, program, temporary_folder
@@ -29,7 +30,7 @@ class Order:
     def takes(self, words):
         """Returns whether the words are of its form; some may be left out, and the last one may be there any number of times."""
         needed = [word for word in self.words if word[0] != "["]
-        given = words[1:words.index("--id")] if "--id" in words else words[1:]
+        given = list(takewhile(lambda word: not word.startswith("--"), words[1:]))
         is_enough = len(needed) <= len(given) and (self.has_many or len(given) <= len(self.words))
         return words[:1] == [self.name] and is_enough and ("--id" in words) == self.has_id
 
