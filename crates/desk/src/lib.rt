@@ -72,9 +72,7 @@ pub use lines::{
 };
 pub use mended_office::{MendTrial, mend_open};
 pub use order_running::follow;
-pub use orders::{
-    Errand, ExpectedSeal, Form, Job, KeyingFile, MendOrder, Order, Question, Task,
-};
+pub use orders::{Errand, ExpectedSeal, Form, Job, KeyingFile, MendOrder, Order, Question, Task};
 pub use progress::ProgressSink;
 pub use script_files::files_named_in;
 pub use slips::slips_of;

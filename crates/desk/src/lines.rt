@@ -6,7 +6,7 @@ ghost use Rattle.keyfile.specs.Faults.{flaw_batch, flaw_between, flaw_clerk};
 ghost use Rattle.desk.specs.Pages.{IsErrorTold, IsPut, Shows, fronted, line_front, migrated_text, note_line, noted, numbered_line, outputs_of, printed, status_of_file};
 ghost use Rattle.codes.specs.Faults.{fault_line, fault_text as codes_text};
 ghost use Rattle.desk.specs.Pages.{codes_and_office_made_page, codes_made_page, codes_page, codes_place};
-ghost use Rattle.desk.specs.Pages.{failed, failure_number, failure_of, failure_text, no_form_text, page_of, refused, script_page, unformed, unjournalled, unread, unsealed, words_page};
+ghost use Rattle.desk.specs.Pages.{failed, failure_number, failure_of, failure_text, no_form_text, page_of, refused, script_page, unformed, unjournalled, unmended, unread, unsealed, words_page};
 
 use crate::scripts::ScriptFault;
 use crate::words::{BAD_DIGEST, BAD_FORM, BAD_ORIGIN, BAD_TITLE, WordsFault};
@@ -370,6 +370,14 @@ fn tell_unformed<E: Sink>(line: Option<usize>, why: NoForm, err: &mut E) -> u8
     tell_error(line, &["no form: ", no_form_text(why), "\n"], 1, err)
 }
 
+/// Prints why no new office was made from the journal. Returns 1, or 3 if the error output fails.
+fn tell_unmended<E: Sink>(line: Option<usize>, text: &str, err: &mut E) -> u8
+    requires { E.failed err.old < 2 ^ 64 - 1 }
+    ensures { IsErrorTold E.taken E.failed err.old err.new (line_front line ++ (unmended text.now).err) 1 result }
+{
+    tell_error(line, &[text], 1, err)
+}
+
 /// Prints a failure and returns its status, 3.
 fn tell_failure_at<E: Sink>(line: Option<usize>, failure: Failure, err: &mut E) -> u8
     requires { E.failed err.old < 2 ^ 64 - 1 }
@@ -497,7 +505,7 @@ pub(crate) fn tell<O: Sink, E: Sink>(
             expected,
         } => { tell_unsealed(line, *given_out, *expected, err) }
         LineOutcome::Unformed(why) => tell_unformed(line, *why, err),
-        LineOutcome::Unmended(text) => tell_error(line, &[text.as_str()], 1, err),
+        LineOutcome::Unmended(text) => tell_unmended(line, text.as_str(), err),
     }
 }
 

@@ -21,9 +21,7 @@ use crate::order_entry::{
     PAPERS, PORT, PUBLIC, ROUND, SCRIPT, SEATS, SECOND_CLERK, SIZE, SOURCE, STAGE, TITLE, VERDICT,
     WARD, WITH, WITH_OFFICE, WITHOUT, Word,
 };
-use crate::orders::{
-    Errand, ExpectedSeal, Form, Job, KeyingFile, MendOrder, Order, Question, Task,
-};
+use crate::orders::{Errand, ExpectedSeal, Form, Job, KeyingFile, MendOrder, Order, Question, Task};
 use crate::requests::{by_clerk, by_office};
 use crate::verdicts::verdict_in;
 use clap::ArgMatches;
