@@ -74,7 +74,7 @@ pub record IsMade (before : List Text) (changes : Changes) (page : Page) (left :
   pub whole : left ≡ Whole
   pub at : HasCleanDisk new_new → IsBlank new_old → IsAt (mended changes).state new_new
 
--- no new office was made, because the changes can't be made or because of a failure; the page says which
+-- the changes can't be made, and the page says why; or the page reports a failure
 abbrev pub IsUnmade : Changes → Page → Type 0
 IsUnmade changes page = ((flaw : Flaw) × IsFlawOf changes flaw × (page ≡ unmended (flaw_text flaw))) ⊎ ((failure : Failure) × (page ≡ failed failure))
 
@@ -83,7 +83,7 @@ pub record IsTried (before : List Text) (changes : Changes) (page : Page) (left 
   pub told : IsMade before changes page left new_old new_new ⊎ IsUnmade changes page
   pub stops : HasCleanDisk new_new → IsBlank new_old → LeavesNoneOrAll (mended changes).state new_old new_new
 
--- the orders of the office couldn't be read, because it has no journal or because of a failure; the page says which
+-- the orders of the office couldn't be read: the page says that it has no journal, or reports a failure
 abbrev pub IsUnread : Page → Type 0
 IsUnread page = (page ≡ unjournalled) ⊎ ((failure : Failure) × (page ≡ failed failure))
 

@@ -307,7 +307,7 @@ ward_form_in name =
     if bytes_eq name (codes "lots") then Some form.Lots else (
     if bytes_eq name (codes "declaration") then Some form.Declaration else None)))
 
--- the office prints the form of the ward with this number; or nothing, if either is missing
+-- the office prints the form of the ward with this number; or no form is meant, if either is missing
 abbrev pub form_of_ward : Option Form → Option ℕ → Meant
 form_of_ward None ward = no_form
 form_of_ward (Some form) None = no_form
